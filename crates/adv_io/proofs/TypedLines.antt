@@ -1,0 +1,23 @@
+-- What is typed again stays: a line's bytes are small.
+use Rattle.std.proofs.Common.{◌≡◌, ◌∙◌, ℕ, ◌≤◌, min, List, [], ◌∷◌, map, take, length, true, refl, arith}
+use Rattle.std.proofs.lemmas.List.{take_all, take_min, length-map, length-take}
+use Rattle.std.proofs.lemmas.Bool.Decides.{nat_tests}
+use Rattle.std.specs.List.{list_all}
+use Rattle.adv_io.specs.TypedLine.{line_byte, is_line_byte, IsTyped}
+
+pub is_line_byte-line_byte : (b : ℕ) → is_line_byte (line_byte b) ≡ true
+is_line_byte-line_byte b = grind (arith, nat_tests)
+
+pub list_all-line_bytes : (bs : List ℕ) → list_all is_line_byte (map line_byte bs) ≡ true
+list_all-line_bytes [] = refl
+list_all-line_bytes (b ∷ bs) = rw (is_line_byte-line_byte b) (list_all-line_bytes bs)
+
+-- the front that the loop has walked to its end
+pub take-walked : (raw : List ℕ) (n i : ℕ) → n ≡ min 120 (length raw) → length (take n raw) ≤ i → take i (take n raw) ≡ take 120 raw
+take-walked raw n i e h = take_all i (take n raw) h ∙ rw e (take_min 120 raw)
+
+pub IsTyped-walked : (kept raw : List ℕ) → kept ≡ map line_byte (take 120 raw) → IsTyped kept
+IsTyped-walked kept raw e = record {
+  short = rw e (simp (length-map, length-take) (omega arith));
+  small = rw e (list_all-line_bytes (take 120 raw));
+}

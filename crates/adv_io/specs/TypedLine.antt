@@ -1,0 +1,17 @@
+-- What a typed line keeps of the bytes that a player sent.
+use Rattle.std.specs.Prelude.{ℕ, ◌≤◌, Bool, ◌&&◌, ◌||◌, ◌==◌, not, List, length, IsTrue, if◌then◌else◌}
+use Rattle.std.specs.List.{list_all}
+use Rattle.std.specs.Char.{is_ascii_graphic, is_ascii_uppercase, to_ascii_lowercase}
+
+-- a printable byte in small letters, and a blank for any other
+abbrev pub line_byte : ℕ → ℕ
+line_byte byte = if is_ascii_graphic byte then to_ascii_lowercase byte else 32
+
+-- a blank, or a printable byte that is no capital letter
+abbrev pub is_line_byte : ℕ → Bool
+is_line_byte byte = byte == 32 || (is_ascii_graphic byte && not (is_ascii_uppercase byte))
+
+-- at most 120 bytes, each of them such a byte
+pub record IsTyped (line : List ℕ) : Type 0 where
+  pub short : length line ≤ 120
+  pub small : IsTrue (list_all is_line_byte line)

@@ -1,0 +1,136 @@
+-- The first state fits its database, and so does every state that a play leaves.
+use Rattle.std.proofs.Common.{◌≡◌, ℕ, true, false, List, [], ◌∷◌, length, map, replicate, ℤ, pos, negsuc, ◌≤ℤ◌, Option, Some, None, refl, sym, ◌∙◌, ◌≢◌, arith}
+use Rattle.std.specs.Prelude.{IsTrue, int_lt, ◌-ℤ◌}
+use Rattle.std.specs.List.{list_all}
+use Rattle.std.specs.Ordering.{int_eq}
+use Rattle.std.proofs.lemmas.Bool.{cond_both, and_parts, and_from, not-true, false≢true, lt-ltb}
+use Rattle.std.proofs.lemmas.Bool.Decides.{Decides-int_eq}
+use Rattle.std.proofs.lemmas.Int.{ints}
+use Rattle.std.proofs.lemmas.List.{length-map}
+use Rattle.std.proofs.lemmas.List.Sums.{list_all-from_AllPass}
+use Rattle.std.proofs.lemmas.List.Elements.{All-replicate}
+use Rattle.scott_types.specs.declared.states.State.{State}
+use Rattle.scott_types.specs.declared.parts.Item.{Item}
+use Rattle.scott_types.specs.declared.commands.Heard.{Heard}
+use Rattle.scott_types.specs.declared.commands.Heard.TheVariants.{Blank, Unknown, Command}
+use Rattle.scott_types.specs.declared.endings.Halt.{Halt}
+use Rattle.scott_types.specs.declared.endings.Halt.TheVariants.{Through, Waits, Over as AtEnd}
+use Rattle.scott_types.specs.declared.endings.Position.{Position}
+use Rattle.scott_types.specs.declared.endings.Position.TheVariants.{Fresh, Draw, Line, Over}
+use Rattle.scott_types.specs.Database.{Database}
+use Rattle.scott_types.specs.Limits.{KeepsLimits, is_item, is_text}
+use Rattle.scott_types.specs.State.{Fits, start, is_room_of, out_flag}
+use Rattle.scott_rules.specs.Told.{Told, Step}
+use Rattle.scott_rules.specs.Commands.{heard, typed_noun}
+use Rattle.scott_rules.specs.Light.{is_burning, is_dim, light_seen, light_counted}
+use Rattle.scott_rules.specs.Groups.{groups, groups_from, automatic}
+use Rattle.scott_rules.specs.Rounds.{Standing, unmarked, prompted, advance, turn_ended, by_heard, answer, obeyed}
+use Rattle.scott_rules.specs.Play.{Stop, with_line, go}
+use Rattle.scott_rules.proofs.FittingStates.{is_place, is_room-zero, Fits-with_flag, Fits-redraw, Fits-light}
+use Rattle.scott_rules.proofs.FittingCommands.{Fits-automatic, Fits-obeyed}
+
+-- ---- the first state
+
+-- the places where the items begin are places
+starts : (items : List Item) → IsTrue (list_all is_item items) → IsTrue (list_all is_place (map (λ item. item.place) items))
+starts [] all = refl
+starts (item ∷ items) all =
+    let parts = and_parts (is_item item) (list_all is_item items) all in
+    and_from _ _ (and_parts (is_text item.text) (is_place item.place) parts.0).1 (starts items parts.1)
+
+-- the first state fits
+pub Fits-start : (db : Database) → KeepsLimits db → Fits db (start db)
+Fits-start db limits =
+    let zero_there = is_room-zero db limits in
+    record {
+      rooms = record {
+        room = lt-ltb db.header.start (length db.rooms) limits.header.start_there;
+        saved = zero_there;
+        rooms = list_all-from_AllPass (is_room_of db) (replicate 16 0) (All-replicate (λ room. is_room_of db room ≡ true) 16 0 zero_there);
+        count = refl;
+      };
+      counters = record { counter = refl; counters = refl; count = refl };
+      flags = refl;
+      light = (limits.header.light_range.0, omega (arith, ints));
+      places = record { count = length-map db.items (λ item. item.place); places = starts db.items limits.entries.items };
+    }
+
+-- a light that isn't spent can last one turn less
+less_one_in_range : (light most : ℤ) → (negsuc 0 ≤ℤ light) × (light ≤ℤ most) → int_eq light (negsuc 0) ≡ false
+    → (negsuc 0 ≤ℤ (light -ℤ pos 1)) × ((light -ℤ pos 1) ≤ℤ most)
+less_one_in_range light most range unspent =
+    let differs : light ≢ negsuc 0 = λ same. false≢true (sym unspent ∙ (Decides-int_eq light (negsuc 0)).1 same) in
+    omega (arith, ints)
+
+module _ (db : Database) (limits : KeepsLimits db) where
+  -- ---- the light
+
+  -- the light goes out, or is dim, or burns on
+  Fits-light_seen : (s : State) → Fits db s → Fits db (light_seen s).value
+  Fits-light_seen s fits =
+      let on = cond_both (is_dim s) _ _ (λ (told : Told ℕ State). Fits db told.value) (λ _. fits) (λ _. fits) in
+      cond_both (int_lt s.light (pos 1)) _ _ (λ (told : Told ℕ State). Fits db told.value) (λ _. Fits-with_flag db limits s out_flag true fits) (λ _. on)
+
+  -- a turn burns the light
+  Fits-light_counted : (s : State) → Fits db s → Fits db (light_counted s).value
+  Fits-light_counted s fits =
+      cond_both (is_burning s) _ _ (λ (told : Told ℕ State). Fits db told.value)
+      (λ burns. let unspent = not-true _ (and_parts _ _ burns).1 in
+      Fits-light_seen _ (Fits-light db limits s _ (less_one_in_range s.light db.header.light fits.light unspent) fits))
+      (λ _. fits)
+
+  -- ---- a round
+
+  -- what the automatic step leaves stands at the prompt, at a draw or at the end
+  Fits-prompted : (halt : Halt) (s : State) (draws : List ℕ) → Fits db s → Fits db (prompted halt db s draws).value.state
+  Fits-prompted Through s draws fits = Fits-redraw db limits s false fits
+  Fits-prompted (Waits head) s draws fits = fits
+  Fits-prompted (AtEnd ending) s draws fits = fits
+
+  -- everything up to the prompt
+  Fits-advance : (position : Position) (s : State) (draws : List ℕ) → Fits db s → Fits db (advance db position s draws).value.state
+  Fits-advance Fresh s draws fits =
+      let t = automatic db (groups db) (unmarked s) draws in
+      Fits-prompted t.value.halt t.value.state t.value.draws (Fits-automatic db limits (groups db) (unmarked s) draws (Fits-redraw db limits s false fits))
+  Fits-advance (Draw head) s draws fits =
+      let t = automatic db (groups_from db head) s draws in
+      Fits-prompted t.value.halt t.value.state t.value.draws (Fits-automatic db limits (groups_from db head) s draws fits)
+  Fits-advance Line s draws fits = fits
+  Fits-advance (Over ending) s draws fits = fits
+
+  -- the end of a turn
+  Fits-turn_ended : (over : Option ℕ) (s : State) → Fits db s → Fits db (turn_ended over s).value.state
+  Fits-turn_ended None s fits = Fits-light_counted s fits
+  Fits-turn_ended (Some ending) s fits = fits
+
+  -- a line that is understood, or not
+  Fits-by_heard : (said : Heard) (line : List ℕ) (s : State) → Fits db s → Fits db (by_heard said db line s).value.state
+  Fits-by_heard Blank line s fits = fits
+  Fits-by_heard (Unknown start size) line s fits = fits
+  Fits-by_heard (Command verb noun) line s fits =
+      let t = obeyed db (typed_noun line) verb noun s in
+      Fits-turn_ended t.value.over t.value.state (Fits-obeyed db limits (typed_noun line) verb noun s fits)
+
+  -- the answer to a line
+  Fits-answer : (line : List ℕ) (s : State) → Fits db s → Fits db (answer db line s).value.state
+  Fits-answer line s fits = Fits-by_heard (heard db line) line s fits
+
+  -- ---- a play
+
+  -- a line at the prompt, and the rounds behind it
+  Fits-with_line : (position : Position) (line : List ℕ) (lines : List (List ℕ)) (t : Told Step Standing) (next : Position → State → List ℕ → Told Step Stop)
+      → Fits db t.value.state → ((p : Position) (r : State) (draws : List ℕ) → Fits db r → Fits db (next p r draws).value.state)
+      → Fits db (with_line position db line lines t next).value.state
+  Fits-with_line Line line lines t next fits keeps =
+      let a = answer db line t.value.state in
+      keeps a.value.position a.value.state t.value.draws (Fits-answer line t.value.state fits)
+  Fits-with_line _ line lines t next fits keeps = fits
+
+  -- the rounds of a play
+  pub Fits-go : (position : Position) (s : State) (lines : List (List ℕ)) (draws : List ℕ) → Fits db s → Fits db (go db position s lines draws).value.state
+  unfolding go
+  Fits-go position s [] draws fits = Fits-advance position s draws fits
+  Fits-go position s (line ∷ lines) draws fits =
+      let t = advance db position s draws in
+      Fits-with_line t.value.position line lines t (λ p r ds. go db p r lines ds) (Fits-advance position s draws fits)
+      (λ p r ds fitting. Fits-go p r lines ds fitting)

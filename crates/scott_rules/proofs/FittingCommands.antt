@@ -1,0 +1,228 @@
+-- What the automatic step, the search and the commands leave fits the database.
+use Rattle.std.proofs.Common.{ℕ, ◌+◌, ◌-◌, ◌==◌, Bool, true, false, List, [], ◌∷◌, length, nat_lt, nat_le, ℤ, pos, negsuc, Option, Some, None, refl}
+use Rattle.std.specs.Prelude.{◌&&◌, IsTrue, slice_index_or}
+use Rattle.std.proofs.lemmas.Bool.{cond_both, and_parts}
+use Rattle.scott_types.specs.declared.states.State.{State}
+use Rattle.scott_types.specs.declared.parts.Item.{Item}
+use Rattle.scott_types.specs.declared.commands.Column.TheVariants.{Nouns}
+use Rattle.scott_types.specs.declared.endings.Ran.{Ran}
+use Rattle.scott_types.specs.declared.endings.Ran.TheVariants.{Not, Passed, Over as Ended}
+use Rattle.scott_types.specs.declared.endings.Found.{Found}
+use Rattle.scott_types.specs.declared.endings.Found.TheVariants.{Over, Done}
+use Rattle.scott_types.specs.declared.endings.Transfer.{Transfer}
+use Rattle.scott_types.specs.declared.endings.Transfer.TheVariants.{PickUp, PutDown}
+use Rattle.scott_types.specs.ItemText.{get_word}
+use Rattle.scott_types.specs.Action.{verb_of, noun_of}
+use Rattle.scott_types.specs.Database.{Database}
+use Rattle.scott_types.specs.Limits.{KeepsLimits}
+use Rattle.scott_types.specs.Room.{room_behind}
+use Rattle.scott_types.specs.State.{Fits, is_room_of, is_dark}
+use Rattle.scott_rules.specs.Told.{Told, Step}
+use Rattle.scott_rules.specs.Words.{root, which}
+use Rattle.scott_rules.specs.Commands.{go_verb, get_verb, drop_verb, is_direction}
+use Rattle.scott_rules.specs.Looking.{room_at}
+use Rattle.scott_rules.specs.Lines.{LineOutcome}
+use Rattle.scott_rules.specs.Groups.{Group, AutoOutcome, group_tried, groups, over_of, auto_behind, auto_tried, auto_drawn, auto_group, automatic}
+use Rattle.scott_rules.specs.Search.{SearchOutcome, search_behind, search_group, is_for, searched}
+use Rattle.scott_rules.specs.Transfer.{Sweep, verb_for, destination, transferred, is_refused, is_met, sweep_moved, sweep_behind, sweep_item, sweep, is_too_dark, all_from, item_named, one_moved, one_from, one_transferred, is_all, transfer}
+use Rattle.scott_rules.specs.Rounds.{no_way, way, walked, unmatched, by_found, by_lines, going, obeyed}
+use Rattle.scott_rules.proofs.FittingStates.{is_place, place_from_room, is_room-zero, Fits-with_place, Fits-redraw, Fits-room}
+use Rattle.scott_rules.proofs.FittingLines.{LeavesFitting, Fits-group_tried}
+
+module _ (db : Database) (limits : KeepsLimits db) where
+  -- ---- the automatic step
+
+  -- what comes next keeps a state fitting, whatever draws are left
+  abbrev KeepsAutomatic : (State → List ℕ → Told Step AutoOutcome) → Type 0
+  KeepsAutomatic next = (r : State) (draws : List ℕ) → Fits db r → Fits db (next r draws).value.state
+
+  -- the groups behind one, unless the game is over
+  Fits-auto_behind : (over : Option ℕ) (t : Told Step LineOutcome) (draws : List ℕ) (next : State → List ℕ → Told Step AutoOutcome)
+      → Fits db t.value.state → KeepsAutomatic next → Fits db (auto_behind over t draws next).value.state
+  Fits-auto_behind None t draws next fits keeps = keeps t.value.state draws fits
+  Fits-auto_behind (Some ending) t draws next fits keeps = fits
+
+  -- a group that a draw lets in or not
+  Fits-auto_tried : (drawn : Bool) (g : Group) (s : State) (draws : List ℕ) (next : State → List ℕ → Told Step AutoOutcome)
+      → Fits db s → KeepsAutomatic next → Fits db (auto_tried drawn db g s draws next).value.state
+  Fits-auto_tried true g s draws next fits keeps =
+      let t = group_tried db [] g s in
+      Fits-auto_behind (over_of t.value.ran) t draws next (Fits-group_tried db limits [] g s fits) keeps
+  Fits-auto_tried false g s draws next fits keeps = keeps s draws fits
+
+  -- a group that takes a draw, or waits for it
+  Fits-auto_drawn : (g : Group) (s : State) (draws : List ℕ) (next : State → List ℕ → Told Step AutoOutcome)
+      → Fits db s → KeepsAutomatic next → Fits db (auto_drawn db g s draws next).value.state
+  Fits-auto_drawn g s [] next fits keeps = fits
+  Fits-auto_drawn g s (draw ∷ draws) next fits keeps = Fits-auto_tried (nat_le draw (noun_of g.vocab)) g s draws next fits keeps
+
+  -- a group, automatic or not
+  Fits-auto_group : (is_automatic : Bool) (g : Group) (s : State) (draws : List ℕ) (next : State → List ℕ → Told Step AutoOutcome)
+      → Fits db s → KeepsAutomatic next → Fits db (auto_group is_automatic db g s draws next).value.state
+  Fits-auto_group true g s draws next fits keeps = Fits-auto_drawn g s draws next fits keeps
+  Fits-auto_group false g s draws next fits keeps = keeps s draws fits
+
+  -- the whole step
+  pub Fits-automatic : (gs : List Group) (s : State) (draws : List ℕ) → Fits db s → Fits db (automatic db gs s draws).value.state
+  Fits-automatic [] s draws fits = fits
+  Fits-automatic (g ∷ gs) s draws fits = Fits-auto_group (verb_of g.vocab == 0) g s draws (automatic db gs) fits (Fits-automatic gs)
+
+  -- ---- the search
+
+  -- what comes next in the search keeps a state fitting
+  abbrev KeepsSearched : (State → Told Step SearchOutcome) → Type 0
+  KeepsSearched next = (r : State) → Fits db r → Fits db (next r).value.state
+
+  -- the groups behind one whose head was tried
+  Fits-search_behind : (ran : Ran) (t : Told Step LineOutcome) (next : State → Told Step SearchOutcome)
+      → Fits db t.value.state → KeepsSearched next → Fits db (search_behind ran t next).value.state
+  Fits-search_behind Not t next fits keeps = keeps t.value.state fits
+  Fits-search_behind (Passed more) t next fits keeps = fits
+  Fits-search_behind (Ended ending) t next fits keeps = fits
+
+  -- a group, for the command or not
+  Fits-search_group : (is_meant : Bool) (typed : List ℕ) (g : Group) (s : State) (next : State → Told Step SearchOutcome)
+      → Fits db s → KeepsSearched next → Fits db (search_group is_meant db typed g s next).value.state
+  Fits-search_group true typed g s next fits keeps =
+      let t = group_tried db typed g s in
+      Fits-search_behind t.value.ran t next (Fits-group_tried db limits typed g s fits) keeps
+  Fits-search_group false typed g s next fits keeps = keeps s fits
+
+  -- the whole search
+  Fits-searched : (typed : List ℕ) (verb : ℕ) (noun : Option ℕ) (gs : List Group) (s : State)
+      → Fits db s → Fits db (searched db typed verb noun gs s).value.state
+  Fits-searched typed verb noun [] s fits = fits
+  Fits-searched typed verb noun (g ∷ gs) s fits =
+      Fits-search_group (is_for verb noun g) typed g s (searched db typed verb noun gs) fits (Fits-searched typed verb noun gs)
+
+  -- ---- getting and dropping
+
+  -- where items are brought is a place
+  is_place-destination : (t : Transfer) (s : State) → Fits db s → IsTrue (is_place (destination t s))
+  is_place-destination PickUp s fits = refl
+  is_place-destination PutDown s fits = place_from_room db limits s.room fits.rooms.room
+
+  -- an item is brought there
+  Fits-transferred : (t : Transfer) (item : ℕ) (s : State) → Fits db s → Fits db (transferred t item s)
+  Fits-transferred t item s fits =
+      Fits-redraw db limits _ true (Fits-with_place db limits s item (destination t s) (is_place-destination t s fits) fits)
+
+  -- what comes next in a walk over the items keeps a state fitting
+  abbrev KeepsSwept : (State → Told Step Sweep) → Type 0
+  KeepsSwept next = (r : State) → Fits db r → Fits db (next r).value.state
+
+  -- an item is brought, or refused
+  Fits-sweep_moved : (refused : Bool) (t : Transfer) (i : ℕ) (item : Item) (s : State) (next : State → Told Step Sweep)
+      → Fits db s → KeepsSwept next → Fits db (sweep_moved refused t i item s next).value.state
+  Fits-sweep_moved true t i item s next fits keeps = fits
+  Fits-sweep_moved false t i item s next fits keeps = keeps (transferred t i s) (Fits-transferred t i s fits)
+
+  -- the same behind the item's lines
+  Fits-sweep_behind : (found : Found) (t : Transfer) (i : ℕ) (item : Item) (s : State) (next : State → Told Step Sweep)
+      → Fits db s → KeepsSwept next → Fits db (sweep_behind found t db i item s next).value.state
+  Fits-sweep_behind (Over ending) t i item s next fits keeps = fits
+  Fits-sweep_behind _ t i item s next fits keeps = Fits-sweep_moved (is_refused t db s) t i item s next fits keeps
+
+  -- an item, met or not
+  Fits-sweep_item : (met : Bool) (t : Transfer) (typed : List ℕ) (i : ℕ) (item : Item) (s : State) (next : State → Told Step Sweep)
+      → Fits db s → KeepsSwept next → Fits db (sweep_item met t db typed i item s next).value.state
+  Fits-sweep_item true t typed i item s next fits keeps =
+      let noun = which db Nouns (get_word item.text) in
+      let found = searched db typed (verb_for t) noun (groups db) s in
+      Fits-sweep_behind found.value.found t i item found.value.state next (Fits-searched typed (verb_for t) noun (groups db) s fits) keeps
+  Fits-sweep_item false t typed i item s next fits keeps = keeps s fits
+
+  -- all items
+  Fits-sweep : (t : Transfer) (typed : List ℕ) (i : ℕ) (items : List Item) (s : State) → Fits db s → Fits db (sweep t db typed i items s).value.state
+  Fits-sweep t typed i [] s fits = fits
+  Fits-sweep t typed i (item ∷ items) s fits =
+      Fits-sweep_item (is_met t i item s) t typed i item s (sweep t db typed (i + 1) items) fits (Fits-sweep t typed (i + 1) items)
+
+  -- all items, unless it is too dark
+  Fits-all_from : (too_dark : Bool) (t : Transfer) (typed : List ℕ) (s : State) → Fits db s → Fits db (all_from too_dark t db typed s).value.state
+  Fits-all_from true t typed s fits = fits
+  Fits-all_from false t typed s fits = Fits-sweep t typed 0 db.items s fits
+
+  -- one item, or none
+  Fits-one_moved : (t : Transfer) (item : Option ℕ) (s : State) → Fits db s → Fits db (one_moved t item s).value.state
+  Fits-one_moved t None s fits = fits
+  Fits-one_moved t (Some item) s fits = Fits-transferred t item s fits
+
+  -- one item, unless it is refused
+  Fits-one_from : (refused : Bool) (t : Transfer) (noun : ℕ) (s : State) → Fits db s → Fits db (one_from refused t db noun s).value.state
+  Fits-one_from true t noun s fits = fits
+  Fits-one_from false t noun s fits = Fits-one_moved t (item_named t db.header.length (root db noun) 0 db.items s) s fits
+
+  -- one item, where a noun is given
+  Fits-one_transferred : (t : Transfer) (noun : Option ℕ) (s : State) → Fits db s → Fits db (one_transferred t db noun s).value.state
+  Fits-one_transferred t None s fits = fits
+  Fits-one_transferred t (Some noun) s fits = Fits-one_from (is_refused t db s) t noun s fits
+
+  -- getting or dropping
+  Fits-transfer : (t : Transfer) (typed : List ℕ) (noun : Option ℕ) (s : State) → Fits db s → Fits db (transfer t db typed noun s).value.state
+  Fits-transfer t typed noun s fits =
+      cond_both (is_all typed) _ _ (LeavesFitting db)
+      (λ _. Fits-all_from (is_too_dark t s) t typed s fits) (λ _. Fits-one_transferred t noun s fits)
+
+  -- ---- moving
+
+  -- an exit leads to a room, or to none
+  is_room-room_behind : (exit : ℤ) → IsTrue (is_room_of db (room_behind (length db.rooms) exit))
+  is_room-room_behind (pos n) =
+      cond_both (nat_lt 0 n && nat_lt n (length db.rooms)) n 0 (λ room. IsTrue (is_room_of db room))
+      (λ inside. (and_parts _ _ inside).1) (λ _. is_room-zero db limits)
+  is_room-room_behind (negsuc n) = is_room-zero db limits
+
+  -- no exit is there
+  Fits-no_way : (dark : Bool) (s : State) → Fits db s → Fits db (no_way dark s).value.state
+  Fits-no_way true s fits = fits
+  Fits-no_way false s fits = fits
+
+  -- a way to a room, or none
+  Fits-way : (room : ℕ) (s : State) → IsTrue (is_room_of db room) → Fits db s → Fits db (way room s).value.state
+  Fits-way room s is_room fits =
+      let went = Fits-redraw db limits _ true (Fits-room db limits s room is_room fits) in
+      cond_both (room == 0) _ _ (LeavesFitting db) (λ _. Fits-no_way (is_dark s) s fits) (λ _. went)
+
+  -- a walk in a direction
+  Fits-walked : (noun : ℕ) (s : State) → Fits db s → Fits db (walked db noun s).value.state
+  Fits-walked noun s fits =
+      let exit = slice_index_or (room_at db s.room).exits (noun - 1) (pos 0) in
+      Fits-way (room_behind (length db.rooms) exit) s (is_room-room_behind exit) fits
+
+  -- ---- a command
+
+  -- a command for which no head passed
+  Fits-unmatched : (typed : List ℕ) (verb : ℕ) (noun : Option ℕ) (found : Found) (s : State)
+      → Fits db s → Fits db (unmatched db typed verb noun found s).value.state
+  Fits-unmatched typed verb noun found s fits =
+      let dropped = cond_both (verb == drop_verb) _ _ (LeavesFitting db)
+      (λ _. Fits-transfer PutDown typed noun s fits) (λ _. fits) in
+      cond_both (verb == get_verb) _ _ (LeavesFitting db)
+      (λ _. Fits-transfer PickUp typed noun s fits) (λ _. dropped)
+
+  -- a command behind its search
+  Fits-by_found : (found : Found) (typed : List ℕ) (verb : ℕ) (noun : Option ℕ) (s : State)
+      → Fits db s → Fits db (by_found found db typed verb noun s).value.state
+  Fits-by_found (Over ending) typed verb noun s fits = fits
+  Fits-by_found Done typed verb noun s fits = fits
+  Fits-by_found found typed verb noun s fits = Fits-unmatched typed verb noun found s fits
+
+  -- a command that is searched
+  Fits-by_lines : (typed : List ℕ) (verb : ℕ) (noun : Option ℕ) (s : State) → Fits db s → Fits db (by_lines db typed verb noun s).value.state
+  Fits-by_lines typed verb noun s fits =
+      let t = searched db typed verb noun (groups db) s in
+      Fits-by_found t.value.found typed verb noun t.value.state (Fits-searched typed verb noun (groups db) s fits)
+
+  -- going
+  Fits-going : (typed : List ℕ) (noun : Option ℕ) (s : State) → Fits db s → Fits db (going db typed noun s).value.state
+  Fits-going typed None s fits = fits
+  Fits-going typed (Some noun) s fits =
+      cond_both (is_direction noun) _ _ (LeavesFitting db)
+      (λ _. Fits-walked noun s fits) (λ _. Fits-by_lines typed go_verb (Some noun) s fits)
+
+  -- any command
+  pub Fits-obeyed : (typed : List ℕ) (verb : ℕ) (noun : Option ℕ) (s : State) → Fits db s → Fits db (obeyed db typed verb noun s).value.state
+  Fits-obeyed typed verb noun s fits =
+      cond_both (verb == go_verb) _ _ (LeavesFitting db)
+      (λ _. Fits-going typed noun s fits) (λ _. Fits-by_lines typed verb noun s fits)

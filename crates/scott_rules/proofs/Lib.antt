@@ -1,0 +1,9 @@
+pub mod Splitting
+pub mod Stopping
+pub mod Talking
+pub mod Spending
+pub mod Entries
+pub mod FittingStates
+pub mod FittingLines
+pub mod FittingCommands
+pub mod Fitting

@@ -1,0 +1,233 @@
+-- What only says and tries: neither a line nor a draw is taken in it.
+use Rattle.std.proofs.Common.{◌≡◌, ◌+◌, ◌-◌, ℕ, List, [], ◌∷◌, ◌++◌, length, Bool, true, false, cond, eqb, Option, Some, None, refl}
+use Rattle.std.specs.Prelude.{◌&&◌}
+use Rattle.std.specs.List.{list_all}
+use Rattle.scott_types.specs.declared.parts.Item.{Item}
+use Rattle.scott_types.specs.declared.states.State.{State}
+use Rattle.scott_types.specs.declared.commands.Heard.{Heard}
+use Rattle.scott_types.specs.declared.commands.Heard.TheVariants.{Blank, Unknown, Command}
+use Rattle.scott_types.specs.declared.commands.Column.TheVariants.{Nouns}
+use Rattle.scott_types.specs.declared.endings.Ran.{Ran}
+use Rattle.scott_types.specs.declared.endings.Ran.TheVariants.{Not, Passed, Over as Ended}
+use Rattle.scott_types.specs.declared.endings.Found.{Found}
+use Rattle.scott_types.specs.declared.endings.Found.TheVariants.{Over, Done, Matched, NoMatch}
+use Rattle.scott_types.specs.declared.endings.Transfer.{Transfer}
+use Rattle.scott_types.specs.declared.endings.Transfer.TheVariants.{PickUp, PutDown}
+use Rattle.scott_types.specs.declared.phrases.Phrase.TheVariants.{TooMuch, ItemDone, DarkGet, BeyondPower, Done as DonePhrase, WhatItem, BrokenNeck, NoExitThere, Moved, DarkMove, NeedDirection, Prompt}
+use Rattle.scott_types.specs.Database.{Database}
+use Rattle.scott_types.specs.Phrase.{text_of}
+use Rattle.scott_types.specs.Room.{exit_of}
+use Rattle.scott_types.specs.State.{is_dark}
+use Rattle.scott_types.specs.ItemText.{get_word, shown}
+use Rattle.scott_rules.specs.Told.{Told, Outcome, Step, Said, Took, Drew, Tried, says, saying, goes_on, and_then, then_if_on, lines_taken, draws_taken}
+use Rattle.scott_rules.specs.Words.{which, root}
+use Rattle.scott_rules.specs.Commands.{is_direction, typed_noun, word_at, go_verb, get_verb, drop_verb}
+use Rattle.scott_rules.specs.Lines.{LineOutcome, line_done, line_tried}
+use Rattle.scott_rules.specs.Groups.{Group, groups, tail_line, tail_tried, behind_head, group_tried}
+use Rattle.scott_rules.specs.Search.{SearchOutcome, is_for, search_behind, search_group, searched}
+use Rattle.scott_rules.specs.Transfer.{Sweep, verb_for, is_met, is_refused, is_too_dark, is_all, transferred, sweep_moved, sweep_behind, sweep_item, sweep, none_met, all_from, all_transferred, item_named, one_moved, one_from, one_transferred, transfer}
+use Rattle.scott_rules.specs.Looking.{room_at}
+use Rattle.scott_rules.specs.Light.{light_counted}
+use Rattle.scott_rules.specs.Rounds.{moved_to, no_way, way, walked, not_done, unmatched, by_found, by_lines, going, obeyed, turn_ended, by_heard, unknown_word}
+
+abbrev pub is_talk : Step → Bool
+is_talk (Said byte) = true
+is_talk (Tried line) = true
+is_talk (Took line) = false
+is_talk (Drew draw) = false
+
+abbrev pub Talks : List Step → Type 0
+Talks steps = list_all is_talk steps ≡ true
+
+-- ---- lists of steps
+
+pub Talks-says : (bytes : List ℕ) → Talks (says bytes)
+Talks-says [] = refl
+Talks-says (byte ∷ bytes) = Talks-says bytes
+
+and-front : (b p q : Bool) → b && p ≡ true → (p ≡ true → q ≡ true) → b && q ≡ true
+and-front true p q h k = k h
+and-front false p q h k = h
+
+pub Talks-append : (es fs : List Step) → Talks es → Talks fs → Talks (es ++ fs)
+Talks-append [] fs h k = k
+Talks-append (e ∷ es) fs h k =
+    and-front (is_talk e) (list_all is_talk es) (list_all is_talk (es ++ fs)) h (λ rest. Talks-append es fs rest k)
+
+pub lines_taken-talk : (es : List Step) → Talks es → lines_taken es ≡ []
+lines_taken-talk [] h = refl
+lines_taken-talk (Said byte ∷ es) h = lines_taken-talk es h
+lines_taken-talk (Tried line ∷ es) h = lines_taken-talk es h
+lines_taken-talk (Took line ∷ es) h = cc
+lines_taken-talk (Drew draw ∷ es) h = cc
+
+pub draws_taken-talk : (es : List Step) → Talks es → draws_taken es ≡ []
+draws_taken-talk [] h = refl
+draws_taken-talk (Said byte ∷ es) h = draws_taken-talk es h
+draws_taken-talk (Tried line ∷ es) h = draws_taken-talk es h
+draws_taken-talk (Took line ∷ es) h = cc
+draws_taken-talk (Drew draw ∷ es) h = cc
+
+-- ---- one part behind another
+
+-- whatever the state, the next part talks
+abbrev AlwaysTalks : {R : Type 0} → (State → Told Step R) → Type 0
+AlwaysTalks next = (s : State) → Talks (next s).events
+
+Talks-cond : {R : Type 0} (b : Bool) (t u : Told Step R) → Talks t.events → Talks u.events → Talks (cond b t u).events
+Talks-cond true t u h k = h
+Talks-cond false t u h k = k
+
+Talks-and_then : (t : Told Step Outcome) (next : State → Told Step Outcome) → Talks t.events → AlwaysTalks next → Talks (and_then t next).events
+Talks-and_then t next h rest = by_over t.value.over
+  where
+    by_over : (over : Option ℕ) → Talks (then_if_on over t next).events
+    by_over None = Talks-append t.events (next t.value.state).events h (rest t.value.state)
+    by_over (Some ending) = h
+
+-- ---- lines and groups
+
+line_tried-talks : (db : Database) (noun : List ℕ) (line : ℕ) (s : State) → Talks (line_tried db noun line s).events
+line_tried-talks db noun line s = Talks-says (line_done db noun line s).events
+
+tail_tried-talks : (db : Database) (noun lines : List ℕ) → AlwaysTalks (tail_tried db noun lines)
+tail_tried-talks db noun [] s = refl
+tail_tried-talks db noun (line ∷ lines) s =
+    Talks-and_then (tail_line db noun line s) (tail_tried db noun lines) (line_tried-talks db noun line s) (tail_tried-talks db noun lines)
+
+behind_head-talks : (ran : Ran) (db : Database) (noun tail : List ℕ) (t : Told Step LineOutcome) → Talks t.events → Talks (behind_head ran db noun tail t).events
+behind_head-talks (Passed true) db noun tail t h =
+    Talks-append t.events (tail_tried db noun tail t.value.state).events h (tail_tried-talks db noun tail t.value.state)
+behind_head-talks (Passed false) db noun tail t h = h
+behind_head-talks Not db noun tail t h = h
+behind_head-talks (Ended ending) db noun tail t h = h
+
+pub group_tried-talks : (db : Database) (noun : List ℕ) (g : Group) (s : State) → Talks (group_tried db noun g s).events
+group_tried-talks db noun g s =
+    let head = line_tried db noun g.head s in
+    behind_head-talks head.value.ran db noun g.tail head (line_tried-talks db noun g.head s)
+
+-- ---- the search
+
+search_behind-talks : (ran : Ran) (t : Told Step LineOutcome) (next : State → Told Step SearchOutcome) → Talks t.events → AlwaysTalks next → Talks (search_behind ran t next).events
+search_behind-talks Not t next h rest = Talks-append t.events (next t.value.state).events h (rest t.value.state)
+search_behind-talks (Passed more) t next h rest = h
+search_behind-talks (Ended ending) t next h rest = h
+
+search_group-talks : (b : Bool) (db : Database) (typed : List ℕ) (g : Group) (s : State) (next : State → Told Step SearchOutcome) → AlwaysTalks next → Talks (search_group b db typed g s next).events
+search_group-talks true db typed g s next rest =
+    let t = group_tried db typed g s in search_behind-talks t.value.ran t next (group_tried-talks db typed g s) rest
+search_group-talks false db typed g s next rest = rest s
+
+pub searched-talks : (db : Database) (typed : List ℕ) (verb : ℕ) (noun : Option ℕ) (gs : List Group) → AlwaysTalks (searched db typed verb noun gs)
+searched-talks db typed verb noun [] s = refl
+searched-talks db typed verb noun (g ∷ gs) s =
+    search_group-talks (is_for verb noun g) db typed g s (searched db typed verb noun gs) (searched-talks db typed verb noun gs)
+
+-- ---- getting and dropping
+
+sweep_moved-talks : (b : Bool) (t : Transfer) (i : ℕ) (item : Item) (s : State) (next : State → Told Step Sweep) → AlwaysTalks next → Talks (sweep_moved b t i item s next).events
+sweep_moved-talks true t i item s next rest = Talks-append (says (text_of TooMuch)) [] (Talks-says (text_of TooMuch)) refl
+sweep_moved-talks false t i item s next rest =
+    let said = shown item.text ++ text_of ItemDone in
+    Talks-append (says said) (next (transferred t i s)).events (Talks-says said) (rest (transferred t i s))
+
+sweep_behind-talks : (found : Found) (t : Transfer) (db : Database) (i : ℕ) (item : Item) (s : State) (next : State → Told Step Sweep) → AlwaysTalks next → Talks (sweep_behind found t db i item s next).events
+sweep_behind-talks (Over ending) t db i item s next rest = refl
+sweep_behind-talks Done t db i item s next rest = sweep_moved-talks (is_refused t db s) t i item s next rest
+sweep_behind-talks Matched t db i item s next rest = sweep_moved-talks (is_refused t db s) t i item s next rest
+sweep_behind-talks NoMatch t db i item s next rest = sweep_moved-talks (is_refused t db s) t i item s next rest
+
+sweep_item-talks : (b : Bool) (t : Transfer) (db : Database) (typed : List ℕ) (i : ℕ) (item : Item) (s : State) (next : State → Told Step Sweep) → AlwaysTalks next → Talks (sweep_item b t db typed i item s next).events
+sweep_item-talks true t db typed i item s next rest =
+    let noun = which db Nouns (get_word item.text) in
+    let found = searched db typed (verb_for t) noun (groups db) s in
+    Talks-append found.events (sweep_behind found.value.found t db i item found.value.state next).events
+    (searched-talks db typed (verb_for t) noun (groups db) s)
+    (sweep_behind-talks found.value.found t db i item found.value.state next rest)
+sweep_item-talks false t db typed i item s next rest = rest s
+
+sweep-talks : (t : Transfer) (db : Database) (typed : List ℕ) (i : ℕ) (items : List Item) → AlwaysTalks (sweep t db typed i items)
+sweep-talks t db typed i [] s = refl
+sweep-talks t db typed i (item ∷ items) s =
+    sweep_item-talks (is_met t i item s) t db typed i item s (sweep t db typed (i + 1) items) (sweep-talks t db typed (i + 1) items)
+
+all_from-talks : (b : Bool) (t : Transfer) (db : Database) (typed : List ℕ) (s : State) → Talks (all_from b t db typed s).events
+all_from-talks true t db typed s = Talks-says (text_of DarkGet)
+all_from-talks false t db typed s =
+    let w = sweep t db typed 0 db.items s in
+    let said = cond w.value.met [] (none_met t) in
+    Talks-append w.events (says said) (sweep-talks t db typed 0 db.items s) (Talks-says said)
+
+one_moved-talks : (t : Transfer) (item : Option ℕ) (s : State) → Talks (one_moved t item s).events
+one_moved-talks t None s = Talks-says (text_of BeyondPower)
+one_moved-talks t (Some item) s = Talks-says (text_of DonePhrase)
+
+one_from-talks : (b : Bool) (t : Transfer) (db : Database) (noun : ℕ) (s : State) → Talks (one_from b t db noun s).events
+one_from-talks true t db noun s = Talks-says (text_of TooMuch)
+one_from-talks false t db noun s = one_moved-talks t (item_named t db.header.length (root db noun) 0 db.items s) s
+
+one_transferred-talks : (t : Transfer) (db : Database) (noun : Option ℕ) (s : State) → Talks (one_transferred t db noun s).events
+one_transferred-talks t db None s = Talks-says (text_of WhatItem)
+one_transferred-talks t db (Some noun) s = one_from-talks (is_refused t db s) t db noun s
+
+transfer-talks : (t : Transfer) (db : Database) (typed : List ℕ) (noun : Option ℕ) (s : State) → Talks (transfer t db typed noun s).events
+transfer-talks t db typed noun s =
+    Talks-cond (is_all typed) (all_transferred t db typed s) (one_transferred t db noun s)
+    (all_from-talks (is_too_dark t s) t db typed s) (one_transferred-talks t db noun s)
+
+-- ---- commands
+
+no_way-talks : (b : Bool) (s : State) → Talks (no_way b s).events
+no_way-talks true s = Talks-says (text_of BrokenNeck)
+no_way-talks false s = Talks-says (text_of NoExitThere)
+
+way-talks : (room : ℕ) (s : State) → Talks (way room s).events
+way-talks room s =
+    Talks-cond (eqb room 0) (no_way (is_dark s) s) (saying (text_of Moved) (goes_on (moved_to room s))) (no_way-talks (is_dark s) s) (Talks-says (text_of Moved))
+
+walked-talks : (db : Database) (noun : ℕ) (s : State) → Talks (walked db noun s).events
+walked-talks db noun s =
+    let said = cond (is_dark s) (text_of DarkMove) [] in
+    let room = exit_of (length db.rooms) (room_at db s.room).exits (noun - 1) in
+    Talks-append (says said) (way room s).events (Talks-says said) (way-talks room s)
+
+unmatched-talks : (db : Database) (typed : List ℕ) (verb : ℕ) (noun : Option ℕ) (found : Found) (s : State) → Talks (unmatched db typed verb noun found s).events
+unmatched-talks db typed verb noun found s =
+    let refused = saying (not_done found) (goes_on s) in
+    let dropped = transfer PutDown db typed noun s in
+    Talks-cond (eqb verb get_verb) (transfer PickUp db typed noun s) (cond (eqb verb drop_verb) dropped refused)
+    (transfer-talks PickUp db typed noun s)
+    (Talks-cond (eqb verb drop_verb) dropped refused (transfer-talks PutDown db typed noun s) (Talks-says (not_done found)))
+
+by_found-talks : (found : Found) (db : Database) (typed : List ℕ) (verb : ℕ) (noun : Option ℕ) (s : State) → Talks (by_found found db typed verb noun s).events
+by_found-talks (Over ending) db typed verb noun s = refl
+by_found-talks Done db typed verb noun s = refl
+by_found-talks Matched db typed verb noun s = unmatched-talks db typed verb noun Matched s
+by_found-talks NoMatch db typed verb noun s = unmatched-talks db typed verb noun NoMatch s
+
+by_lines-talks : (db : Database) (typed : List ℕ) (verb : ℕ) (noun : Option ℕ) (s : State) → Talks (by_lines db typed verb noun s).events
+by_lines-talks db typed verb noun s =
+    let t = searched db typed verb noun (groups db) s in
+    Talks-append t.events (by_found t.value.found db typed verb noun t.value.state).events
+    (searched-talks db typed verb noun (groups db) s) (by_found-talks t.value.found db typed verb noun t.value.state)
+
+going-talks : (db : Database) (typed : List ℕ) (noun : Option ℕ) (s : State) → Talks (going db typed noun s).events
+going-talks db typed None s = Talks-says (text_of NeedDirection)
+going-talks db typed (Some noun) s =
+    Talks-cond (is_direction noun) (walked db noun s) (by_lines db typed go_verb (Some noun) s) (walked-talks db noun s) (by_lines-talks db typed go_verb (Some noun) s)
+
+obeyed-talks : (db : Database) (typed : List ℕ) (verb : ℕ) (noun : Option ℕ) (s : State) → Talks (obeyed db typed verb noun s).events
+obeyed-talks db typed verb noun s =
+    Talks-cond (eqb verb go_verb) (going db typed noun s) (by_lines db typed verb noun s) (going-talks db typed noun s) (by_lines-talks db typed verb noun s)
+
+turn_ended-talks : (over : Option ℕ) (s : State) → Talks (turn_ended over s).events
+turn_ended-talks None s = Talks-says (light_counted s).events
+turn_ended-talks (Some ending) s = refl
+
+pub by_heard-talks : (h : Heard) (db : Database) (line : List ℕ) (s : State) → Talks (by_heard h db line s).events
+by_heard-talks Blank db line s = Talks-says ([] ++ text_of Prompt)
+by_heard-talks (Unknown start size) db line s = Talks-says (unknown_word (word_at line (start, size)) ++ text_of Prompt)
+by_heard-talks (Command verb noun) db line s =
+    let t = obeyed db (typed_noun line) verb noun s in
+    Talks-append t.events (turn_ended t.value.over t.value.state).events (obeyed-talks db (typed_noun line) verb noun s) (turn_ended-talks t.value.over t.value.state)

@@ -1,0 +1,9 @@
+use Rattle.std.proofs.Common.{refl}
+use Rattle.std.specs.Fmt.{digits}
+use Rattle.scott_types.specs.Phrase.{text_of}
+use Rattle.scott_rules.specs.Play.{go}
+use Rattle.scott_rules.proofs.worked.counter_is_capped.Goals as goal
+
+pub returns : goal.returns
+unfolding go text_of digits
+returns c = record { said = refl; counter = refl; played = record { told = refl; stopped = refl; lines_left = refl; draws_left = refl } }

@@ -1,0 +1,8 @@
+use Rattle.std.proofs.Common.{refl}
+use Rattle.scott_types.specs.Phrase.{text_of}
+use Rattle.scott_rules.specs.Play.{go}
+use Rattle.scott_rules.proofs.worked.draws_try_all_heads.Goals as goal
+
+pub returns : goal.returns
+unfolding go text_of
+returns c = record { told = refl; stopped = refl; lines_left = refl; draws_left = refl }

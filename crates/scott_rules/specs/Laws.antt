@@ -1,0 +1,102 @@
+-- The laws of the rules, in the subject's own words.
+use Rattle.std.specs.Prelude.{ℕ, ◌≡◌, ◌≢◌, ◌<◌, ◌≤◌, ◌++◌, List, [], length, slice_index_or, IsTrue, IsFalse, MatchOption}
+use Rattle.scott_types.specs.declared.states.State.{State}
+use Rattle.scott_types.specs.declared.commands.Column.{Column}
+use Rattle.scott_types.specs.declared.endings.Ran.TheVariants.{Not}
+use Rattle.scott_types.specs.declared.endings.Position.{Position}
+use Rattle.scott_types.specs.declared.endings.Position.TheVariants.{Fresh, Over}
+use Rattle.scott_types.specs.Database.{Database}
+use Rattle.scott_types.specs.Limits.{KeepsLimits}
+use Rattle.scott_types.specs.ItemText.{is_starred}
+use Rattle.scott_types.specs.State.{Fits, start}
+use Rattle.scott_rules.specs.Told.{Told, Step, telling, after, lines_taken, draws_taken}
+use Rattle.scott_rules.specs.Words.{is_typed, spelling, entries_of, which}
+use Rattle.scott_rules.specs.Lines.{LineOutcome, line_done}
+use Rattle.scott_rules.specs.Play.{Stop, go}
+
+-- ---- words
+
+abbrev pub entry_at : List (List ℕ) → ℕ → List ℕ
+entry_at entries k = slice_index_or entries k []
+
+-- the entry `plain` is the nearest one at or before k that is no synonym; entry 0 doesn't count
+pub record IsPlainEntryOf (entries : List (List ℕ)) (k plain : ℕ) : Type 0 where
+  pub counted : 1 ≤ plain
+  pub before : plain ≤ k
+  pub is_plain : IsFalse (is_starred (entry_at entries plain))
+  pub nearest : (j : ℕ) → plain < j → j ≤ k → IsTrue (is_starred (entry_at entries j))
+
+-- an entry from 1 on matches a word where the word is typed so and the entry stands for a plain one
+pub record EntryMatches (size : ℕ) (entries : List (List ℕ)) (word : List ℕ) (k : ℕ) : Type 0 where
+  pub there : k < length entries
+  pub typed : IsTrue (is_typed size (spelling (entry_at entries k)) word)
+  pub stands_for : (plain : ℕ) × IsPlainEntryOf entries k plain
+
+-- the answer is the plain entry of the least entry that matches
+pub record IsLeastMatch (size : ℕ) (entries : List (List ℕ)) (word : List ℕ) (answer : ℕ) : Type 0 where
+  pub entry : ℕ
+  pub matches : EntryMatches size entries word entry
+  pub least : (j : ℕ) → j < entry → ¬ (EntryMatches size entries word j)
+  pub plain : IsPlainEntryOf entries entry answer
+
+-- a word names the plain entry of the least entry that matches, or nothing where none does
+abbrev pub WordNamesLeastMatch : Type 0
+WordNamesLeastMatch = (db : Database) (column : Column) (word : List ℕ)
+    → MatchOption (which db column word)
+    ((k : ℕ) → ¬ (EntryMatches db.header.length (entries_of db column) word k))
+    (λ answer. IsLeastMatch db.header.length (entries_of db column) word answer)
+
+-- ---- lines
+
+pub record DoesNothing (s : State) (t : Told ℕ LineOutcome) : Type 0 where
+  pub said : t.events ≡ []
+  pub state : t.value.state ≡ s
+
+-- a line that doesn't pass says nothing and changes nothing
+abbrev pub FailedLineDoesNothing : Type 0
+FailedLineDoesNothing = (db : Database) (noun : List ℕ) (line : ℕ) (s : State)
+    → (line_done db noun line s).value.ran ≡ Not → DoesNothing s (line_done db noun line s)
+
+-- ---- plays
+
+-- a play that stopped, gone on with more lines and draws, is the play on the joined lists
+abbrev pub PlaySplits : Type 0
+PlaySplits = (db : Database) (position : Position) (s : State) (lines more : List (List ℕ)) (draws further : List ℕ)
+    → go db position s (lines ++ more) (draws ++ further)
+    ≡ after (go db position s lines draws).events
+    (go db (go db position s lines draws).value.position (go db position s lines draws).value.state
+    ((go db position s lines draws).value.lines ++ more) ((go db position s lines draws).value.draws ++ further))
+
+-- what the steps take and draw, followed by what is left behind them, is what there was before them
+pub record Spends (lines : List (List ℕ)) (draws : List ℕ) (steps : List Step) (lines_left : List (List ℕ)) (draws_left : List ℕ) : Type 0 where
+  pub lines_spent : lines_taken steps ++ lines_left ≡ lines
+  pub draws_spent : draws_taken steps ++ draws_left ≡ draws
+
+-- what a play takes and draws, followed by what is left, is what there was
+abbrev pub PlaySpends : Type 0
+PlaySpends = (db : Database) (position : Position) (s : State) (lines : List (List ℕ)) (draws : List ℕ)
+    → let t = go db position s lines draws in Spends lines draws t.events t.value.lines t.value.draws
+
+-- every state that a play leaves fits its database
+abbrev pub PlayFits : Type 0
+PlayFits = (db : Database) (position : Position) (s : State) (lines : List (List ℕ)) (draws : List ℕ)
+    → KeepsLimits db → Fits db s → Fits db (go db position s lines draws).value.state
+
+-- the first state fits
+abbrev pub StartFits : Type 0
+StartFits = (db : Database) → KeepsLimits db → Fits db (start db)
+
+-- a play stops at a prompt, at a draw or at the game's end, and never where a round begins
+abbrev pub PlayStops : Type 0
+PlayStops = (db : Database) (position : Position) (s : State) (lines : List (List ℕ)) (draws : List ℕ)
+    → (go db position s lines draws).value.position ≢ Fresh
+
+-- the same play, with more lines and draws left
+abbrev pub with_more : List (List ℕ) → List ℕ → Told Step Stop → Told Step Stop
+with_more more further t = telling t.events (record t.value { lines = t.value.lines ++ more; draws = t.value.draws ++ further })
+
+-- an ending stays: more lines and draws are left untouched
+abbrev pub EndingStays : Type 0
+EndingStays = (db : Database) (position : Position) (s : State) (lines more : List (List ℕ)) (draws further : List ℕ) (ending : ℕ)
+    → (go db position s lines draws).value.position ≡ Over ending
+    → go db position s (lines ++ more) (draws ++ further) ≡ with_more more further (go db position s lines draws)

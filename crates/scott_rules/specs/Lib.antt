@@ -1,0 +1,17 @@
+-- The rules, in the order in which a reader learns the game.
+pub mod Told
+pub mod Words
+pub mod Commands
+pub mod Conditions
+pub mod Opcodes
+pub mod Lines
+pub mod Looking
+pub mod Light
+pub mod Groups
+pub mod Search
+pub mod Transfer
+pub mod Rounds
+pub mod Play
+pub mod Games
+pub mod Laws
+pub mod Worked

@@ -1,0 +1,191 @@
+-- Worked plays: what the rules give on small games.
+use Prim.Native.String.{String}
+use Rattle.std.specs.Prelude.{ℕ, ◌≡◌, false, List, [], ◌∷◌, ◌++◌, flat_map, codes, pos, negsuc, Some, None}
+use Rattle.scott_types.specs.declared.commands.Column.TheVariants.{Verbs}
+use Rattle.scott_types.specs.declared.commands.Heard.TheVariants.{Unknown, Command}
+use Rattle.scott_types.specs.declared.endings.Ran.TheVariants.{Not, Passed}
+use Rattle.scott_types.specs.declared.endings.Position.{Position}
+use Rattle.scott_types.specs.declared.endings.Position.TheVariants.{Line, Draw, Over}
+use Rattle.scott_types.specs.State.{start, place_of}
+use Rattle.scott_rules.specs.Told.{Told, Step, Took, Drew, Tried, says}
+use Rattle.scott_rules.specs.Words.{which}
+use Rattle.scott_rules.specs.Commands.{heard}
+use Rattle.scott_rules.specs.Lines.{line_done}
+use Rattle.scott_rules.specs.Play.{Stop, go, play, tried}
+use Rattle.scott_rules.specs.Games.{hill, full_hands, full_counter, odd_message, cell, chance, last_pin, no_treasure, one_treasure, lamp_for, nightfall, not_carried, no_parameter}
+
+-- ---- how a play is written down
+
+-- lines, as they are typed
+abbrev pub typing : List String → List (List ℕ)
+typing [] = []
+typing (text ∷ texts) = codes text ∷ typing texts
+
+abbrev pub text : String → List Step
+text s = says (codes s)
+
+abbrev pub typed : String → List Step
+typed s = Took (codes s) ∷ []
+
+abbrev pub drew : ℕ → List Step
+drew draw = Drew draw ∷ []
+
+abbrev pub tries : ℕ → List Step
+tries line = Tried line ∷ []
+
+abbrev pub ask : List Step
+ask = text "\nTell me what to do ? "
+
+-- the hall, with what is seen in it
+abbrev pub hall : String → List Step
+hall items = text "I'm in a hall\nObvious exits: North.\n\nI can also see: " ++ (text items ++ text "\n")
+
+-- what a play told, where it stopped, and the lines and draws that were left
+pub record Plays (t : Told Step Stop) (steps : List (List Step)) (position : Position) (lines : List (List ℕ)) (draws : List ℕ) : Type 0 where
+  pub told : t.events ≡ flat_map (λ part. part) steps
+  pub stopped : t.value.position ≡ position
+  pub lines_left : t.value.lines ≡ lines
+  pub draws_left : t.value.draws ≡ draws
+
+-- ---- words
+
+-- a synonym names the plain entry before it, and an unknown word stands where it was typed
+pub record WordsHeard : Type 0 where
+  pub synonym : which hill Verbs (codes "walking") ≡ Some 1
+  pub no_entry : which hill Verbs (codes "xyzzy") ≡ None
+  pub direction : heard hill (codes "north") ≡ Command 1 (Some 1)
+  pub letter : heard hill (codes "  w ") ≡ Command 1 (Some 4)
+  pub unknown : heard hill (codes " xyzzy rug") ≡ Unknown 1 5
+
+-- ---- plays
+
+abbrev pub HallAndHill : Type 0
+HallAndHill =
+    Plays (play hill (typing ("n" ∷ "go south" ∷ "xyzzy" ∷ [])) [])
+    (hall "Rug" ∷ ask ∷ typed "n" ∷ text "O.K.\nI'm on a hill\nObvious exits: South.\n" ∷ ask ∷ typed "go south" ∷ text "O.K.\n"
+    ∷ hall "Rug" ∷ ask ∷ typed "xyzzy" ∷ text "\"xyzzy\" is a word I don't know. " ∷ ask ∷ [])
+    Line [] []
+
+abbrev pub BlankLineAsksAgain : Type 0
+BlankLineAsksAgain =
+    Plays (play hill (typing ("walk north" ∷ "" ∷ [])) [])
+    (hall "Rug" ∷ ask ∷ typed "walk north" ∷ text "O.K.\nI'm on a hill\nObvious exits: South.\n" ∷ ask ∷ typed "" ∷ ask ∷ [])
+    Line [] []
+
+abbrev pub OneOfEach : Type 0
+OneOfEach =
+    Plays (play cell (typing ("n" ∷ [])) [])
+    (text "I'm in a cell\nObvious exits: none.\n\nI can also see: Rug\n" ∷ ask ∷ typed "n" ∷ text "\"n\" is a word I don't know. " ∷ ask ∷ [])
+    Line [] []
+
+-- the get is refused and leaves item 0 to the drop: the rug stays here, and the pin carried
+pub record RefusedGetLeavesItsParameter : Type 0 where
+  pub said : (line_done full_hands [] 0 (start full_hands)).events ≡ codes "I've too much to carry! "
+  pub ran : (line_done full_hands [] 0 (start full_hands)).value.ran ≡ Passed false
+  pub state : (line_done full_hands [] 0 (start full_hands)).value.state ≡ start full_hands
+  pub played : Plays (play full_hands (typing ("look" ∷ [])) [])
+      (hall "Rug" ∷ ask ∷ typed "look" ∷ tries 0 ∷ text "I've too much to carry! " ∷ hall "Rug" ∷ ask ∷ []) Line [] []
+
+pub record CounterIsCapped : Type 0 where
+  pub said : (line_done full_counter [] 0 (start full_counter)).events ≡ codes "32767\n"
+  pub counter : (line_done full_counter [] 0 (start full_counter)).value.state.counter ≡ pos 32767
+  pub played : Plays (play full_counter (typing ("look" ∷ [])) [])
+      (hall "Rug" ∷ ask ∷ typed "look" ∷ tries 0 ∷ text "32767\n" ∷ ask ∷ []) Line [] []
+
+abbrev pub MessageIsSaid : Type 0
+MessageIsSaid =
+    Plays (play odd_message (typing ("look" ∷ [])) [])
+    (hall "Rug" ∷ ask ∷ typed "look" ∷ tries 0 ∷ text "@5 ~ ^ \\\n" ∷ ask ∷ []) Line [] []
+
+-- the first head is passed over, the second does its tail, and tails take no draw
+abbrev pub DrawsPassAHeadOver : Type 0
+DrawsPassAHeadOver =
+    Plays (play chance [] (2 ∷ 100 ∷ 100 ∷ []))
+    (hall "Rug" ∷ drew 2 ∷ drew 100 ∷ tries 2 ∷ text "two\n" ∷ tries 3 ∷ text "four\n" ∷ drew 100 ∷ tries 4 ∷ text "three\n" ∷ ask ∷ [])
+    Line [] []
+
+abbrev pub DrawsTryAllHeads : Type 0
+DrawsTryAllHeads =
+    Plays (play chance [] (1 ∷ 100 ∷ 100 ∷ []))
+    (hall "Rug" ∷ drew 1 ∷ tries 1 ∷ text "one\n" ∷ drew 100 ∷ tries 2 ∷ text "two\n" ∷ tries 3 ∷ text "four\n" ∷ drew 100 ∷ tries 4 ∷ text "three\n" ∷ ask ∷ [])
+    Line [] []
+
+-- no draw is left for the head of line 4: the play waits there, and goes on from there
+pub record DrawsRunOut : Type 0 where
+  pub waits : Plays (play chance [] (1 ∷ 100 ∷ []))
+      (hall "Rug" ∷ drew 1 ∷ tries 1 ∷ text "one\n" ∷ drew 100 ∷ tries 2 ∷ text "two\n" ∷ tries 3 ∷ text "four\n" ∷ [])
+      (Draw 4) [] []
+  pub goes_on : Plays (go chance (Draw 4) (play chance [] (1 ∷ 100 ∷ [])).value.state [] (100 ∷ []))
+      (drew 100 ∷ tries 4 ∷ text "three\n" ∷ ask ∷ []) Line [] []
+
+-- the lines that were tried, in their order; a blank line counts for nothing
+pub record LinesTried : Type 0 where
+  pub by_chance : tried chance (play chance [] (2 ∷ 100 ∷ 100 ∷ [])).events ≡ 2 ∷ 3 ∷ 4 ∷ []
+  pub on_the_hill : tried hill (play hill (typing ("n" ∷ [])) []).events ≡ []
+
+-- the rug is taken, and the lines for the pin end the game: the pin stays where it was
+pub record GetAllEndsTheGame : Type 0 where
+  pub played : Plays (play last_pin (typing ("get all" ∷ "look" ∷ [])) [])
+      (hall "Rug - Pin" ∷ ask ∷ typed "get all" ∷ text "Rug: O.K.\n" ∷ tries 0 ∷ text "The game is now over.\n" ∷ [])
+      (Over 1) (typing ("look" ∷ [])) []
+  pub rug : place_of (play last_pin (typing ("get all" ∷ "look" ∷ [])) []).value.state 0 ≡ 255
+  pub pin : place_of (play last_pin (typing ("get all" ∷ "look" ∷ [])) []).value.state 1 ≡ 1
+
+-- one item is got and dropped again, and nothing is left to drop
+abbrev pub GetAndDrop : Type 0
+GetAndDrop =
+    Plays (play last_pin (typing ("get rug" ∷ "drop all" ∷ "drop all" ∷ "get" ∷ [])) [])
+    (hall "Rug - Pin" ∷ ask ∷ typed "get rug" ∷ text "O.K. " ∷ hall "Pin" ∷ ask ∷ typed "drop all" ∷ text "Rug: O.K.\n" ∷ hall "Rug - Pin" ∷ ask
+    ∷ typed "drop all" ∷ text "Nothing dropped. " ∷ ask ∷ typed "get" ∷ text "What ? " ∷ ask ∷ [])
+    Line [] []
+
+abbrev pub ScoreGoesOn : Type 0
+ScoreGoesOn =
+    Plays (play no_treasure (typing ("look" ∷ [])) [])
+    (hall "Rug" ∷ ask ∷ typed "look" ∷ tries 0 ∷ text "I've stored 0 treasures.  On a scale of 0 to 100, that rates 0.\n" ∷ ask ∷ [])
+    Line [] []
+
+abbrev pub FullScoreEnds : Type 0
+FullScoreEnds =
+    Plays (play one_treasure (typing ("look" ∷ [])) [])
+    (hall "*Rug*" ∷ ask ∷ typed "look" ∷ tries 0
+    ∷ text "I've stored 1 treasures.  On a scale of 0 to 100, that rates 100.\nWell done.\nThe game is now over.\n" ∷ [])
+    (Over 3) [] []
+
+-- what LOOK says where no line is there for it
+abbrev pub not_understood : List Step
+not_understood = text "I don't understand your command. "
+
+-- the light's last text comes at 0 and once more at -1, and then never again
+pub record LightRunsOut : Type 0 where
+  pub played : Plays (play (lamp_for 2) (typing ("look" ∷ "look" ∷ "look" ∷ "look" ∷ [])) [])
+      (hall "Rug" ∷ ask ∷ typed "look" ∷ not_understood ∷ ask ∷ typed "look" ∷ not_understood ∷ text "Your light has run out. " ∷ ask
+      ∷ typed "look" ∷ not_understood ∷ text "Your light has run out. " ∷ ask ∷ typed "look" ∷ not_understood ∷ ask ∷ [])
+      Line [] []
+  pub light : (play (lamp_for 2) (typing ("look" ∷ "look" ∷ "look" ∷ "look" ∷ [])) []).value.state.light ≡ negsuc 0
+
+abbrev pub LightGrowsDim : Type 0
+LightGrowsDim =
+    Plays (play (lamp_for 21) (typing ("look" ∷ [])) [])
+    (hall "Rug" ∷ ask ∷ typed "look" ∷ not_understood ∷ text "Your light is growing dim. " ∷ ask ∷ []) Line [] []
+
+abbrev pub DarkIsDangerous : Type 0
+DarkIsDangerous =
+    Plays (play nightfall (typing ("n" ∷ "n" ∷ [])) (1 ∷ 1 ∷ 1 ∷ []))
+    (hall "Rug" ∷ drew 1 ∷ tries 0 ∷ ask ∷ typed "n" ∷ text "Dangerous to move in the dark! O.K.\nI can't see. It is too dark!\n" ∷ drew 1 ∷ tries 0 ∷ ask
+    ∷ typed "n" ∷ text "Dangerous to move in the dark! I fell down and broke my neck. " ∷ [])
+    (Over 2) [] (1 ∷ [])
+
+-- a condition fails, and the line does nothing
+pub record ConditionFails : Type 0 where
+  pub said : (line_done not_carried [] 0 (start not_carried)).events ≡ []
+  pub ran : (line_done not_carried [] 0 (start not_carried)).value.ran ≡ Not
+  pub state : (line_done not_carried [] 0 (start not_carried)).value.state ≡ start not_carried
+  pub played : Plays (play not_carried (typing ("look" ∷ [])) [])
+      (hall "Rug" ∷ ask ∷ typed "look" ∷ tries 0 ∷ text "I can't do that yet. " ∷ ask ∷ []) Line [] []
+
+-- past the last parameter each is 0: the rug is dropped where it lies, and the hall is described again
+abbrev pub MissingParameterIsZero : Type 0
+MissingParameterIsZero =
+    Plays (play no_parameter (typing ("look" ∷ [])) [])
+    (hall "Rug" ∷ ask ∷ typed "look" ∷ tries 0 ∷ hall "Rug" ∷ ask ∷ []) Line [] []

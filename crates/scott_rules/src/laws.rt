@@ -1,0 +1,44 @@
+//! The laws of the rules. Each is the contract of a function that does nothing.
+ghost use Rattle.scott_rules.specs.Laws.{WordNamesLeastMatch, FailedLineDoesNothing, PlaySplits, PlaySpends, PlayFits, StartFits, PlayStops, EndingStays};
+
+/// A word names the plain entry of the least entry that matches it, which is the nearest plain entry
+/// at or before it; and no entry where none matches.
+pub fn word_names_least_match()
+    ensures { WordNamesLeastMatch }
+{}
+
+/// A line that doesn't pass says nothing and changes nothing.
+pub fn failed_line_does_nothing()
+    ensures { FailedLineDoesNothing }
+{}
+
+/// A play that stopped, gone on with more lines and draws from where it stopped, is the play on the
+/// joined lists.
+pub fn play_splits()
+    ensures { PlaySplits }
+{}
+
+/// What a play takes and draws, followed by what is left, is what there was.
+pub fn play_spends()
+    ensures { PlaySpends }
+{}
+
+/// The first state fits its database.
+pub fn start_fits()
+    ensures { StartFits }
+{}
+
+/// Every state that a play leaves fits its database.
+pub fn play_fits()
+    ensures { PlayFits }
+{}
+
+/// A play stops at a prompt, at a draw or at the game's end.
+pub fn play_stops()
+    ensures { PlayStops }
+{}
+
+/// A game that is over stays over, and more lines and draws are left untouched.
+pub fn ending_stays()
+    ensures { EndingStays }
+{}

@@ -1,0 +1,10 @@
+pub mod Database
+pub mod Limits
+pub mod Condition
+pub mod Opcode
+pub mod Phrase
+pub mod ItemText
+pub mod Action
+pub mod Room
+pub mod State
+pub mod Codes

@@ -1,0 +1,69 @@
+-- The limits that every database keeps.
+use Rattle.std.specs.Prelude.{ℕ, ◌≤◌, ◌<◌, ◌≡◌, ◌==◌, ◌||◌, ◌&&◌, Bool, not, List, length, nat_le, ℤ, pos, negsuc, ◌≤ℤ◌, int_le, IsTrue}
+use Rattle.std.specs.List.{list_all, list_any}
+use Rattle.scott_types.specs.declared.parts.Header.{Header}
+use Rattle.scott_types.specs.declared.parts.Action.{Action}
+use Rattle.scott_types.specs.declared.parts.Word.{Word}
+use Rattle.scott_types.specs.declared.parts.Room.{Room}
+use Rattle.scott_types.specs.declared.parts.Item.{Item}
+use Rattle.scott_types.specs.Database.{Database}
+
+-- ---- one value
+
+-- at most 4,096 bytes, none of them a return (13) or a grave accent (96), which no text of a file can give
+abbrev pub is_text : List ℕ → Bool
+is_text text = nat_le (length text) 4096 && not (list_any (λ b. b == 13 || b == 96) text)
+
+-- 32 bits with a sign, and the same without one
+abbrev pub is_number : ℤ → Bool
+is_number z = int_le (negsuc 2147483647) z && int_le z (pos 2147483647)
+
+abbrev pub is_natural : ℕ → Bool
+is_natural n = nat_le n 2147483647
+
+-- ---- one entry of a list
+
+abbrev pub is_action : Action → Bool
+is_action a = is_natural a.vocab && (length a.conds == 5 && (list_all is_natural a.conds && (length a.pairs == 2 && list_all is_natural a.pairs)))
+
+abbrev pub is_word : Word → Bool
+is_word w = is_text w.verb && is_text w.noun
+
+abbrev pub is_room : Room → Bool
+is_room r = length r.exits == 6 && (list_all is_number r.exits && is_text r.text)
+
+abbrev pub is_item : Item → Bool
+is_item i = is_text i.text && nat_le i.place 255
+
+-- ---- the whole
+
+-- a list has an entry, and no more than so many
+abbrev pub is_list_of : {X : Type 0} → ℕ → List X → Bool
+is_list_of most xs = nat_le 1 (length xs) && nat_le (length xs) most
+
+pub record KeepsHeaderLimits (rooms : ℕ) (h : Header) : Type 0 where
+  pub length_range : (1 ≤ h.length) × (h.length ≤ 20)
+  pub light_range : (negsuc 0 ≤ℤ h.light) × IsTrue (is_number h.light)
+  pub start_there : h.start < rooms
+  pub numbers : IsTrue (is_number h.unused && (is_number h.carry && (is_number h.treasures && is_number h.home)))
+
+pub record KeepsSizes (db : Database) : Type 0 where
+  pub actions : IsTrue (is_list_of 5000 db.actions)
+  pub words : IsTrue (is_list_of 1000 db.words)
+  pub rooms : IsTrue (is_list_of 255 db.rooms)
+  pub messages : IsTrue (is_list_of 1000 db.messages)
+  pub items : IsTrue (is_list_of 255 db.items)
+
+pub record KeepsEntryLimits (db : Database) : Type 0 where
+  pub actions : IsTrue (list_all is_action db.actions)
+  pub words : IsTrue (list_all is_word db.words)
+  pub rooms : IsTrue (list_all is_room db.rooms)
+  pub items : IsTrue (list_all is_item db.items)
+  pub texts : IsTrue (list_all is_text db.messages && list_all is_text db.comments)
+
+pub record KeepsLimits (db : Database) : Type 0 where
+  pub header : KeepsHeaderLimits (length db.rooms) db.header
+  pub sizes : KeepsSizes db
+  pub entries : KeepsEntryLimits db
+  pub commented : length db.comments ≡ length db.actions
+  pub trailer : IsTrue (is_number db.trailer.version && (is_number db.trailer.adventure && is_number db.trailer.third))

@@ -1,0 +1,14 @@
+//! What the parameters of opcodes name.
+
+/// What a parameter of an opcode, or the argument of a condition, names.
+#[derive(Clone, Copy, Debug, PartialEq, Eq)]
+pub enum Parameter {
+    Item,
+    Room,
+    Flag,
+    /// A backup counter or a backup room.
+    Backup,
+    /// A room, or where an item is carried or out of the game.
+    Place,
+    Number,
+}
