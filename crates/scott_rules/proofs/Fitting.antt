@@ -51,7 +51,7 @@ Fits-start db limits =
       };
       counters = record { counter = refl; counters = refl; count = refl };
       flags = refl;
-      light = (limits.header.light_range.0, omega (arith, ints));
+      light = (limits.header.light_range, omega (arith, ints));
       places = record { count = length-map db.items (λ item. item.place); places = starts db.items limits.entries.items };
     }
 

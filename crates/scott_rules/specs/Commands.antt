@@ -48,7 +48,7 @@ typed_noun line = word_or_none line (split line).second
 
 -- ---- the command
 
--- what a line of one letter stands for
+-- a direction or the inventory by its letter; any other word is itself
 abbrev pub whole_word : List ℕ → List ℕ
 whole_word word =
     if bytes_eq word (codes "n") then codes "north" else

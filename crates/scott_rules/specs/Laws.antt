@@ -1,5 +1,5 @@
 -- The laws of the rules, in the subject's own words.
-use Rattle.std.specs.Prelude.{ℕ, ◌≡◌, ◌≢◌, ◌<◌, ◌≤◌, ◌++◌, List, [], length, slice_index_or, IsTrue, IsFalse, MatchOption}
+use Rattle.std.specs.Prelude.{not, filter, ℕ, ◌≡◌, ◌≢◌, ◌<◌, ◌≤◌, ◌++◌, List, [], length, slice_index_or, IsTrue, IsFalse, MatchOption}
 use Rattle.scott_types.specs.declared.states.State.{State}
 use Rattle.scott_types.specs.declared.commands.Column.{Column}
 use Rattle.scott_types.specs.declared.endings.Ran.TheVariants.{Not}
@@ -9,10 +9,16 @@ use Rattle.scott_types.specs.Database.{Database}
 use Rattle.scott_types.specs.Limits.{KeepsLimits}
 use Rattle.scott_types.specs.ItemText.{is_starred}
 use Rattle.scott_types.specs.State.{Fits, start}
-use Rattle.scott_rules.specs.Told.{Told, Step, telling, after, lines_taken, draws_taken}
+use Rattle.scott_rules.specs.Told.{Told, Step, telling, after, lines_taken, draws_taken, trace, shown_events, is_draw}
 use Rattle.scott_rules.specs.Words.{is_typed, spelling, entries_of, which}
 use Rattle.scott_rules.specs.Lines.{LineOutcome, line_done}
 use Rattle.scott_rules.specs.Play.{Stop, go}
+
+-- ---- what is seen
+
+-- what a console shows is the trace without its draws
+abbrev pub ShownIsTraceWithoutDraws : Type 0
+ShownIsTraceWithoutDraws = (steps : List Step) → shown_events steps ≡ filter (λ event. not (is_draw event)) (trace steps)
 
 -- ---- words
 

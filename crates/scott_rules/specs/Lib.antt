@@ -1,4 +1,4 @@
--- The rules, in the order in which a reader learns the game.
+-- The rules, in the order in which a reader learns the game; then their laws, and games on which they are worked out.
 pub mod Told
 pub mod Words
 pub mod Commands

@@ -13,7 +13,7 @@ use Rattle.scott_rules.specs.Told.{Told, Outcome, telling, Step, Tried, spoken, 
 use Rattle.scott_rules.specs.Conditions.{holds}
 use Rattle.scott_rules.specs.Opcodes.{course}
 
--- an action line's number in the database; one that isn't there is taken as empty
+-- the action line of a number; one that isn't there is empty
 abbrev pub action_at : Database → ℕ → Action
 action_at db line = slice_index_or db.actions line (record { vocab = 0; conds = []; pairs = [] })
 

@@ -73,7 +73,7 @@ inventory db s =
 abbrev pub stored_count : Database → State → ℕ
 stored_count db s = count_by (λ pair. is_treasure pair.0.text && int_eq (pos pair.1) db.header.home) (zip db.items s.places.items)
 
--- a hundredth part of all, toward zero, and 0 where there are none to store
+-- how many hundredths of all treasures are stored, toward zero, and 0 where there are none to store
 abbrev pub rate : ℤ → ℕ → ℤ
 rate treasures stored = if int_eq treasures (pos 0) then pos 0 else int_div (pos (stored * 100)) treasures
 

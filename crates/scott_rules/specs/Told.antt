@@ -1,5 +1,5 @@
 -- What a part of a play told, and what it left: one record at every level.
-use Rattle.std.specs.Prelude.{ℕ, List, ◌++◌, map, Option, Some, None}
+use Rattle.std.specs.Prelude.{ℕ, Bool, true, false, List, ◌++◌, map, Option, Some, None}
 use Rattle.std.specs.List.{filter_map}
 use Rattle.adv_io.specs.declared.events.Event.{Event}
 use Rattle.adv_io.specs.declared.events.Event.TheVariants.{Say, Take, Draw}
@@ -68,6 +68,10 @@ abbrev pub shown_event : Step → Option Event
 shown_event (Said byte) = Some (Say byte)
 shown_event (Took line) = Some (Take line)
 shown_event _ = None
+
+abbrev pub is_draw : Event → Bool
+is_draw (Draw draw) = true
+is_draw _ = false
 
 -- the events that a console shows: bytes and lines
 abbrev pub shown_events : List Step → List Event

@@ -23,8 +23,8 @@ is_typed size word typed = not (is_empty word) && matches size word typed
 abbrev pub spelling : List ℕ → List ℕ
 spelling entry = if is_starred entry then drop 1 entry else entry
 
--- The plain entry of the first of the entries that the word matches, if it has one. The entries are
--- numbered from k on, and `plain` is the nearest plain entry before them.
+-- The plain entry of the first entry that the word matches and that stands for a plain one. The entries
+-- are numbered from k on, and `plain` is the nearest plain entry before them.
 abbrev pub entry_from : ℕ → List ℕ → Option ℕ → ℕ → List (List ℕ) → Option ℕ
 entry_from size word plain k [] = None
 entry_from size word plain k (entry ∷ entries) =

@@ -1,5 +1,10 @@
 //! The laws of the rules. Each is the contract of a function that does nothing.
-ghost use Rattle.scott_rules.specs.Laws.{WordNamesLeastMatch, FailedLineDoesNothing, PlaySplits, PlaySpends, PlayFits, StartFits, PlayStops, EndingStays};
+ghost use Rattle.scott_rules.specs.Laws.{ShownIsTraceWithoutDraws, WordNamesLeastMatch, FailedLineDoesNothing, PlaySplits, PlaySpends, PlayFits, StartFits, PlayStops, EndingStays};
+
+/// What a console shows is the trace without its draws.
+pub fn shown_is_trace_without_draws()
+    ensures { ShownIsTraceWithoutDraws }
+{}
 
 /// A word names the plain entry of the least entry that matches it, which is the nearest plain entry
 /// at or before it; and no entry where none matches.

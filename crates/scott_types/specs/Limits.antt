@@ -1,23 +1,29 @@
 -- The limits that every database keeps.
-use Rattle.std.specs.Prelude.{ℕ, ◌≤◌, ◌<◌, ◌≡◌, ◌==◌, ◌||◌, ◌&&◌, Bool, not, List, length, nat_le, ℤ, pos, negsuc, ◌≤ℤ◌, int_le, IsTrue}
-use Rattle.std.specs.List.{list_all, list_any}
+use Rattle.std.specs.Prelude.{ℕ, ◌≤◌, ◌<◌, ◌≡◌, ◌==◌, ◌||◌, ◌&&◌, Bool, not, List, [], ◌∷◌, length, nat_le, nat_lt, ℤ, pos, negsuc, ◌≤ℤ◌, int_le, IsTrue}
+use Rattle.std.specs.List.{list_all}
 use Rattle.scott_types.specs.declared.parts.Header.{Header}
 use Rattle.scott_types.specs.declared.parts.Action.{Action}
 use Rattle.scott_types.specs.declared.parts.Word.{Word}
 use Rattle.scott_types.specs.declared.parts.Room.{Room}
 use Rattle.scott_types.specs.declared.parts.Item.{Item}
+use Rattle.scott_types.specs.declared.parts.Trailer.{Trailer}
 use Rattle.scott_types.specs.Database.{Database}
 
 -- ---- one value
 
--- at most 4,096 bytes, none of them a return (13) or a grave accent (96), which no text of a file can give
-abbrev pub is_text : List ℕ → Bool
-is_text text = nat_le (length text) 4096 && not (list_any (λ b. b == 13 || b == 96) text)
+-- a byte other than a return and a grave accent, which no text of a file can give
+abbrev pub is_text_byte : ℕ → Bool
+is_text_byte byte = nat_lt byte 256 && not (byte == 13 || byte == 96)
 
--- 32 bits with a sign, and the same without one
+-- at most 4,096 such bytes
+abbrev pub is_text : List ℕ → Bool
+is_text text = nat_le (length text) 4096 && list_all is_text_byte text
+
+-- a number of 32 bits with a sign
 abbrev pub is_number : ℤ → Bool
 is_number z = int_le (negsuc 2147483647) z && int_le z (pos 2147483647)
 
+-- such a number that isn't negative
 abbrev pub is_natural : ℕ → Bool
 is_natural n = nat_le n 2147483647
 
@@ -35,6 +41,12 @@ is_room r = length r.exits == 6 && (list_all is_number r.exits && is_text r.text
 abbrev pub is_item : Item → Bool
 is_item i = is_text i.text && nat_le i.place 255
 
+abbrev pub are_header_numbers : Header → Bool
+are_header_numbers h = list_all is_number (h.unused ∷ h.carry ∷ h.treasures ∷ h.light ∷ h.home ∷ [])
+
+abbrev pub is_trailer : Trailer → Bool
+is_trailer t = list_all is_number (t.version ∷ t.adventure ∷ t.third ∷ [])
+
 -- ---- the whole
 
 -- a list has an entry, and no more than so many
@@ -43,9 +55,9 @@ is_list_of most xs = nat_le 1 (length xs) && nat_le (length xs) most
 
 pub record KeepsHeaderLimits (rooms : ℕ) (h : Header) : Type 0 where
   pub length_range : (1 ≤ h.length) × (h.length ≤ 20)
-  pub light_range : (negsuc 0 ≤ℤ h.light) × IsTrue (is_number h.light)
+  pub light_range : negsuc 0 ≤ℤ h.light
   pub start_there : h.start < rooms
-  pub numbers : IsTrue (is_number h.unused && (is_number h.carry && (is_number h.treasures && is_number h.home)))
+  pub numbers : IsTrue (are_header_numbers h)
 
 pub record KeepsSizes (db : Database) : Type 0 where
   pub actions : IsTrue (is_list_of 5000 db.actions)
@@ -66,4 +78,4 @@ pub record KeepsLimits (db : Database) : Type 0 where
   pub sizes : KeepsSizes db
   pub entries : KeepsEntryLimits db
   pub commented : length db.comments ≡ length db.actions
-  pub trailer : IsTrue (is_number db.trailer.version && (is_number db.trailer.adventure && is_number db.trailer.third))
+  pub trailer : IsTrue (is_trailer db.trailer)

@@ -29,7 +29,7 @@ abbrev pub opcode_of : ℕ → Opcode
 opcode_of n = if n == 0 then Nothing else if nat_lt n 52 then Say n else
     if nat_lt n 90 then slice_index_or named (n - 52) Nothing else if nat_lt n 102 then Nothing else Say (n - 50)
 
--- ---- the least number that means an opcode
+-- ---- the least number that means an opcode, for those that a number means
 
 abbrev pub say_number : ℕ → ℕ
 say_number message = if nat_lt message 52 then message else message + 50

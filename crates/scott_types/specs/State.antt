@@ -52,7 +52,7 @@ flag_of s flag = slice_index_or s.flags flag false
 abbrev pub with_flag : State → ℕ → Bool → State
 with_flag s flag on = record s { flags = slice_set s.flags flag on }
 
--- it is dark, and the lamp is neither here nor carried
+-- the flag of darkness is set, and the lamp is neither here nor carried
 abbrev pub is_dark : State → Bool
 is_dark s = flag_of s dark_flag && not (is_near s lamp)
 
@@ -92,7 +92,8 @@ pub record FitsPlaces (db : Database) (s : State) : Type 0 where
   pub count : length s.places.items ≡ length db.items
   pub places : IsTrue (list_all (λ place. nat_le place carried_place) s.places.items)
 
--- the rooms are rooms of the database, the counters lie in -1..32767, the light from -1 to the header's, and each item has a place
+-- The rooms are rooms of the database, the counters lie in -1..32767, the light from -1 to the header's, and each item has a
+-- place of a byte. There are 16 backup rooms, 16 backup counters and 32 flags.
 pub record Fits (db : Database) (s : State) : Type 0 where
   pub rooms : FitsRooms db s
   pub counters : FitsCounters s

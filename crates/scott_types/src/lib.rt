@@ -7,6 +7,7 @@ pub mod conditions;
 pub mod databases;
 pub mod endings;
 pub mod laws;
+mod limits;
 pub mod opcodes;
 pub mod parameters;
 pub mod parts;
