@@ -1,16 +1,11 @@
--- The first state fits its database, and so does every state that a play leaves.
-use Rattle.std.proofs.Common.{◌≡◌, ℕ, true, false, List, [], ◌∷◌, length, map, replicate, ℤ, pos, negsuc, ◌≤ℤ◌, Option, Some, None, refl, sym, ◌∙◌, ◌≢◌, arith}
-use Rattle.std.specs.Prelude.{IsTrue, int_lt, ◌-ℤ◌}
-use Rattle.std.specs.List.{list_all}
+-- Every state that a play leaves fits its database.
+use Rattle.std.proofs.Common.{◌≡◌, ℕ, true, false, List, [], ◌∷◌, ℤ, pos, negsuc, ◌≤ℤ◌, Option, Some, None, sym, ◌∙◌, ◌≢◌, arith}
+use Rattle.std.specs.Prelude.{int_lt, ◌-ℤ◌}
 use Rattle.std.specs.Ordering.{int_eq}
-use Rattle.std.proofs.lemmas.Bool.{cond_both, and_parts, and_from, not-true, false≢true, lt-ltb}
+use Rattle.std.proofs.lemmas.Bool.{cond_both, and_parts, not-true, false≢true}
 use Rattle.std.proofs.lemmas.Bool.Decides.{Decides-int_eq}
 use Rattle.std.proofs.lemmas.Int.{ints}
-use Rattle.std.proofs.lemmas.List.{length-map}
-use Rattle.std.proofs.lemmas.List.Sums.{list_all-from_AllPass}
-use Rattle.std.proofs.lemmas.List.Elements.{All-replicate}
 use Rattle.scott_types.specs.declared.states.State.{State}
-use Rattle.scott_types.specs.declared.parts.Item.{Item}
 use Rattle.scott_types.specs.declared.commands.Heard.{Heard}
 use Rattle.scott_types.specs.declared.commands.Heard.TheVariants.{Blank, Unknown, Command}
 use Rattle.scott_types.specs.declared.endings.Halt.{Halt}
@@ -18,42 +13,16 @@ use Rattle.scott_types.specs.declared.endings.Halt.TheVariants.{Through, Waits, 
 use Rattle.scott_types.specs.declared.endings.Position.{Position}
 use Rattle.scott_types.specs.declared.endings.Position.TheVariants.{Fresh, Draw, Line, Over}
 use Rattle.scott_types.specs.Database.{Database}
-use Rattle.scott_types.specs.Limits.{KeepsLimits, is_item, is_text}
-use Rattle.scott_types.specs.State.{Fits, start, is_room_of, out_flag}
+use Rattle.scott_types.specs.Limits.{KeepsLimits}
+use Rattle.scott_types.specs.State.{Fits, start, out_flag}
 use Rattle.scott_rules.specs.Told.{Told, Step}
 use Rattle.scott_rules.specs.Commands.{heard, typed_noun}
 use Rattle.scott_rules.specs.Light.{is_burning, is_dim, light_seen, light_counted}
 use Rattle.scott_rules.specs.Groups.{groups, groups_from, automatic}
 use Rattle.scott_rules.specs.Rounds.{Standing, unmarked, prompted, advance, turn_ended, by_heard, answer, obeyed}
 use Rattle.scott_rules.specs.Play.{Stop, with_line, go}
-use Rattle.scott_rules.proofs.FittingStates.{is_place, is_room-zero, Fits-with_flag, Fits-redraw, Fits-light}
+use Rattle.scott_rules.proofs.FittingStates.{Fits-with_flag, Fits-redraw, Fits-light}
 use Rattle.scott_rules.proofs.FittingCommands.{Fits-automatic, Fits-obeyed}
-
--- ---- the first state
-
--- the places where the items begin are places
-starts : (items : List Item) → IsTrue (list_all is_item items) → IsTrue (list_all is_place (map (λ item. item.place) items))
-starts [] all = refl
-starts (item ∷ items) all =
-    let parts = and_parts (is_item item) (list_all is_item items) all in
-    and_from _ _ (and_parts (is_text item.text) (is_place item.place) parts.0).1 (starts items parts.1)
-
--- the first state fits
-pub Fits-start : (db : Database) → KeepsLimits db → Fits db (start db)
-Fits-start db limits =
-    let zero_there = is_room-zero db limits in
-    record {
-      rooms = record {
-        room = lt-ltb db.header.start (length db.rooms) limits.header.start_there;
-        saved = zero_there;
-        rooms = list_all-from_AllPass (is_room_of db) (replicate 16 0) (All-replicate (λ room. is_room_of db room ≡ true) 16 0 zero_there);
-        count = refl;
-      };
-      counters = record { counter = refl; counters = refl; count = refl };
-      flags = refl;
-      light = (limits.header.light_range, omega (arith, ints));
-      places = record { count = length-map db.items (λ item. item.place); places = starts db.items limits.entries.items };
-    }
 
 -- a light that isn't spent can last one turn less
 less_one_in_range : (light most : ℤ) → (negsuc 0 ≤ℤ light) × (light ≤ℤ most) → int_eq light (negsuc 0) ≡ false

@@ -13,20 +13,19 @@ use Rattle.scott_types.specs.declared.endings.Transfer.{Transfer}
 use Rattle.scott_types.specs.declared.endings.Transfer.TheVariants.{PickUp, PutDown}
 use Rattle.scott_types.specs.ItemText.{get_word}
 use Rattle.scott_types.specs.Action.{verb_of, noun_of}
-use Rattle.scott_types.specs.Database.{Database}
+use Rattle.scott_types.specs.Database.{Database, room_at}
 use Rattle.scott_types.specs.Limits.{KeepsLimits}
 use Rattle.scott_types.specs.Room.{room_behind}
-use Rattle.scott_types.specs.State.{Fits, is_room_of, is_dark}
+use Rattle.scott_types.specs.State.{is_place, Fits, is_room_of, is_dark}
 use Rattle.scott_rules.specs.Told.{Told, Step}
 use Rattle.scott_rules.specs.Words.{root, which}
 use Rattle.scott_rules.specs.Commands.{go_verb, get_verb, drop_verb, is_direction}
-use Rattle.scott_rules.specs.Looking.{room_at}
 use Rattle.scott_rules.specs.Lines.{LineOutcome}
 use Rattle.scott_rules.specs.Groups.{Group, AutoOutcome, group_tried, groups, over_of, auto_behind, auto_tried, auto_drawn, auto_group, automatic}
 use Rattle.scott_rules.specs.Search.{SearchOutcome, search_behind, search_group, is_for, searched}
 use Rattle.scott_rules.specs.Transfer.{Sweep, verb_for, destination, transferred, is_refused, is_met, sweep_moved, sweep_behind, sweep_item, sweep, is_too_dark, all_from, item_named, one_moved, one_from, one_transferred, is_all, transfer}
 use Rattle.scott_rules.specs.Rounds.{no_way, way, walked, unmatched, by_found, by_lines, going, obeyed}
-use Rattle.scott_rules.proofs.FittingStates.{is_place, place_from_room, is_room-zero, Fits-with_place, Fits-redraw, Fits-room}
+use Rattle.scott_rules.proofs.FittingStates.{place_from_room, is_room-zero, Fits-with_place, Fits-redraw, Fits-room}
 use Rattle.scott_rules.proofs.FittingLines.{LeavesFitting, Fits-group_tried}
 
 module _ (db : Database) (limits : KeepsLimits db) where

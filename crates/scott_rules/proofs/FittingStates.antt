@@ -20,7 +20,7 @@ use Rattle.scott_types.specs.declared.opcodes.CounterOp.{CounterOp}
 use Rattle.scott_types.specs.declared.opcodes.CounterOp.TheVariants.{Down, SetCounter, SwapCounter, Add, Subtract}
 use Rattle.scott_types.specs.Database.{Database}
 use Rattle.scott_types.specs.Limits.{KeepsLimits}
-use Rattle.scott_types.specs.State.{is_counter, is_room_of, has_item, carried_place, lamp, dark_flag, out_flag, place_of, with_place, with_flag, Fits}
+use Rattle.scott_types.specs.State.{is_place, is_counter, is_room_of, has_item, carried_place, lamp, dark_flag, out_flag, place_of, with_place, with_flag, Fits}
 use Rattle.scott_rules.specs.Opcodes.{moved, redrawn, swapped, items_moved, refilled, room_changed, flag_changed, with_counter, counter_changed, last_room, dead}
 
 -- ---- lists whose entries pass a test
@@ -54,10 +54,6 @@ is_counter-less : (z : ℤ) (n : ℕ) → IsTrue (is_counter z) → IsTrue (is_c
 is_counter-less z n fits = grind (arith, ints)
 
 -- ---- numbers of a database
-
--- a number that a place can have
-abbrev pub is_place : ℕ → Bool
-is_place place = nat_le place carried_place
 
 -- a database has a room, and at most 255
 rooms_range : (db : Database) → KeepsLimits db → (nat_le 1 (length db.rooms) ≡ true) × (nat_le (length db.rooms) 255 ≡ true)

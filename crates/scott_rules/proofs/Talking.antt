@@ -14,7 +14,7 @@ use Rattle.scott_types.specs.declared.endings.Found.TheVariants.{Over, Done, Mat
 use Rattle.scott_types.specs.declared.endings.Transfer.{Transfer}
 use Rattle.scott_types.specs.declared.endings.Transfer.TheVariants.{PickUp, PutDown}
 use Rattle.scott_types.specs.declared.phrases.Phrase.TheVariants.{TooMuch, ItemDone, DarkGet, BeyondPower, Done as DonePhrase, WhatItem, BrokenNeck, NoExitThere, Moved, DarkMove, NeedDirection, Prompt}
-use Rattle.scott_types.specs.Database.{Database}
+use Rattle.scott_types.specs.Database.{Database, room_at}
 use Rattle.scott_types.specs.Phrase.{text_of}
 use Rattle.scott_types.specs.Room.{exit_of}
 use Rattle.scott_types.specs.State.{is_dark}
@@ -26,7 +26,6 @@ use Rattle.scott_rules.specs.Lines.{LineOutcome, line_done, line_tried}
 use Rattle.scott_rules.specs.Groups.{Group, groups, tail_line, tail_tried, behind_head, group_tried}
 use Rattle.scott_rules.specs.Search.{SearchOutcome, is_for, search_behind, search_group, searched}
 use Rattle.scott_rules.specs.Transfer.{Sweep, verb_for, is_met, is_refused, is_too_dark, is_all, transferred, sweep_moved, sweep_behind, sweep_item, sweep, none_met, all_from, all_transferred, item_named, one_moved, one_from, one_transferred, transfer}
-use Rattle.scott_rules.specs.Looking.{room_at}
 use Rattle.scott_rules.specs.Light.{light_counted}
 use Rattle.scott_rules.specs.Rounds.{moved_to, no_way, way, walked, not_done, unmatched, by_found, by_lines, going, obeyed, turn_ended, by_heard, unknown_word}
 

@@ -4,12 +4,12 @@ use Rattle.std.specs.Ordering.{int_eq}
 use Rattle.scott_types.specs.declared.states.State.{State}
 use Rattle.scott_types.specs.declared.conditions.Condition.{Condition}
 use Rattle.scott_types.specs.declared.conditions.Condition.TheVariants.{Parameter, Carried, Here, Near, At, NotHere, NotCarried, NotAt, FlagSet, FlagClear, SomeCarried, NoneCarried, NotNear, InGame, OutOfGame, CounterAtMost, CounterOver, AtStart, NotAtStart, CounterIs}
-use Rattle.scott_types.specs.Database.{Database}
+use Rattle.scott_types.specs.Database.{Database, place_of_item}
 use Rattle.scott_types.specs.State.{place_of, is_here, is_carried, is_near, carried_count, flag_of}
 
 -- where an item was when the game began; one that isn't there at place 0
 abbrev pub start_place : Database → ℕ → ℕ
-start_place db item = slice_index (map (λ i. i.place) db.items) item
+start_place db item = slice_index (map place_of_item db.items) item
 
 abbrev pub holds : Database → State → ℕ → Condition → Bool
 holds db s a Parameter = true

@@ -8,7 +8,7 @@ use Rattle.scott_types.specs.declared.endings.Position.TheVariants.{Fresh, Over}
 use Rattle.scott_types.specs.Database.{Database}
 use Rattle.scott_types.specs.Limits.{KeepsLimits}
 use Rattle.scott_types.specs.ItemText.{is_starred}
-use Rattle.scott_types.specs.State.{Fits, start}
+use Rattle.scott_types.specs.State.{Fits}
 use Rattle.scott_rules.specs.Told.{Told, Step, telling, after, lines_taken, draws_taken, trace, shown_events, is_draw}
 use Rattle.scott_rules.specs.Words.{is_typed, spelling, entries_of, which}
 use Rattle.scott_rules.specs.Lines.{LineOutcome, line_done}
@@ -87,10 +87,6 @@ PlaySpends = (db : Database) (position : Position) (s : State) (lines : List (Li
 abbrev pub PlayFits : Type 0
 PlayFits = (db : Database) (position : Position) (s : State) (lines : List (List ℕ)) (draws : List ℕ)
     → KeepsLimits db → Fits db s → Fits db (go db position s lines draws).value.state
-
--- the first state fits
-abbrev pub StartFits : Type 0
-StartFits = (db : Database) → KeepsLimits db → Fits db (start db)
 
 -- a play stops at a prompt, at a draw or at the game's end, and never where a round begins
 abbrev pub PlayStops : Type 0

@@ -1,13 +1,12 @@
 -- What a look, the inventory and the score say.
-use Rattle.std.specs.Prelude.{ℕ, ◌*◌, ◌==◌, ◌&&◌, Bool, not, List, [], ◌∷◌, ◌++◌, map, filter, zip, drop, length, count_by, slice_index_or, decimal, ℤ, pos, int_div, if◌then◌else◌}
+use Rattle.std.specs.Prelude.{ℕ, ◌*◌, ◌==◌, ◌&&◌, Bool, not, List, [], ◌∷◌, ◌++◌, map, filter, zip, drop, length, count_by, decimal, ℤ, pos, int_div, if◌then◌else◌}
 use Rattle.std.specs.Ordering.{int_eq}
 use Rattle.std.specs.Fmt.{signed_decimal}
-use Rattle.scott_types.specs.declared.parts.Room.{Room}
 use Rattle.scott_types.specs.declared.parts.Item.{Item}
 use Rattle.scott_types.specs.declared.states.State.{State}
 use Rattle.scott_types.specs.declared.phrases.Phrase.{Phrase}
 use Rattle.scott_types.specs.declared.phrases.Phrase.TheVariants.{TooDark, InA, ObviousExits, North, South, East, West, Up, Down, NoExits, BetweenExits, ListEnd, AlsoSee, BetweenItems, CarryingList, NothingCarried, Stored, Rating, WellDone, GameOver, Newline}
-use Rattle.scott_types.specs.Database.{Database}
+use Rattle.scott_types.specs.Database.{Database, room_at}
 use Rattle.scott_types.specs.ItemText.{is_starred, shown, is_treasure}
 use Rattle.scott_types.specs.Room.{room_behind}
 use Rattle.scott_types.specs.State.{is_dark, carried_place}
@@ -31,9 +30,6 @@ joined_or none separator [] = none
 joined_or none separator (text ∷ texts) = joined separator (text ∷ texts)
 
 -- ---- the look
-
-abbrev pub room_at : Database → ℕ → Room
-room_at db room = slice_index_or db.rooms room (record { exits = []; text = [] })
 
 -- a room's text, with `I'm in a` unless it begins with `*`
 abbrev pub described : List ℕ → List ℕ

@@ -11,13 +11,13 @@ use Rattle.scott_types.specs.declared.endings.Halt.TheVariants.{Through, Waits, 
 use Rattle.scott_types.specs.declared.endings.Position.{Position}
 use Rattle.scott_types.specs.declared.endings.Position.TheVariants.{Fresh, Draw, Line, Over}
 use Rattle.scott_types.specs.declared.phrases.Phrase.TheVariants.{Prompt, UnknownFront, UnknownBack, NeedDirection, DarkMove, Moved, BrokenNeck, NoExitThere, NotYet, NotUnderstood}
-use Rattle.scott_types.specs.Database.{Database}
+use Rattle.scott_types.specs.Database.{Database, room_at}
 use Rattle.scott_types.specs.Room.{exit_of}
 use Rattle.scott_types.specs.Phrase.{text_of}
 use Rattle.scott_types.specs.State.{is_dark}
 use Rattle.scott_rules.specs.Told.{Told, Outcome, telling, saying, goes_on, Step, Took, says, after}
 use Rattle.scott_rules.specs.Commands.{heard, typed_noun, word_at, go_verb, get_verb, drop_verb, is_direction}
-use Rattle.scott_rules.specs.Looking.{looked, room_at}
+use Rattle.scott_rules.specs.Looking.{looked}
 use Rattle.scott_rules.specs.Light.{light_counted}
 use Rattle.scott_rules.specs.Opcodes.{by_fall}
 use Rattle.scott_rules.specs.Groups.{AutoOutcome, groups, groups_from, automatic}

@@ -1,5 +1,5 @@
 //! The laws of the rules. Each is the contract of a function that does nothing.
-ghost use Rattle.scott_rules.specs.Laws.{ShownIsTraceWithoutDraws, WordNamesLeastMatch, FailedLineDoesNothing, PlaySplits, PlaySpends, PlayFits, StartFits, PlayStops, EndingStays};
+ghost use Rattle.scott_rules.specs.Laws.{ShownIsTraceWithoutDraws, WordNamesLeastMatch, FailedLineDoesNothing, PlaySplits, PlaySpends, PlayFits, PlayStops, EndingStays};
 
 /// What a console shows is the trace without its draws.
 pub fn shown_is_trace_without_draws()
@@ -26,11 +26,6 @@ pub fn play_splits()
 /// What a play takes and draws, followed by what is left, is what there was.
 pub fn play_spends()
     ensures { PlaySpends }
-{}
-
-/// The first state fits its database.
-pub fn start_fits()
-    ensures { StartFits }
 {}
 
 /// Every state that a play leaves fits its database.

@@ -1,5 +1,5 @@
 -- A database as plain lists.
-use Rattle.std.specs.Prelude.{ℕ, List}
+use Rattle.std.specs.Prelude.{ℕ, List, [], slice_index_or}
 use Rattle.scott_types.specs.declared.parts.Header.{Header}
 use Rattle.scott_types.specs.declared.parts.Action.{Action}
 use Rattle.scott_types.specs.declared.parts.Word.{Word}
@@ -30,3 +30,11 @@ database_of p = record {
   comments = p.comments.items;
   trailer = p.trailer;
 }
+
+-- the room of a number; one that isn't there has no exits and no text
+abbrev pub room_at : Database → ℕ → Room
+room_at db room = slice_index_or db.rooms room (record { exits = []; text = [] })
+
+-- where an item is when the game begins
+abbrev pub place_of_item : Item → ℕ
+place_of_item item = item.place

@@ -2,7 +2,8 @@
 use Rattle.std.specs.Prelude.{ℕ, ◌≡◌, ◌==◌, ◌&&◌, ◌||◌, Bool, true, false, not, length, replicate, map, count_by, slice_index, slice_index_or, slice_set, nat_lt, nat_le, ℤ, pos, negsuc, ◌≤ℤ◌, int_le, IsTrue}
 use Rattle.std.specs.List.{list_all}
 use Rattle.scott_types.specs.declared.states.State.{State}
-use Rattle.scott_types.specs.Database.{Database}
+use Rattle.scott_types.specs.Limits.{KeepsLimits}
+use Rattle.scott_types.specs.Database.{Database, place_of_item}
 
 -- ---- places
 
@@ -67,12 +68,16 @@ start db = record {
   counters = replicate 16 (pos 0);
   flags = replicate 32 false;
   light = db.header.light;
-  places = record { items = map (λ item. item.place) db.items };
+  places = record { items = map place_of_item db.items };
   redraw = true;
 }
 
 abbrev pub is_room_of : Database → ℕ → Bool
 is_room_of db room = nat_lt room (length db.rooms)
+
+-- a number that a place can have
+abbrev pub is_place : ℕ → Bool
+is_place place = nat_le place carried_place
 
 abbrev pub is_counter : ℤ → Bool
 is_counter z = int_le (negsuc 0) z && int_le z (pos 32767)
@@ -90,7 +95,7 @@ pub record FitsCounters (s : State) : Type 0 where
 
 pub record FitsPlaces (db : Database) (s : State) : Type 0 where
   pub count : length s.places.items ≡ length db.items
-  pub places : IsTrue (list_all (λ place. nat_le place carried_place) s.places.items)
+  pub places : IsTrue (list_all is_place s.places.items)
 
 -- The rooms are rooms of the database, the counters lie in -1..32767, the light from -1 to the header's, and each item has a
 -- place of a byte. There are 16 backup rooms, 16 backup counters and 32 flags.
@@ -100,3 +105,7 @@ pub record Fits (db : Database) (s : State) : Type 0 where
   pub flags : length s.flags ≡ 32
   pub light : (negsuc 0 ≤ℤ s.light) × (s.light ≤ℤ db.header.light)
   pub places : FitsPlaces db s
+
+-- the first state fits
+abbrev pub StartFits : Type 0
+StartFits = (db : Database) → KeepsLimits db → Fits db (start db)

@@ -1,5 +1,6 @@
-//! The laws of the numbers in the file. Each is the contract of a function that does nothing.
+//! The laws of the numbers in the file, and of the first state. Each is the contract of a function that does nothing.
 ghost use Rattle.scott_types.specs.Codes.{CodeOfCondition, ConditionOfCode, FirstNumberIsKept, NumbersShareMeanings};
+ghost use Rattle.scott_types.specs.State.{StartFits};
 
 /// A condition that is decoded and encoded again has the code that it had.
 pub fn code_of_condition()
@@ -19,4 +20,9 @@ pub fn first_number_is_kept()
 /// Numbers that share a meaning are decoded alike.
 pub fn numbers_share_meanings()
     ensures { NumbersShareMeanings }
+{}
+
+/// The first state fits its database.
+pub fn start_fits()
+    ensures { StartFits }
 {}

@@ -2,23 +2,37 @@
 //! opcodes that they stand for.
 #![tactic(auto)]
 
-pub mod commands;
-pub mod conditions;
+// The database and its limits.
 pub mod databases;
-pub mod endings;
-pub mod laws;
 mod limits;
-pub mod opcodes;
-pub mod parameters;
 pub mod parts;
-pub mod phrases;
-pub mod states;
 pub mod texts;
 
+// Its texts and numbers, unpacked.
+pub mod action_lines;
+pub mod conditions;
+pub mod exits;
+pub mod item_texts;
+pub mod opcodes;
+pub mod parameters;
+
+// A play: its state, what a line means, how things end, and the fixed texts.
+pub mod commands;
+pub mod endings;
+mod fitting;
+pub mod phrases;
+pub mod states;
+
+// Laws of the above.
+pub mod laws;
+
+pub use action_lines::{condition, opcode};
 pub use commands::{Column, Heard, Words};
 pub use conditions::Condition;
 pub use databases::Db;
 pub use endings::{Ending, Found, Halt, Position, Ran, Transfer};
+pub use exits::exit;
+pub use item_texts::{get_word, is_treasure, shown, starts_with_star};
 pub use opcodes::{CounterOp, FlagOp, ItemOp, Opcode, RoomOp, TalkOp};
 pub use parameters::Parameter;
 pub use parts::{Action, Header, Item, Parts, Room, Trailer, Word};
