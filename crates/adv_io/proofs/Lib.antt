@@ -1,1 +1,5 @@
 pub mod TypedLines
+pub mod Histories
+pub mod Recordings
+pub mod Files
+pub mod Sayings

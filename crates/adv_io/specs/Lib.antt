@@ -1,1 +1,9 @@
 pub mod TypedLine
+pub mod Faults
+pub mod History
+pub mod Shelf
+pub mod Console
+pub mod Numbered
+pub mod Recorded
+pub mod Shelved
+pub mod Terminal

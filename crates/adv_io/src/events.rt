@@ -1,7 +1,7 @@
 //! What can happen in a play, seen from the outside.
 use crate::lines::Line;
 
-/// What can be seen of a play: a byte is said, a line is taken, or a draw of 1..100 is taken.
+/// One step of a play: a byte is said, a line is taken, or a draw of 1..100 is taken.
 ///
 /// A trace is a list of events in the order in which they happened.
 #[derive(Drop)]

@@ -40,6 +40,13 @@ impl Line {
         Line { kept }
     }
 
+    /// The same line once more.
+    pub fn copied(&self) -> Line
+        ensures { result ≡ self.now }
+    {
+        Line::of(self.bytes())
+    }
+
     /// The bytes of the line.
     pub fn bytes(&self) -> &[u8]
         ensures value { result.now ≡ self.now }

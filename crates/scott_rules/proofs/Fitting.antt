@@ -37,11 +37,11 @@ module _ (db : Database) (limits : KeepsLimits db) where
   -- the light goes out, or is dim, or burns on
   Fits-light_seen : (s : State) → Fits db s → Fits db (light_seen s).value
   Fits-light_seen s fits =
-      let on = cond_both (is_dim s) _ _ (λ (told : Told ℕ State). Fits db told.value) (λ _. fits) (λ _. fits) in
+      let on = cond_both (is_dim s.light) _ _ (λ (told : Told ℕ State). Fits db told.value) (λ _. fits) (λ _. fits) in
       cond_both (int_lt s.light (pos 1)) _ _ (λ (told : Told ℕ State). Fits db told.value) (λ _. Fits-with_flag db limits s out_flag true fits) (λ _. on)
 
   -- a turn burns the light
-  Fits-light_counted : (s : State) → Fits db s → Fits db (light_counted s).value
+  pub Fits-light_counted : (s : State) → Fits db s → Fits db (light_counted s).value
   Fits-light_counted s fits =
       cond_both (is_burning s) _ _ (λ (told : Told ℕ State). Fits db told.value)
       (λ burns. let unspent = not-true _ (and_parts _ _ burns).1 in

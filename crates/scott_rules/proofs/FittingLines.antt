@@ -4,7 +4,7 @@ use Rattle.std.proofs.lemmas.Bool.{cond_both}
 use Rattle.scott_types.specs.declared.states.State.{State}
 use Rattle.scott_types.specs.declared.parts.Action.{Action}
 use Rattle.scott_types.specs.declared.opcodes.Opcode.{Opcode}
-use Rattle.scott_types.specs.declared.opcodes.Opcode.TheVariants.{Nothing, Say, Get, Items, Rooms, Flags, Counters, Talk, Refill, Score, Die, Finish, Screen, Picture, More}
+use Rattle.scott_types.specs.declared.opcodes.Opcode.TheVariants.{Get, Items, Rooms, Flags, Counters, Refill, Die}
 use Rattle.scott_types.specs.declared.endings.Ran.{Ran}
 use Rattle.scott_types.specs.declared.endings.Ran.TheVariants.{Passed}
 use Rattle.scott_types.specs.Action.{opcode_numbers, parameters}
@@ -13,8 +13,7 @@ use Rattle.scott_types.specs.Limits.{KeepsLimits}
 use Rattle.scott_types.specs.Opcode.{opcode_of}
 use Rattle.scott_types.specs.State.{Fits, carried_place}
 use Rattle.scott_rules.specs.Told.{Told, Outcome, Step, then_if_on, and_then}
-use Rattle.scott_rules.specs.Looking.{all_stored}
-use Rattle.scott_rules.specs.Opcodes.{is_full, deed, op, course, takes}
+use Rattle.scott_rules.specs.Opcodes.{is_full, changed, op, course, takes}
 use Rattle.scott_rules.specs.Lines.{LineOutcome, action_at, passes, performed, line_tried}
 use Rattle.scott_rules.specs.Groups.{Group, tail_line, tail_tried, behind_head, group_tried}
 use Rattle.scott_rules.proofs.FittingStates.{Fits-moved, Fits-items_moved, Fits-refilled, Fits-room_changed, Fits-flag_changed, Fits-counter_changed, Fits-dead}
@@ -39,29 +38,21 @@ Fits-and_then : {E : Type 0} (db : Database) (t : Told E Outcome) (next : State 
 Fits-and_then db t next fits keeps = Fits-then_if_on db t.value.over t next fits keeps
 
 module _ (db : Database) (limits : KeepsLimits db) where
-  -- what an opcode does
-  Fits-deed : (noun : List ℕ) (opcode : Opcode) (p q : ℕ) (s : State) → Fits db s → Fits db (deed db noun opcode p q s).value.state
-  Fits-deed noun Nothing p q s fits = fits
-  Fits-deed noun (Say message) p q s fits = fits
-  Fits-deed noun Get p q s fits =
-      cond_both (is_full db s) _ _ (LeavesFitting db) (λ _. fits) (λ _. Fits-moved db limits s p carried_place refl fits)
-  Fits-deed noun (Items op) p q s fits = Fits-items_moved db limits op p q s fits
-  Fits-deed noun (Rooms op) p q s fits = Fits-room_changed db limits op p s fits
-  Fits-deed noun (Flags op) p q s fits = Fits-flag_changed db limits op p s fits
-  Fits-deed noun (Counters op) p q s fits = Fits-counter_changed db limits op p s fits
-  Fits-deed noun (Talk op) p q s fits = fits
-  Fits-deed noun Refill p q s fits = Fits-refilled db limits s fits
-  Fits-deed noun Score p q s fits =
-      cond_both (all_stored db s) _ _ (LeavesFitting db) (λ _. fits) (λ _. fits)
-  Fits-deed noun Die p q s fits = Fits-dead db limits s fits
-  Fits-deed noun Finish p q s fits = fits
-  Fits-deed noun Screen p q s fits = fits
-  Fits-deed noun Picture p q s fits = fits
-  Fits-deed noun More p q s fits = fits
+  -- what an opcode changes
+  pub Fits-changed : (opcode : Opcode) (p q : ℕ) (s : State) → Fits db s → Fits db (changed db opcode p q s)
+  Fits-changed Get p q s fits =
+      cond_both (is_full db s) _ _ (Fits db) (λ _. fits) (λ _. Fits-moved db limits s p carried_place refl fits)
+  Fits-changed (Items op) p q s fits = Fits-items_moved db limits op p q s fits
+  Fits-changed (Rooms op) p q s fits = Fits-room_changed db limits op p s fits
+  Fits-changed (Flags op) p q s fits = Fits-flag_changed db limits op p s fits
+  Fits-changed (Counters op) p q s fits = Fits-counter_changed db limits op p s fits
+  Fits-changed Refill p q s fits = Fits-refilled db limits s fits
+  Fits-changed Die p q s fits = Fits-dead db limits s fits
+  Fits-changed _ p q s fits = fits
 
   -- an opcode with the next of the parameters
   Fits-op : (noun : List ℕ) (opcode : Opcode) (params : List ℕ) (s : State) → Fits db s → Fits db (op db noun opcode params s).value.state
-  Fits-op noun opcode params s fits = Fits-deed noun opcode _ _ s fits
+  Fits-op noun opcode params s fits = Fits-changed opcode _ _ s fits
 
   -- opcodes in order
   Fits-course : (noun : List ℕ) (opcodes : List Opcode) (params : List ℕ) (s : State) → Fits db s → Fits db (course db noun opcodes params s).value.state
@@ -76,7 +67,7 @@ module _ (db : Database) (limits : KeepsLimits db) where
   Fits-performed false noun a s fits = fits
 
   -- the action line of a number
-  Fits-line_tried : (noun : List ℕ) (line : ℕ) (s : State) → Fits db s → Fits db (line_tried db noun line s).value.state
+  pub Fits-line_tried : (noun : List ℕ) (line : ℕ) (s : State) → Fits db s → Fits db (line_tried db noun line s).value.state
   Fits-line_tried noun line s fits = Fits-performed (passes db s (action_at db line)) noun (action_at db line) s fits
 
   -- the lines of a tail

@@ -7,4 +7,3 @@ pub mod FittingStates
 pub mod FittingLines
 pub mod FittingCommands
 pub mod Fitting
-pub mod Showing

@@ -10,8 +10,11 @@ use Rattle.scott_types.specs.declared.phrases.Phrase.TheVariants.{Prompt}
 use Rattle.scott_types.specs.Database.{Database}
 use Rattle.scott_types.specs.Action.{verb_of, noun_of}
 use Rattle.scott_types.specs.Phrase.{text_of}
-use Rattle.std.specs.List.{filter_map, cons_option}
-use Rattle.scott_rules.specs.Told.{Told, Step, says, line_of, draw_of}
+use Rattle.std.specs.Prelude.{filter_map}
+use Rattle.std.proofs.lemmas.List.Elements.{filter_map-append}
+use Rattle.adv_io.specs.declared.events.Event.{Event}
+use Rattle.adv_io.specs.History.{line_taken, draw_taken}
+use Rattle.scott_rules.specs.Told.{Told, Step, says, event_of, trace}
 use Rattle.scott_rules.specs.Commands.{heard}
 use Rattle.scott_rules.specs.Lines.{LineOutcome}
 use Rattle.scott_rules.specs.Groups.{Group, AutoOutcome, groups, groups_from, over_of, group_tried, auto_behind, auto_tried, auto_drawn, auto_group, automatic}
@@ -22,28 +25,24 @@ use Rattle.scott_rules.proofs.Talking.{Talks, Talks-says, lines_taken-talk, draw
 
 -- ---- one part behind another
 
-cons_option-append : {Y : Type 0} (o : Option Y) (xs ys : List Y) → cons_option o (xs ++ ys) ≡ cons_option o xs ++ ys
-cons_option-append None xs ys = refl
-cons_option-append (Some y) xs ys = refl
-
-pub filter_map-append : {X Y : Type 0} (f : X → Option Y) (xs ys : List X) → filter_map f (xs ++ ys) ≡ filter_map f xs ++ filter_map f ys
-filter_map-append f [] ys = refl
-filter_map-append f (x ∷ xs) ys =
-    ap (cons_option (f x)) (filter_map-append f xs ys) ∙ cons_option-append (f x) (filter_map f xs) (filter_map f ys)
+trace-append : (es fs : List Step) → trace (es ++ fs) ≡ trace es ++ trace fs
+trace-append es fs = filter_map-append event_of es fs
 
 -- what is gathered from two parts in turn
-gathered : {Y : Type 0} (f : Step → Option Y) (es fs : List Step) (all between left : List Y)
-    → filter_map f es ++ between ≡ all → filter_map f fs ++ left ≡ between → filter_map f (es ++ fs) ++ left ≡ all
+gathered : {Y : Type 0} (f : Event → Option Y) (es fs : List Step) (all between left : List Y)
+    → filter_map f (trace es) ++ between ≡ all → filter_map f (trace fs) ++ left ≡ between → filter_map f (trace (es ++ fs)) ++ left ≡ all
 gathered f es fs all between left h k =
-    ap (λ ys. ys ++ left) (filter_map-append f es fs) ∙ append_assoc (filter_map f es) (filter_map f fs) left
-    ∙ ap (λ ys. filter_map f es ++ ys) k ∙ h
+    ap (λ events. filter_map f events ++ left) (trace-append es fs)
+    ∙ ap (λ ys. ys ++ left) (filter_map-append f (trace es) (trace fs))
+    ∙ append_assoc (filter_map f (trace es)) (filter_map f (trace fs)) left
+    ∙ ap (λ ys. filter_map f (trace es) ++ ys) k ∙ h
 
 module _ (ls : List (List ℕ)) (ds : List ℕ) (es fs : List Step) where
   Spends-append : (ls' : List (List ℕ)) (ds' : List ℕ) (left : List (List ℕ)) (draws_left : List ℕ)
       → Spends ls ds es ls' ds' → Spends ls' ds' fs left draws_left → Spends ls ds (es ++ fs) left draws_left
   Spends-append ls' ds' left draws_left h k = record {
-    lines_spent = gathered line_of es fs ls ls' left h.lines_spent k.lines_spent;
-    draws_spent = gathered draw_of es fs ds ds' draws_left h.draws_spent k.draws_spent;
+    lines_spent = gathered line_taken es fs ls ls' left h.lines_spent k.lines_spent;
+    draws_spent = gathered draw_taken es fs ds ds' draws_left h.draws_spent k.draws_spent;
   }
 
 -- what only says and tries leaves all lines and draws

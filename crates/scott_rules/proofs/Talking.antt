@@ -2,6 +2,7 @@
 use Rattle.std.proofs.Common.{◌≡◌, ◌+◌, ◌-◌, ℕ, List, [], ◌∷◌, ◌++◌, length, Bool, true, false, cond, eqb, Option, Some, None, refl}
 use Rattle.std.specs.Prelude.{◌&&◌}
 use Rattle.std.specs.List.{list_all}
+use Rattle.adv_io.specs.History.{lines_taken, draws_taken}
 use Rattle.scott_types.specs.declared.parts.Item.{Item}
 use Rattle.scott_types.specs.declared.states.State.{State}
 use Rattle.scott_types.specs.declared.commands.Heard.{Heard}
@@ -19,7 +20,7 @@ use Rattle.scott_types.specs.Phrase.{text_of}
 use Rattle.scott_types.specs.Room.{exit_of}
 use Rattle.scott_types.specs.State.{is_dark}
 use Rattle.scott_types.specs.ItemText.{get_word, shown}
-use Rattle.scott_rules.specs.Told.{Told, Outcome, Step, Said, Took, Drew, Tried, says, saying, goes_on, and_then, then_if_on, lines_taken, draws_taken}
+use Rattle.scott_rules.specs.Told.{Told, Outcome, Step, Said, Took, Drew, Tried, says, saying, goes_on, and_then, then_if_on, trace}
 use Rattle.scott_rules.specs.Words.{which, root}
 use Rattle.scott_rules.specs.Commands.{is_direction, typed_noun, word_at, go_verb, get_verb, drop_verb}
 use Rattle.scott_rules.specs.Lines.{LineOutcome, line_done, line_tried}
@@ -53,14 +54,14 @@ Talks-append [] fs h k = k
 Talks-append (e ∷ es) fs h k =
     and-front (is_talk e) (list_all is_talk es) (list_all is_talk (es ++ fs)) h (λ rest. Talks-append es fs rest k)
 
-pub lines_taken-talk : (es : List Step) → Talks es → lines_taken es ≡ []
+pub lines_taken-talk : (es : List Step) → Talks es → lines_taken (trace es) ≡ []
 lines_taken-talk [] h = refl
 lines_taken-talk (Said byte ∷ es) h = lines_taken-talk es h
 lines_taken-talk (Tried line ∷ es) h = lines_taken-talk es h
 lines_taken-talk (Took line ∷ es) h = cc
 lines_taken-talk (Drew draw ∷ es) h = cc
 
-pub draws_taken-talk : (es : List Step) → Talks es → draws_taken es ≡ []
+pub draws_taken-talk : (es : List Step) → Talks es → draws_taken (trace es) ≡ []
 draws_taken-talk [] h = refl
 draws_taken-talk (Said byte ∷ es) h = draws_taken-talk es h
 draws_taken-talk (Tried line ∷ es) h = draws_taken-talk es h

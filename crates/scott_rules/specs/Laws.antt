@@ -1,24 +1,22 @@
 -- The laws of the rules, in the subject's own words.
-use Rattle.std.specs.Prelude.{not, filter, ℕ, ◌≡◌, ◌≢◌, ◌<◌, ◌≤◌, ◌++◌, List, [], length, slice_index_or, IsTrue, IsFalse, MatchOption}
+use Rattle.std.specs.Prelude.{ℕ, ◌≡◌, ◌≢◌, ◌<◌, ◌≤◌, ◌++◌, List, [], length, slice_index_or, IsTrue, IsFalse, MatchOption}
+use Rattle.adv_io.specs.History.{lines_taken, draws_taken}
 use Rattle.scott_types.specs.declared.states.State.{State}
 use Rattle.scott_types.specs.declared.commands.Column.{Column}
 use Rattle.scott_types.specs.declared.endings.Ran.TheVariants.{Not}
 use Rattle.scott_types.specs.declared.endings.Position.{Position}
 use Rattle.scott_types.specs.declared.endings.Position.TheVariants.{Fresh, Over}
+use Rattle.scott_types.specs.declared.opcodes.Opcode.{Opcode}
 use Rattle.scott_types.specs.Database.{Database}
 use Rattle.scott_types.specs.Limits.{KeepsLimits}
 use Rattle.scott_types.specs.ItemText.{is_starred}
 use Rattle.scott_types.specs.State.{Fits}
-use Rattle.scott_rules.specs.Told.{Told, Step, telling, after, lines_taken, draws_taken, trace, shown_events, is_draw}
+use Rattle.scott_rules.specs.Told.{Told, Step, telling, after, trace}
 use Rattle.scott_rules.specs.Words.{is_typed, spelling, entries_of, which}
 use Rattle.scott_rules.specs.Lines.{LineOutcome, line_done}
+use Rattle.scott_rules.specs.Light.{light_counted}
+use Rattle.scott_rules.specs.Opcodes.{changed}
 use Rattle.scott_rules.specs.Play.{Stop, go}
-
--- ---- what is seen
-
--- what a console shows is the trace without its draws
-abbrev pub ShownIsTraceWithoutDraws : Type 0
-ShownIsTraceWithoutDraws = (steps : List Step) → shown_events steps ≡ filter (λ event. not (is_draw event)) (trace steps)
 
 -- ---- words
 
@@ -75,13 +73,25 @@ PlaySplits = (db : Database) (position : Position) (s : State) (lines more : Lis
 
 -- what the steps take and draw, followed by what is left behind them, is what there was before them
 pub record Spends (lines : List (List ℕ)) (draws : List ℕ) (steps : List Step) (lines_left : List (List ℕ)) (draws_left : List ℕ) : Type 0 where
-  pub lines_spent : lines_taken steps ++ lines_left ≡ lines
-  pub draws_spent : draws_taken steps ++ draws_left ≡ draws
+  pub lines_spent : lines_taken (trace steps) ++ lines_left ≡ lines
+  pub draws_spent : draws_taken (trace steps) ++ draws_left ≡ draws
 
 -- what a play takes and draws, followed by what is left, is what there was
 abbrev pub PlaySpends : Type 0
 PlaySpends = (db : Database) (position : Position) (s : State) (lines : List (List ℕ)) (draws : List ℕ)
     → let t = go db position s lines draws in Spends lines draws t.events t.value.lines t.value.draws
+
+-- a turn of the light leaves a state that fits
+abbrev pub LightFits : Type 0
+LightFits = (db : Database) (s : State) → KeepsLimits db → Fits db s → Fits db (light_counted s).value
+
+-- an opcode leaves a state that fits
+abbrev pub OpcodeFits : Type 0
+OpcodeFits = (db : Database) (opcode : Opcode) (p q : ℕ) (s : State) → KeepsLimits db → Fits db s → Fits db (changed db opcode p q s)
+
+-- an action line leaves a state that fits
+abbrev pub LineFits : Type 0
+LineFits = (db : Database) (noun : List ℕ) (line : ℕ) (s : State) → KeepsLimits db → Fits db s → Fits db (line_done db noun line s).value.state
 
 -- every state that a play leaves fits its database
 abbrev pub PlayFits : Type 0

@@ -1,5 +1,5 @@
 -- How a turn burns the light.
-use Rattle.std.specs.Prelude.{ℕ, ◌==◌, ◌&&◌, Bool, true, not, List, [], pos, negsuc, ◌-ℤ◌, int_lt, int_rem, if◌then◌else◌}
+use Rattle.std.specs.Prelude.{ℕ, ◌==◌, ◌&&◌, Bool, true, not, List, [], ℤ, pos, negsuc, ◌-ℤ◌, int_lt, int_rem, if◌then◌else◌}
 use Rattle.std.specs.Ordering.{int_eq}
 use Rattle.scott_types.specs.declared.states.State.{State}
 use Rattle.scott_types.specs.declared.phrases.Phrase.TheVariants.{LightOut, LightDim}
@@ -15,14 +15,14 @@ is_burning s = not (place_of s lamp == 0) && not (int_eq s.light (negsuc 0))
 abbrev pub said_near : State → List ℕ → List ℕ
 said_near s text = if is_near s lamp then text else []
 
-abbrev pub is_dim : State → Bool
-is_dim s = int_lt s.light (pos 25) && int_eq (int_rem s.light (pos 5)) (pos 0)
+abbrev pub is_dim : ℤ → Bool
+is_dim light = int_lt light (pos 25) && int_eq (int_rem light (pos 5)) (pos 0)
 
 -- after the light has fallen: below 1 it is out, and below 25 each fifth turn it is dim
 abbrev pub light_seen : State → Told ℕ State
 light_seen s =
     if int_lt s.light (pos 1) then telling (said_near s (text_of LightOut)) (with_flag s out_flag true) else
-    if is_dim s then telling (said_near s (text_of LightDim)) s else telling [] s
+    if is_dim s.light then telling (said_near s (text_of LightDim)) s else telling [] s
 
 abbrev pub light_counted : State → Told ℕ State
 light_counted s = if is_burning s then light_seen (record s { light = s.light -ℤ pos 1 }) else telling [] s

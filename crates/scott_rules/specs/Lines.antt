@@ -17,15 +17,22 @@ use Rattle.scott_rules.specs.Opcodes.{course}
 abbrev pub action_at : Database → ℕ → Action
 action_at db line = slice_index_or db.actions line (record { vocab = 0; conds = []; pairs = [] })
 
+-- a packed condition holds
+abbrev pub condition_holds : Database → State → ℕ → Bool
+condition_holds db s packed = holds db s (argument_of packed) (condition_of (condition_code packed))
+
 abbrev pub passes : Database → State → Action → Bool
-passes db s a = list_all (λ c. holds db s (argument_of c) (condition_of (condition_code c))) a.conds
+passes db s a = list_all (condition_holds db s) a.conds
 
 -- the number of the opcode that goes on with the tail
 abbrev pub more_number : ℕ
 more_number = 73
 
+abbrev pub is_more : ℕ → Bool
+is_more number = number == more_number
+
 abbrev pub goes_on_behind : Action → Bool
-goes_on_behind a = list_any (λ n. n == more_number) (opcode_numbers a)
+goes_on_behind a = list_any is_more (opcode_numbers a)
 
 -- a state, and what became of the line
 pub record LineOutcome : Type 0 where

@@ -1,5 +1,5 @@
 -- What a look, the inventory and the score say.
-use Rattle.std.specs.Prelude.{ℕ, ◌*◌, ◌==◌, ◌&&◌, Bool, not, List, [], ◌∷◌, ◌++◌, map, filter, zip, drop, length, count_by, decimal, ℤ, pos, int_div, if◌then◌else◌}
+use Rattle.std.specs.Prelude.{ℕ, ◌*◌, ◌==◌, ◌&&◌, Bool, not, List, [], ◌∷◌, ◌++◌, map, filter, flat_map, zip, drop, length, count_by, decimal, ℤ, pos, int_div, if◌then◌else◌}
 use Rattle.std.specs.Ordering.{int_eq}
 use Rattle.std.specs.Fmt.{signed_decimal}
 use Rattle.scott_types.specs.declared.parts.Item.{Item}
@@ -18,11 +18,10 @@ use Rattle.scott_types.specs.Phrase.{text_of}
 abbrev pub chosen : {A B : Type 0} → (B → Bool) → (A → List ℕ) → List A → List B → List (List ℕ)
 chosen passes text entries partners = map (λ pair. text pair.0) (filter (λ pair. passes pair.1) (zip entries partners))
 
--- the texts with a separator between each two
+-- the first text, and each other one behind a separator
 abbrev pub joined : List ℕ → List (List ℕ) → List ℕ
 joined separator [] = []
-joined separator (text ∷ []) = text
-joined separator (text ∷ other ∷ texts) = text ++ (separator ++ joined separator (other ∷ texts))
+joined separator (text ∷ texts) = text ++ flat_map (λ other. separator ++ other) texts
 
 -- the same, or another text where there are none
 abbrev pub joined_or : List ℕ → List ℕ → List (List ℕ) → List ℕ
@@ -41,21 +40,26 @@ directions = North ∷ South ∷ East ∷ West ∷ Up ∷ Down ∷ []
 abbrev pub exit_names : Database → ℕ → List (List ℕ)
 exit_names db room = chosen (λ exit. not (room_behind (length db.rooms) exit == 0)) text_of directions (room_at db room).exits
 
-abbrev pub exits_listed : Database → ℕ → List ℕ
-exits_listed db room = text_of ObviousExits ++ (joined_or (text_of NoExits) (text_of BetweenExits) (exit_names db room) ++ text_of ListEnd)
+abbrev pub exits_listed : List (List ℕ) → List ℕ
+exits_listed names = text_of ObviousExits ++ (joined_or (text_of NoExits) (text_of BetweenExits) names ++ text_of ListEnd)
 
--- the shown texts of the items at a place
+-- what is shown of the items whose place is this one
+abbrev pub items_at_place : List Item → List ℕ → ℕ → List (List ℕ)
+items_at_place items places place = chosen (λ at. at == place) (λ item. shown item.text) items places
+
 abbrev pub items_at : Database → State → ℕ → List (List ℕ)
-items_at db s place = chosen (λ at. at == place) (λ (item : Item). shown item.text) db.items s.places.items
+items_at db s place = items_at_place db.items s.places.items place
 
 abbrev pub items_seen : List (List ℕ) → List ℕ
 items_seen [] = []
 items_seen (text ∷ texts) = text_of AlsoSee ++ (joined (text_of BetweenItems) (text ∷ texts) ++ text_of Newline)
 
+abbrev pub seen_in_light : Database → State → List ℕ
+seen_in_light db s =
+    described (room_at db s.room).text ++ (exits_listed (exit_names db s.room) ++ items_seen (items_at db s s.room))
+
 abbrev pub looked : Database → State → List ℕ
-looked db s =
-    if is_dark s then text_of TooDark else
-    described (room_at db s.room).text ++ (exits_listed db s.room ++ items_seen (items_at db s s.room))
+looked db s = if is_dark s then text_of TooDark else seen_in_light db s
 
 -- ---- the inventory
 
@@ -65,21 +69,39 @@ inventory db s =
 
 -- ---- the score
 
+-- an item is a treasure, and its place is the treasure room
+abbrev pub is_stored : ℤ → Item → ℕ → Bool
+is_stored home item place = is_treasure item.text && int_eq (pos place) home
+
+abbrev pub count_stored : ℤ → List Item → List ℕ → ℕ
+count_stored home items places = count_by (λ pair. is_stored home pair.0 pair.1) (zip items places)
+
 -- how many treasures are where treasures are stored
 abbrev pub stored_count : Database → State → ℕ
-stored_count db s = count_by (λ pair. is_treasure pair.0.text && int_eq (pos pair.1) db.header.home) (zip db.items s.places.items)
+stored_count db s = count_stored db.header.home db.items s.places.items
 
 -- how many hundredths of all treasures are stored, toward zero, and 0 where there are none to store
 abbrev pub rate : ℤ → ℕ → ℤ
 rate treasures stored = if int_eq treasures (pos 0) then pos 0 else int_div (pos (stored * 100)) treasures
 
+-- there are treasures to store, and as many are stored
+abbrev pub is_full_score : ℤ → ℕ → Bool
+is_full_score treasures stored = not (int_eq treasures (pos 0)) && int_eq (pos stored) treasures
+
 abbrev pub all_stored : Database → State → Bool
-all_stored db s = not (int_eq db.header.treasures (pos 0)) && int_eq (pos (stored_count db s)) db.header.treasures
+all_stored db s = is_full_score db.header.treasures (stored_count db s)
 
 abbrev pub praise : Bool → List ℕ
 praise all = if all then text_of WellDone ++ text_of GameOver else []
 
+-- the texts of a score, around its two numbers
+abbrev pub score_around : List ℕ → List ℕ → Bool → List ℕ
+score_around stored hundredths full =
+    text_of Stored ++ (stored ++ (text_of Rating ++ (hundredths ++ (text_of ListEnd ++ praise full))))
+
+abbrev pub score_text : ℤ → ℕ → List ℕ
+score_text treasures stored =
+    score_around (decimal stored) (signed_decimal (rate treasures stored)) (is_full_score treasures stored)
+
 abbrev pub scored : Database → State → List ℕ
-scored db s =
-    text_of Stored ++ (decimal (stored_count db s) ++ (text_of Rating
-    ++ (signed_decimal (rate db.header.treasures (stored_count db s)) ++ (text_of ListEnd ++ praise (all_stored db s)))))
+scored db s = score_text db.header.treasures (stored_count db s)

@@ -1,11 +1,11 @@
 -- What an opcode says and does with its parameters.
-use Rattle.std.specs.Prelude.{ℕ, ◌-◌, ◌%◌, ◌==◌, ◌||◌, ◌&&◌, Bool, true, false, List, [], ◌∷◌, ◌++◌, length, drop, slice_index, slice_index_or, slice_set, nat_lt, ℤ, pos, negsuc, ◌+ℤ◌, ◌-ℤ◌, int_le, Some, if◌then◌else◌}
+use Rattle.std.specs.Prelude.{Option, Some, None, ℕ, ◌-◌, ◌%◌, ◌==◌, ◌||◌, ◌&&◌, Bool, true, false, List, [], ◌∷◌, ◌++◌, length, drop, slice_index, slice_index_or, slice_set, nat_lt, ℤ, pos, negsuc, ◌+ℤ◌, ◌-ℤ◌, int_le, Some, if◌then◌else◌}
 use Rattle.std.specs.Ordering.{int_eq}
 use Rattle.std.specs.Int.{int_min, int_max}
 use Rattle.std.specs.Fmt.{signed_decimal}
 use Rattle.scott_types.specs.declared.states.State.{State}
 use Rattle.scott_types.specs.declared.opcodes.Opcode.{Opcode}
-use Rattle.scott_types.specs.declared.opcodes.Opcode.TheVariants.{Nothing, Say, Get, Items, Rooms, Flags, Counters, Talk, Refill, Score, Die, Finish, Screen, Picture, More}
+use Rattle.scott_types.specs.declared.opcodes.Opcode.TheVariants.{Say, Get, Items, Rooms, Flags, Counters, Talk, Refill, Score, Die, Finish}
 use Rattle.scott_types.specs.declared.opcodes.ItemOp.{ItemOp}
 use Rattle.scott_types.specs.declared.opcodes.ItemOp.TheVariants.{Drop, Remove, Put, Swap, Take, Join}
 use Rattle.scott_types.specs.declared.opcodes.RoomOp.{RoomOp}
@@ -57,11 +57,15 @@ refilled db s = moved (with_flag (record s { light = db.header.light }) out_flag
 
 -- ---- the room, flags and the counter
 
+-- the room is exchanged for a backup room, where that is there
+abbrev pub with_backup_room : ℕ → State → State
+with_backup_room p s =
+    if nat_lt p 16 then record s { room = slice_index s.rooms p; rooms = slice_set s.rooms p s.room; redraw = true } else s
+
 abbrev pub room_changed : Database → RoomOp → ℕ → State → State
 room_changed db Go p s = if is_room_of db p then record s { room = p; redraw = true } else s
 room_changed db SwapSaved p s = record s { room = s.saved; saved = s.room; redraw = true }
-room_changed db SwapRoom p s =
-    if nat_lt p 16 then record s { room = slice_index s.rooms p; rooms = slice_set s.rooms p s.room; redraw = true } else s
+room_changed db SwapRoom p s = with_backup_room p s
 
 -- a flag above 31 isn't there, and nothing is set
 abbrev pub flag_changed : FlagOp → ℕ → State → State
@@ -78,11 +82,15 @@ most_count = pos 32767
 abbrev pub with_counter : State → ℤ → State
 with_counter s n = record s { counter = n }
 
+-- the counter is exchanged for a backup counter, where that is there
+abbrev pub with_backup_counter : ℕ → State → State
+with_backup_counter p s =
+    if nat_lt p 16 then record s { counter = slice_index_or s.counters p (pos 0); counters = slice_set s.counters p s.counter } else s
+
 abbrev pub counter_changed : CounterOp → ℕ → State → State
 counter_changed Down p s = if int_le (pos 0) s.counter then with_counter s (s.counter -ℤ pos 1) else s
 counter_changed SetCounter p s = with_counter s (int_min (pos p) most_count)
-counter_changed SwapCounter p s =
-    if nat_lt p 16 then record s { counter = slice_index_or s.counters p (pos 0); counters = slice_set s.counters p s.counter } else s
+counter_changed SwapCounter p s = with_backup_counter p s
 counter_changed Add p s = with_counter s (int_min (s.counter +ℤ pos p) most_count)
 counter_changed Subtract p s = with_counter s (int_max (s.counter -ℤ pos p) (negsuc 0))
 
@@ -104,21 +112,33 @@ talk db noun Newline s = text_of phrase.Newline
 
 -- ---- one opcode
 
-abbrev pub quietly : State → Told ℕ Outcome
-quietly s = telling [] (goes_on s)
-
-abbrev pub says_only : List ℕ → State → Told ℕ Outcome
-says_only bytes s = telling bytes (goes_on s)
-
-abbrev pub ends : List ℕ → State → ℕ → Told ℕ Outcome
-ends bytes s ending = telling bytes (record { state = s; over = Some ending })
-
 -- the highest room, where the dead wake
 abbrev pub last_room : Database → ℕ
 last_room db = length db.rooms - 1
 
 abbrev pub dead : Database → State → State
 dead db s = record (with_flag s dark_flag false) { room = last_room db }
+
+-- what an opcode changes, with its first and second parameter
+abbrev pub changed : Database → Opcode → ℕ → ℕ → State → State
+changed db Get p q s = if is_full db s then s else moved s p carried_place
+changed db (Items op) p q s = items_moved op p q s
+changed db (Rooms op) p q s = room_changed db op p s
+changed db (Flags op) p q s = flag_changed op p s
+changed db (Counters op) p q s = counter_changed op p s
+changed db Refill p q s = refilled db s
+changed db Die p q s = dead db s
+changed db _ p q s = s
+
+-- what it says, of the state that it leaves, where the hands were full before it or not
+abbrev pub told : Database → List ℕ → Opcode → Bool → State → List ℕ
+told db noun (Say message) full s = said_message db message
+told db noun Get full s = if full then text_of TooMuch else []
+told db noun (Talk op) full s = talk db noun op s
+told db noun Score full s = scored db s
+told db noun Die full s = text_of Dead ++ looked db s
+told db noun Finish full s = text_of GameOver
+told db noun _ full s = []
 
 -- the endings: an opcode ended the game, the player fell in the dark, all treasures are stored
 abbrev pub by_opcode : ℕ
@@ -130,23 +150,17 @@ by_fall = 2
 abbrev pub by_score : ℕ
 by_score = 3
 
--- what an opcode does with its first and second parameter
+-- how it ends the game, if it does
+abbrev pub ending : Database → Opcode → State → Option ℕ
+ending db Score s = if all_stored db s then Some by_score else None
+ending db Finish s = Some by_opcode
+ending db _ s = None
+
+-- what an opcode does
 abbrev pub deed : Database → List ℕ → Opcode → ℕ → ℕ → State → Told ℕ Outcome
-deed db noun Nothing p q s = quietly s
-deed db noun (Say message) p q s = says_only (said_message db message) s
-deed db noun Get p q s = if is_full db s then says_only (text_of TooMuch) s else quietly (moved s p carried_place)
-deed db noun (Items op) p q s = quietly (items_moved op p q s)
-deed db noun (Rooms op) p q s = quietly (room_changed db op p s)
-deed db noun (Flags op) p q s = quietly (flag_changed op p s)
-deed db noun (Counters op) p q s = quietly (counter_changed op p s)
-deed db noun (Talk op) p q s = says_only (talk db noun op s) s
-deed db noun Refill p q s = quietly (refilled db s)
-deed db noun Score p q s = if all_stored db s then ends (scored db s) s by_score else says_only (scored db s) s
-deed db noun Die p q s = says_only (text_of Dead ++ looked db (dead db s)) (dead db s)
-deed db noun Finish p q s = ends (text_of GameOver) s by_opcode
-deed db noun Screen p q s = quietly s
-deed db noun Picture p q s = quietly s
-deed db noun More p q s = quietly s
+deed db noun opcode p q s =
+    let after = changed db opcode p q s in
+    telling (told db noun opcode (is_full db s) after) (record { state = after; over = ending db opcode after })
 
 -- ---- one opcode behind another
 
@@ -161,6 +175,6 @@ op db noun opcode params s = deed db noun opcode (slice_index params 0) (slice_i
 
 -- opcodes in order, each with the parameters that those before it left, until the game is over
 abbrev pub course : Database → List ℕ → List Opcode → List ℕ → State → Told ℕ Outcome
-course db noun [] params s = quietly s
+course db noun [] params s = telling [] (goes_on s)
 course db noun (opcode ∷ opcodes) params s =
     and_then (op db noun opcode params s) (course db noun opcodes (drop (takes db s opcode) params))

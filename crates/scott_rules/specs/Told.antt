@@ -1,5 +1,5 @@
 -- What a part of a play told, and what it left: one record at every level.
-use Rattle.std.specs.Prelude.{ℕ, Bool, true, false, List, ◌++◌, map, Option, Some, None}
+use Rattle.std.specs.Prelude.{ℕ, List, ◌++◌, map, Option, Some, None}
 use Rattle.std.specs.List.{filter_map}
 use Rattle.adv_io.specs.declared.events.Event.{Event}
 use Rattle.adv_io.specs.declared.events.Event.TheVariants.{Say, Take, Draw}
@@ -60,43 +60,10 @@ event_of (Took line) = Some (Take line)
 event_of (Drew draw) = Some (Draw draw)
 event_of (Tried line) = None
 
--- the events: bytes, lines and draws
+-- The events: bytes, lines and draws. What a console shows is the trace without its draws, and the lines and draws that were
+-- taken are its other kinds (`shown`, `lines_taken` and `draws_taken` of a history).
 abbrev pub trace : List Step → List Event
 trace steps = filter_map event_of steps
-
-abbrev pub shown_event : Step → Option Event
-shown_event (Said byte) = Some (Say byte)
-shown_event (Took line) = Some (Take line)
-shown_event _ = None
-
-abbrev pub is_draw : Event → Bool
-is_draw (Draw draw) = true
-is_draw _ = false
-
--- the events that a console shows: bytes and lines
-abbrev pub shown_events : List Step → List Event
-shown_events steps = filter_map shown_event steps
-
-abbrev pub byte_of : Step → Option ℕ
-byte_of (Said byte) = Some byte
-byte_of _ = None
-
-abbrev pub transcript : List Step → List ℕ
-transcript steps = filter_map byte_of steps
-
-abbrev pub line_of : Step → Option (List ℕ)
-line_of (Took line) = Some line
-line_of _ = None
-
-abbrev pub lines_taken : List Step → List (List ℕ)
-lines_taken steps = filter_map line_of steps
-
-abbrev pub draw_of : Step → Option ℕ
-draw_of (Drew draw) = Some draw
-draw_of _ = None
-
-abbrev pub draws_taken : List Step → List ℕ
-draws_taken steps = filter_map draw_of steps
 
 abbrev pub tried_of : Step → Option ℕ
 tried_of (Tried line) = Some line

@@ -1,10 +1,5 @@
 //! The laws of the rules. Each is the contract of a function that does nothing.
-ghost use Rattle.scott_rules.specs.Laws.{ShownIsTraceWithoutDraws, WordNamesLeastMatch, FailedLineDoesNothing, PlaySplits, PlaySpends, PlayFits, PlayStops, EndingStays};
-
-/// What a console shows is the trace without its draws.
-pub fn shown_is_trace_without_draws()
-    ensures { ShownIsTraceWithoutDraws }
-{}
+ghost use Rattle.scott_rules.specs.Laws.{WordNamesLeastMatch, FailedLineDoesNothing, PlaySplits, PlaySpends, LightFits, OpcodeFits, LineFits, PlayFits, PlayStops, EndingStays};
 
 /// A word names the plain entry of the least entry that matches it, which is the nearest plain entry
 /// at or before it; and no entry where none matches.
@@ -26,6 +21,21 @@ pub fn play_splits()
 /// What a play takes and draws, followed by what is left, is what there was.
 pub fn play_spends()
     ensures { PlaySpends }
+{}
+
+/// A turn of the light leaves a state that fits its database.
+pub fn light_fits()
+    ensures { LightFits }
+{}
+
+/// An opcode leaves a state that fits its database.
+pub fn opcode_fits()
+    ensures { OpcodeFits }
+{}
+
+/// An action line leaves a state that fits its database.
+pub fn line_fits()
+    ensures { LineFits }
 {}
 
 /// Every state that a play leaves fits its database.

@@ -1,3 +1,3 @@
 pub mod Tables
-pub mod Places
+pub mod FirstPlaces
 pub mod Starting

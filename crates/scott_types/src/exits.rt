@@ -11,7 +11,8 @@ use crate::databases::Db;
 pub fn exit(db: &Db, room: u8, direction: usize) -> u8
     requires room_there { room < length db.now.rooms }
     requires direction_there { direction < 6 }
-    ensures { result ≡ exit_of (length db.now.rooms) (room_at db.now room).exits direction }
+    ensures value { result ≡ exit_of (length db.now.rooms) (room_at db.now room).exits direction }
+    ensures six { length (room_at db.now room).exits ≡ 6 }
 {
     let rooms = &db.parts().rooms;
     exit_behind(rooms.len(), rooms[room as usize].exits[direction])

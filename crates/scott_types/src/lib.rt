@@ -5,6 +5,7 @@
 // The database and its limits.
 pub mod databases;
 mod limits;
+pub mod lists;
 pub mod parts;
 pub mod texts;
 
@@ -21,6 +22,7 @@ pub mod commands;
 pub mod endings;
 mod fitting;
 pub mod phrases;
+pub mod places;
 pub mod states;
 
 // Laws of the above.

@@ -1,6 +1,6 @@
 //! The opcodes of an action line, in families by what they change.
-ghost use Rattle.std.specs.Prelude.{◌≡◌, ◌<◌, ◌^◌};
-ghost use Rattle.scott_types.specs.Opcode.{opcode_of, number_of, say_number, item_number, room_number, flag_number, counter_number, talk_number};
+ghost use Rattle.std.specs.Prelude.{◌≡◌, ◌<◌, ◌^◌, length};
+ghost use Rattle.scott_types.specs.Opcode.{opcode_of, number_of, say_number, item_number, room_number, flag_number, counter_number, talk_number, item_parameters, room_parameters, flag_parameters, counter_parameters, uses};
 
 /// What an opcode does. It takes its parameters from a list; docs/TURN.md says what each does with them.
 #[derive(Clone, Copy, Debug, PartialEq, Eq)]
@@ -167,6 +167,66 @@ impl Opcode {
             Opcode::Screen => 70,
             Opcode::Picture => 89,
             Opcode::More => 73,
+        }
+    }
+}
+
+impl Opcode {
+    /// How many parameters the opcode takes.
+    pub fn uses(self) -> usize
+        ensures { result ≡ uses self }
+    {
+        match self {
+            Opcode::Get | Opcode::Picture => 1,
+            Opcode::Items(op) => op.uses(),
+            Opcode::Rooms(op) => op.uses(),
+            Opcode::Flags(op) => op.uses(),
+            Opcode::Counters(op) => op.uses(),
+            _ => 0,
+        }
+    }
+}
+
+impl ItemOp {
+    fn uses(self) -> usize
+        ensures { result ≡ length (item_parameters self) }
+    {
+        match self {
+            ItemOp::Put | ItemOp::Swap | ItemOp::Join => 2,
+            _ => 1,
+        }
+    }
+}
+
+impl RoomOp {
+    fn uses(self) -> usize
+        ensures { result ≡ length (room_parameters self) }
+    {
+        match self {
+            RoomOp::SwapSaved => 0,
+            _ => 1,
+        }
+    }
+}
+
+impl FlagOp {
+    fn uses(self) -> usize
+        ensures { result ≡ length (flag_parameters self) }
+    {
+        match self {
+            FlagOp::SetFlag | FlagOp::ClearFlag => 1,
+            _ => 0,
+        }
+    }
+}
+
+impl CounterOp {
+    fn uses(self) -> usize
+        ensures { result ≡ length (counter_parameters self) }
+    {
+        match self {
+            CounterOp::Down => 0,
+            _ => 1,
         }
     }
 }

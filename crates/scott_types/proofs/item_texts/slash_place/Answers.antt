@@ -1,6 +1,6 @@
 use Rattle.std.proofs.Common.{sym}
 use Rattle.scott_types.specs.ItemText.{is_slash}
-use Rattle.scott_types.proofs.Places.{place-position, length-position}
+use Rattle.scott_types.proofs.FirstPlaces.{place-position, length-position}
 use Rattle.scott_types.proofs.item_texts.slash_place.Goals as goal
 
 pub returns-in-Some : goal.returns-in-Some

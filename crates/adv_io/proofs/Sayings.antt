@@ -1,0 +1,154 @@
+-- How what is said piece by piece, or in a loop, adds up.
+use Rattle.std.proofs.Common.{◌≡◌, ◌∙◌, ℕ, suc, ◌+◌, ◌<◌, List, [], ◌∷◌, ◌++◌, take, drop, length, get_or, refl, sym, ap, subst, zero, arith, append_assoc, Option, Some, None, Result, Ok, Err, IsErr, OnOk, OnErr, add-one}
+use Rattle.std.proofs.lemmas.List.{append-nil}
+use Rattle.std.specs.List.{flat_map}
+use Rattle.adv_io.specs.History.{says, grown, GrewByPart}
+use Rattle.adv_io.specs.Console.{Speaks}
+use Rattle.adv_io.specs.declared.events.Event.{Event}
+use Rattle.adv_io.proofs.Histories.{says-append}
+
+-- ---- histories that grow
+
+pub grown-nil : (history : Option (List Event)) → grown history [] ≡ history
+grown-nil None = refl
+grown-nil (Some history) = ap Some (append-nil history)
+
+pub grown-grown : (history : Option (List Event)) (a b : List Event) → grown (grown history a) b ≡ grown history (a ++ b)
+grown-grown None a b = refl
+grown-grown (Some history) a b = ap Some (append_assoc history a b)
+
+-- a history that grew by some events and then by others
+pub grown_on : (old mid new : Option (List Event)) (a b : List Event) → mid ≡ grown old a → new ≡ grown mid b → new ≡ grown old (a ++ b)
+grown_on old mid new a b first then = then ∙ ap (λ h. grown h b) first ∙ grown-grown old a b
+
+-- after some events a part of others
+pub part_on : (old mid new : Option (List Event)) (a b : List Event) → mid ≡ grown old a → GrewByPart mid new b → GrewByPart old new (a ++ b)
+part_on old mid new a b first part = record {
+  done = a ++ part.done;
+  rest = part.rest;
+  whole = append_assoc a part.done part.rest ∙ ap (λ es. a ++ es) part.whole;
+  grew = part.grew ∙ ap (λ h. grown h part.done) first ∙ grown-grown old a part.done;
+}
+
+-- a part of events is a part of more
+pub part_of_more : (old new : Option (List Event)) (a b : List Event) → GrewByPart old new a → GrewByPart old new (a ++ b)
+part_of_more old new a b part = record {
+  done = part.done;
+  rest = part.rest ++ b;
+  whole = sym (append_assoc part.done part.rest b) ∙ ap (λ es. es ++ b) part.whole;
+  grew = part.grew;
+}
+
+-- all of the events are a part of more, and so is nothing
+pub part_whole : (old new : Option (List Event)) (a b : List Event) → new ≡ grown old a → GrewByPart old new (a ++ b)
+part_whole old new a b grew = record { done = a; rest = b; whole = refl; grew = grew }
+
+pub part_none : (history : Option (List Event)) (a : List Event) → GrewByPart history history a
+part_none history a = record { done = []; rest = a; whole = refl; grew = sym (grown-nil history) }
+
+-- ---- the same of a call's answer, one behind the other, to be named where a function says two texts
+
+-- what failed said a part of more
+pub text_stop : {T E : Type 0} (r : Result T E) (old new : Option (List Event)) (a b : List Event) → GrewByPart old new a → OnErr r (GrewByPart old new (a ++ b))
+text_stop (Ok x) old new a b part = tt
+text_stop (Err e) old new a b part = part_of_more old new a b part
+
+-- after a text that was said, another
+pub text_then : {T E : Type 0} (r : Result T E) (old mid new : Option (List Event)) (a b : List Event) → mid ≡ grown old a → OnOk r (new ≡ grown mid b) → OnOk r (new ≡ grown old (a ++ b))
+text_then (Ok x) old mid new a b first more = grown_on old mid new a b first more
+text_then (Err e) old mid new a b first more = tt
+
+-- or a part of another
+pub text_then_part : {T E : Type 0} (r : Result T E) (old mid new : Option (List Event)) (a b : List Event) → mid ≡ grown old a → OnErr r (GrewByPart mid new b) → OnErr r (GrewByPart old new (a ++ b))
+text_then_part (Ok x) old mid new a b first part = tt
+text_then_part (Err e) old mid new a b first part = part_on old mid new a b first part
+
+-- ---- loops that say a text for each element
+
+module _ {X : Type 0} (text : X → List ℕ) where
+  -- all texts are those so far and those to come
+  flat_map-split : (xs : List X) (i : ℕ) (d : X) → i < length xs → flat_map text xs ≡ flat_map text (take i xs) ++ (text (get_or xs i d) ++ flat_map text (drop (suc i) xs))
+  flat_map-split [] i d within = absurd (omega arith)
+  flat_map-split (x ∷ xs) zero d within = refl
+  flat_map-split (x ∷ xs) (suc i) d within =
+      ap (λ bytes. text x ++ bytes) (flat_map-split xs i d (omega arith))
+      ∙ sym (append_assoc (text x) (flat_map text (take i xs)) (text (get_or xs i d) ++ flat_map text (drop (suc i) xs)))
+
+  flat_map-next : (xs : List X) (i : ℕ) (d : X) → i < length xs → flat_map text (take (suc i) xs) ≡ flat_map text (take i xs) ++ text (get_or xs i d)
+  flat_map-next [] i d within = absurd (omega arith)
+  flat_map-next (x ∷ xs) zero d within = append-nil (text x)
+  flat_map-next (x ∷ xs) (suc i) d within =
+      ap (λ bytes. text x ++ bytes) (flat_map-next xs i d (omega arith))
+      ∙ sym (append_assoc (text x) (flat_map text (take i xs)) (text (get_or xs i d)))
+
+  -- one more turn
+  pub turn_said : (xs : List X) (i : ℕ) (d : X) (old now next : Option (List Event)) → i < length xs → now ≡ grown old (says (flat_map text (take i xs))) → next ≡ grown now (says (text (get_or xs i d))) → next ≡ grown old (says (flat_map text (take (i + 1) xs)))
+  turn_said xs i d old now next within before more =
+      let so_far = flat_map text (take i xs) in
+      let here = text (get_or xs i d) in
+      grown_on old now next (says so_far) (says here) before more
+      ∙ ap (grown old) (sym (says-append so_far here))
+      ∙ rw (add-one, flat_map-next xs i d within) refl
+
+  -- a turn that fails
+  pub turn_failed : (xs : List X) (i : ℕ) (d : X) (old now new : Option (List Event)) → i < length xs → now ≡ grown old (says (flat_map text (take i xs))) → GrewByPart now new (says (text (get_or xs i d))) → GrewByPart old new (says (flat_map text xs))
+  turn_failed xs i d old now new within before part =
+      let so_far = flat_map text (take i xs) in
+      let here = text (get_or xs i d) in
+      let to_come = flat_map text (drop (suc i) xs) in
+      let all : says so_far ++ (says here ++ says to_come) ≡ says (flat_map text xs) =
+      ap (λ es. says so_far ++ es) (sym (says-append here to_come))
+      ∙ sym (says-append so_far (here ++ to_come))
+      ∙ ap says (sym (flat_map-split xs i d within)) in
+      subst (λ es. GrewByPart old new es) all
+      (part_on old now new (says so_far) (says here ++ says to_come) before (part_of_more now new (says here) (says to_come) part))
+
+  -- the same of the answer that the turn gives
+  pub turn_stop : {T E : Type 0} (r : Result T E) (xs : List X) (i : ℕ) (d : X) (old now new : Option (List Event)) → i < length xs → now ≡ grown old (says (flat_map text (take i xs))) → GrewByPart now new (says (text (get_or xs i d))) → OnErr r (GrewByPart old new (says (flat_map text xs)))
+  turn_stop (Ok x) xs i d old now new within before part = tt
+  turn_stop (Err e) xs i d old now new within before part = turn_failed xs i d old now new within before part
+
+-- ---- calls that only say, one behind the other
+
+module _ {C : Type 0} {history : C → Option (List Event)} {left : C → Option (List (List ℕ))} {bound faults : C → ℕ} where
+  -- what does nothing says nothing
+  pub nothing_said : {T E : Type 0} (console : C) (x : T) → Speaks {E = E} history left bound faults console console (Ok x) []
+  nothing_said console x = record {
+    said = sym (grown-nil (history console));
+    part = tt;
+    lines_stay = refl;
+    bounded = omega arith;
+    cause = record { later = omega arith; failed = tt };
+  }
+
+  -- after a call that succeeded another, which may fail
+  pub speaks_then : {S T D E : Type 0} {old mid new : C} {x : S} {r : Result T E} {a b : List Event} → Speaks {E = D} history left bound faults old mid (Ok x) a → Speaks history left bound faults mid new r b → Speaks history left bound faults old new r (a ++ b)
+  speaks_then {old = old} {mid = mid} {new = new} {r = Ok y} {a = a} {b = b} first then = record {
+    said = grown_on (history old) (history mid) (history new) a b first.said then.said;
+    part = tt;
+    lines_stay = then.lines_stay ∙ first.lines_stay;
+    bounded = omega (arith, first.bounded, then.bounded);
+    cause = record { later = omega (arith, first.cause.later, then.cause.later); failed = tt };
+  }
+  speaks_then {old = old} {mid = mid} {new = new} {r = Err fault} {a = a} {b = b} first then = record {
+    said = tt;
+    part = part_on (history old) (history mid) (history new) a b first.said then.part;
+    lines_stay = then.lines_stay ∙ first.lines_stay;
+    bounded = omega (arith, first.bounded, then.bounded);
+    cause = record { later = omega (arith, first.cause.later, then.cause.later); failed = omega (arith, first.cause.later, then.cause.failed) };
+  }
+
+  -- a call that failed, whatever was to be said behind it
+  pub speaks_stop : {T U D E : Type 0} {old new : C} {d : D} (e : E) {a : List Event} (b : List Event) → Speaks {T = T} history left bound faults old new (Err d) a → Speaks {T = U} history left bound faults old new (Err e) (a ++ b)
+  speaks_stop {old = old} {new = new} e {a = a} b stop = record {
+    said = tt;
+    part = part_of_more (history old) (history new) a b stop.part;
+    lines_stay = stop.lines_stay;
+    bounded = stop.bounded;
+    cause = record { later = stop.cause.later; failed = stop.cause.failed };
+  }
+
+  -- the same at the exit of a call that passes the failure on
+  pub speaks_exit : {T U D E : Type 0} {old new : C} {d : D} {r : Result U E} {a : List Event} (b : List Event) → IsErr r → Speaks {T = T} history left bound faults old new (Err d) a → Speaks history left bound faults old new r (a ++ b)
+  speaks_exit {r = Ok x} b failed stop = absurd cc
+  speaks_exit {r = Err e} b failed stop = speaks_stop e b stop

@@ -1,0 +1,64 @@
+-- A shelf in memory: its files, and what it answers.
+use Rattle.std.specs.Prelude.{◌≡◌, ℕ, ◌&&◌, Bool, true, not, nat_le, List, [], ◌∷◌, map, length, Option, Some, None, Result, Ok, Err, is_ok, if◌then◌else◌, bytes_eq, string_bytes, String, Vec, refl}
+use Rattle.std.specs.Coded.{Coded, code_by, coded×, coded_ℕ, coded_list}
+use Rattle.std.specs.List.{list_any}
+use Rattle.std.specs.FinMap.{get, insert, from_entries, code}
+use Rattle.adv_io.specs.Numbered.{Numbered, coded_numbered, unused, fails_next, after_next}
+use Rattle.adv_io.specs.Shelf.{Files}
+use Rattle.adv_io.specs.declared.faults.ShelfFault.{ShelfFault}
+use Rattle.adv_io.specs.declared.faults.ShelfFault.TheVariants.{Absent, Failed, TooLong, Memory}
+
+-- the files, and the calls
+pub record Shelved : Type 0 where
+  pub files : Files
+  pub calls : Numbered
+
+-- it is stored as the pair of its fields
+abbrev pub coded_shelved : Coded Shelved
+coded_shelved =
+    code_by (Files × Numbered) (coded× (code (coded_list coded_ℕ) (coded_list coded_ℕ)) coded_numbered)
+    (λ s. (s.files, s.calls))
+    (λ p. record { files = p.0; calls = p.1 })
+    (λ _. refl)
+
+-- a file as it is kept: the bytes of its name, and its own
+abbrev pub entry : {A B : Type 0} → String A × Vec ℕ B → List ℕ × List ℕ
+entry file = (string_bytes file.0, file.1.items)
+
+-- the files in a list, of which the first of a name counts
+abbrev pub files_of : {A B : Type 0} → List (String A × Vec ℕ B) → Files
+files_of files = from_entries (map entry files)
+
+-- no name stands twice
+abbrev pub names_differ : {A B : Type 0} → List (String A × Vec ℕ B) → Bool
+names_differ [] = true
+names_differ (file ∷ files) =
+    not (list_any (λ other. bytes_eq (string_bytes file.0) (string_bytes other.0)) files) && names_differ files
+
+-- no call yet
+abbrev pub shelved : {A B : Type 0} → List (String A × Vec ℕ B) → List ℕ → Shelved
+shelved files failing = record { files = files_of files; calls = unused failing }
+
+-- one more call was counted
+abbrev pub called : Shelved → Shelved
+called shelf = record shelf { calls = after_next shelf.calls }
+
+-- a file of at most so many bytes
+abbrev pub within : ℕ → Option (List ℕ) → Result (List ℕ) ShelfFault
+within limit None = Err Absent
+within limit (Some bytes) = if nat_le (length bytes) limit then Ok bytes else Err (TooLong (length bytes))
+
+-- what a load answers where memory is ample
+abbrev pub loaded : Shelved → List ℕ → ℕ → Result (List ℕ) ShelfFault
+loaded shelf name limit = if fails_next shelf.calls then Err Failed else within limit (get shelf.files name)
+
+-- the answer is that one, and memory can run out only in place of bytes
+abbrev pub AnswersLoad : {A : Type 0} → Result (List ℕ) ShelfFault → Result (Vec ℕ A) ShelfFault → Type 0
+AnswersLoad answer (Ok bytes) = answer ≡ Ok bytes.items
+AnswersLoad answer (Err Memory) = is_ok answer ≡ true
+AnswersLoad answer (Err fault) = answer ≡ Err fault
+
+-- what a store leaves, by what it answers
+abbrev pub LeavesStored : Shelved → List ℕ → List ℕ → Result (Unit {0}) ShelfFault → Shelved → Type 0
+LeavesStored old name bytes (Ok done) new = new ≡ record (called old) { files = insert old.files name bytes }
+LeavesStored old name bytes (Err fault) new = new ≡ called old

@@ -1,0 +1,121 @@
+//! A shelf of real files, as thin as can be.
+//!
+//! Trusted here and only tested: that a path names one file, that a file has the bytes that were
+//! written last, and that the runtime's calls do what they say. No clause speaks of a file's bytes.
+ghost use Rattle.std.specs.Prelude.{◌≡◌, ◌≤◌, ◌+◌, length, None, IfOk, IfErr, OnOk};
+ghost use Rattle.adv_io.specs.Shelf.{IsFile, with_file, RefusesLoad, RefusesStore, TellsLength, count_after};
+
+use crate::faults::ShelfFault;
+use crate::shelves::Shelf;
+use std::alloc::Global;
+use std::fs::OpenFile;
+use std::io::{ErrorKind, Read, Write};
+use std::marker::Model;
+use std::rt::Files;
+use std::{fs, io};
+
+/// The files of the system. It doesn't tell them, so a missing file counts as a fault.
+///
+/// A clause sees the count of faults, which stays at 18446744073709551615 once it is there.
+pub struct DiskShelf<'a, R: Files> {
+    rt: &'a R,
+    faults: u64,
+}
+
+impl<'a, R: Files> Model for DiskShelf<'a, R> {
+    ghost use Rattle.std.specs.Prelude.{ℕ};
+
+    ghost Value = { ℕ };
+
+    ghost view = { λ s. s.faults };
+}
+
+impl<'a, R: Files> Drop for DiskShelf<'a, R> {
+    fn drop(self) {
+        let DiskShelf { rt: _, faults: _ } = self;
+    }
+}
+
+impl<'a, R: Files> DiskShelf<'a, R> {
+    /// The files that the runtime reaches.
+    pub fn new(rt: &'a R) -> DiskShelf<'a, R>
+        ensures { result ≡ 0 }
+    {
+        DiskShelf { rt, faults: 0 }
+    }
+}
+
+impl<'a, R: Files> Shelf for DiskShelf<'a, R> {
+    ghost use Rattle.std.specs.Prelude.{None};
+
+    ghost files = { λ _. None };
+
+    ghost faults = { λ s. s };
+
+    /// `TooLong` has one more than the limit, since no more bytes are read.
+    fn load(&mut self, alloc: Global, name: &str, limit: usize) -> Result<Vec<u8>, ShelfFault>
+        ensures too_long { IfErr result (TellsLength (limit + 1)) }
+        ensures counted { self.new ≡ count_after result self.old }
+
+        // As every shelf.
+        ensures within { IfOk result (λ bytes. length bytes.items ≤ limit) }
+        ensures found { IfOk result (λ bytes. IsFile None name.now bytes.items) }
+        ensures refused { IfErr result (RefusesLoad None name.now limit self.old self.new) }
+        ensures never_falls { self.old ≤ self.new }
+    {
+        match read_file(self.rt, alloc, name, limit) {
+            Ok(bytes) => {
+                if bytes.len() > limit {
+                    Err(ShelfFault::TooLong(limit as u64 + 1))
+                } else {
+                    Ok(bytes)
+                }
+            }
+            Err(fault) => {
+                if fault.kind() == ErrorKind::OutOfMemory {
+                    return Err(ShelfFault::Memory);
+                }
+                self.faults = self.faults.saturating_add(1);
+                Err(ShelfFault::Failed)
+            }
+        }
+    }
+
+    /// A file of which only a part could be written is removed.
+    fn store(&mut self, alloc: Global, name: &str, bytes: &[u8]) -> Result<(), ShelfFault>
+        ensures counted { self.new ≡ count_after result self.old }
+
+        // As every shelf.
+        ensures stored { OnOk result (None ≡ with_file None name.now bytes.now) }
+        ensures refused { IfErr result (RefusesStore None None name.now self.old self.new) }
+        ensures never_falls { self.old ≤ self.new }
+    {
+        let _ = alloc;
+        match write_file(self.rt, name, bytes) {
+            Ok(()) => Ok(()),
+            Err(_) => {
+                self.faults = self.faults.saturating_add(1);
+                Err(ShelfFault::Failed)
+            }
+        }
+    }
+}
+
+// The bytes of a file, and of a longer one its first `limit + 1`.
+fn read_file<R: Files>(rt: &R, alloc: Global, name: &str, limit: usize) -> io::Result<Vec<u8>> {
+    let file = fs::open(rt, name)?;
+    let mut bytes = Vec::new(alloc);
+    let most = (limit as u64).saturating_add(1);
+    let _ = file.take(most).read_to_end(&mut bytes)?;
+    Ok(bytes)
+}
+
+// Makes the bytes the file's. What is half written doesn't stay, unless it is no plain file.
+fn write_file<R: Files>(rt: &R, name: &str, bytes: &[u8]) -> io::Result<()> {
+    let mut file = fs::create(rt, name)?;
+    let written = file.write_all(bytes);
+    if written.is_err() && file.metadata()?.is_file() {
+        fs::remove_file(rt, name)?;
+    }
+    written
+}

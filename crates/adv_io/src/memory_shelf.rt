@@ -1,0 +1,140 @@
+//! A shelf in memory: it tells its files, and fails where it is told to.
+ghost use Rattle.std.specs.Prelude.{◌≡◌, ◌≤◌, ◌↔◌, length, IsTrue, IfOk, IfErr, OnOk, IsErrOf, OnErr, bytes_eq, string_bytes};
+ghost use Rattle.std.specs.Option.{option_copied};
+ghost use Rattle.std.specs.List.{position};
+ghost use Rattle.std.specs.FinMap as map;
+ghost use Rattle.adv_io.specs.Shelf.{IsFile, with_file, RefusesLoad, RefusesStore};
+ghost use Rattle.adv_io.specs.Numbered.{fails_next};
+ghost use Rattle.adv_io.specs.Shelved.{shelved, names_differ, called, loaded, AnswersLoad, LeavesStored};
+
+use crate::calls::Calls;
+use crate::faults::ShelfFault;
+use crate::shelves::Shelf;
+use std::alloc::{AllocError, Global};
+use std::marker::Model;
+
+/// A shelf in memory, for tests and for programs that need no disk.
+///
+/// A clause sees the map of its files and its calls. `load` and `store` are numbered together,
+/// from 1.
+#[derive(Drop)]
+pub struct MemoryShelf {
+    files: Vec<(String, Vec<u8>)>,
+    calls: Calls,
+}
+
+impl Model for MemoryShelf {
+    ghost use Rattle.adv_io.specs.Shelved.{Shelved, coded_shelved, files_of};
+
+    ghost Value = { Shelved };
+
+    ghost coded = { coded_shelved };
+
+    ghost view = { λ s. record {
+      files = files_of s.files.items;
+      calls = s.calls;
+    } };
+}
+
+impl MemoryShelf {
+    /// A shelf with these files, of different names, which fails at the calls whose numbers are in
+    /// `failing`.
+    pub fn new(files: Vec<(String, Vec<u8>)>, failing: Vec<u64>) -> MemoryShelf
+        requires { IsTrue (names_differ files.items) }
+        ensures { result ≡ shelved files.items failing.items }
+    {
+        MemoryShelf {
+            files,
+            calls: Calls::new(failing),
+        }
+    }
+
+    /// The bytes of a file, if there is one of that name. This is no numbered call.
+    pub fn file(&self, name: &str) -> Option<&[u8]>
+        ensures { option_copied result ≡ map.get self.now.files name.now }
+    {
+        let at = place_of(&self.files, name)?;
+        Some(self.files[at].1.as_slice())
+    }
+
+    // Makes the bytes the file of that name, in its old place or in a new one.
+    fn put(&mut self, alloc: Global, name: &str, bytes: &[u8]) -> Result<(), AllocError>
+        ensures ok { OnOk result
+            (self.new ≡ record self.old { files = map.insert self.old.files name.now bytes.now }) }
+        ensures err { OnErr result (self.new ≡ self.old) }
+    {
+        let kept = Vec::from_slice(alloc, bytes)?;
+        match place_of(&self.files, name) {
+            Some(at) => {
+                let file = &mut self.files[at];
+                file.1 = kept;
+            }
+            None => self.files.push((String::from_str(alloc, name)?, kept))?,
+        }
+        Ok(())
+    }
+}
+
+// Where the first file of that name stands.
+fn place_of(files: &[(String, Vec<u8>)], name: &str) -> Option<usize>
+    ensures { result ≡ position (λ file. bytes_eq (string_bytes file.0) name.now) files.now }
+{
+    files.iter().position(|file| file.0.as_str() == name)
+}
+
+impl Shelf for MemoryShelf {
+    ghost use Rattle.std.specs.Prelude.{Some};
+
+    ghost files = { λ s. Some s.files };
+
+    ghost faults = { λ s. s.calls.faults };
+
+    fn load(&mut self, alloc: Global, name: &str, limit: usize) -> Result<Vec<u8>, ShelfFault>
+        // It fails at the calls that are to fail, and counts each call.
+        ensures failing { IsErrOf result ShelfFault.Failed ↔ IsTrue (fails_next self.old.calls) }
+        ensures exact { AnswersLoad (loaded self.old name.now limit) result }
+        ensures counted { self.new ≡ called self.old }
+
+        // As every shelf.
+        ensures within { IfOk result (λ bytes. length bytes.items ≤ limit) }
+        ensures found { IfOk result (λ bytes. IsFile (Some self.old.files) name.now bytes.items) }
+        ensures refused { IfErr result (RefusesLoad (Some self.old.files) name.now limit self.old.calls.faults self.new.calls.faults) }
+        ensures files_stay { Some self.new.files ≡ Some self.old.files }
+        ensures never_falls { self.old.calls.faults ≤ self.new.calls.faults }
+    {
+        if self.calls.next_fails() {
+            return Err(ShelfFault::Failed);
+        }
+        let Some(bytes) = self.file(name) else {
+            return Err(ShelfFault::Absent);
+        };
+        if bytes.len() > limit {
+            return Err(ShelfFault::TooLong(bytes.len() as u64));
+        }
+        match Vec::from_slice(alloc, bytes) {
+            Ok(copy) => Ok(copy),
+            Err(_) => Err(ShelfFault::Memory),
+        }
+    }
+
+    fn store(&mut self, alloc: Global, name: &str, bytes: &[u8]) -> Result<(), ShelfFault>
+        // It fails at the calls that are to fail, counts each call, and changes nothing else.
+        ensures failing { IsErrOf result ShelfFault.Failed ↔ IsTrue (fails_next self.old.calls) }
+        ensures exact { LeavesStored self.old name.now bytes.now result self.new }
+
+        // As every shelf.
+        ensures stored { OnOk result
+            (Some self.new.files ≡ with_file (Some self.old.files) name.now bytes.now) }
+        ensures refused { IfErr result
+            (RefusesStore (Some self.old.files) (Some self.new.files) name.now self.old.calls.faults self.new.calls.faults) }
+        ensures never_falls { self.old.calls.faults ≤ self.new.calls.faults }
+    {
+        if self.calls.next_fails() {
+            return Err(ShelfFault::Failed);
+        }
+        match self.put(alloc, name, bytes) {
+            Ok(()) => Ok(()),
+            Err(_) => Err(ShelfFault::Memory),
+        }
+    }
+}

@@ -1,0 +1,5 @@
+use Rattle.adv_text.proofs.Written.{written_number_is_spelled}
+use Rattle.adv_text.proofs.laws.written_number_is_spelled.Goals as goal
+
+pub returns : goal.returns
+returns c = written_number_is_spelled

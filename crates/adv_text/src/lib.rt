@@ -1,0 +1,15 @@
+//! Numbers and quoted strings in a text file: reading them from left to right, and writing them.
+#![tactic(auto)]
+
+pub mod faults;
+pub mod laws;
+pub mod scan;
+pub mod writing;
+
+pub use adv_io::Memory;
+pub use faults::TextFault;
+pub use scan::Scan;
+pub use writing::{put_number, put_quoted};
+
+#[cfg(test)]
+mod tests;

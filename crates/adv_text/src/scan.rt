@@ -1,0 +1,262 @@
+//! A scan over the bytes of a file.
+ghost use Rattle.std.specs.Prelude.{◌≡◌, ◌≢◌, ◌+◌, List, ℕ, ℤ, IfOk, IfErr, OnErr, OnOk, ◌++◌, ◌∷◌, [], ◌<◌, ◌≤◌, length, Ok, Err, MatchResult, ◌↔◌};
+ghost use Rattle.adv_text.specs.Spelling.{is_blank, greatest, signed, Number, Quoted};
+ghost use Rattle.adv_text.specs.Reading.{Spot, spot, SameEnd, past_blanks, past_sign, amount_at, number_at, quoted_at, opening_at, Stands, IsLong, IsFaultOf, Fault, told, IsText, IsErrOrMemory};
+ghost use Rattle.adv_text.specs.Laws.{NumberFault, StringFault};
+
+use crate::faults::TextFault;
+use std::alloc::Global;
+use std::marker::Model;
+
+/// A scan: a place in the bytes of a file, from which it reads on.
+///
+/// A clause sees a `Spot`: the place, counted from the front, and the bytes from there on.
+#[derive(Drop)]
+pub struct Scan<'a> {
+    at: usize,
+    rest: &'a [u8],
+}
+
+impl<'a> Model for Scan<'a> {
+    ghost use Rattle.std.specs.Prelude.{◌+◌, ◌<◌, ◌^◌, length};
+    ghost use Rattle.adv_text.specs.Reading.{Spot};
+
+    ghost Value = { Spot };
+
+    ghost view = { λ s. record { at = s.at; rest = s.rest.now } };
+
+    ghost invariant = { λ s. s.at + length s.rest.now < 2 ^ 64 };
+}
+
+// Whether a byte is a blank.
+fn is_blank(byte: u8) -> bool
+    ensures { result ≡ is_blank byte }
+{
+    matches!(byte, 9..=13 | b' ')
+}
+
+// The greatest amount of a number of 32 bits, negative or not.
+fn greatest(negative: bool) -> u64
+    ensures { result ≡ greatest negative }
+{
+    if negative { 2147483648 } else { 2147483647 }
+}
+
+// The number of an amount, negative or not.
+fn signed(negative: bool, amount: u64) -> i32
+    requires { amount ≤ greatest negative }
+    ensures { result ≡ signed negative amount }
+{
+    if negative {
+        (-(amount as i64)) as i32
+    } else {
+        amount as i32
+    }
+}
+
+// Keeps one more byte of the string that was opened at this place.
+fn keep(text: &mut Vec<u8>, byte: u8, opened: usize) -> Result<(), TextFault>
+    ensures kept { OnOk result (text.new.items ≡ text.old.items ++ byte ∷ []) }
+    ensures short { OnOk result (length text.old.items < 4096) }
+    ensures long { IfErr result (λ fault. IsLong fault opened text.old.items) }
+{
+    if text.len() >= 4096 {
+        return Err(TextFault::LongString(opened));
+    }
+    text.push(byte)?;
+    Ok(())
+}
+
+impl<'a> Scan<'a> {
+    /// A scan that stands at the front of the bytes.
+    pub fn new(bytes: &'a [u8]) -> Scan<'a>
+        ensures { result ≡ spot 0 bytes.now }
+    {
+        Scan { at: 0, rest: bytes }
+    }
+
+    /// The place of the scan, counted from the front.
+    pub fn at(&self) -> usize
+        ensures { result ≡ self.now.at }
+    {
+        self.at
+    }
+
+    /// Reads a number: blanks, a sign or none, and decimal digits up to the first byte that is none.
+    ///
+    /// Its value lies within 32 bits with a sign. The faults are `NoNumber` and `BigNumber`. This call
+    /// takes no memory. docs/FORMAT.md has the rule.
+    pub fn number(&mut self) -> Result<i32, TextFault>
+        // What is read is spelled so, and what is spelled so is read.
+        ensures spelled { IfOk result (λ z. Number z self.old.rest self.new.rest) }
+        ensures only { (z : ℤ) (rest : List ℕ) → Number z self.old.rest rest → (result ≡ Ok z) × (self.new.rest ≡ rest) }
+        ensures place { OnOk result (SameEnd self.old self.new) }
+
+        // A fault is answered exactly where it stands, and the scan stays.
+        ensures exact { (fault : Fault) → (result ≡ Err (told fault)) ↔ NumberFault self.old fault }
+        ensures no_memory { result ≢ Err TextFault.Memory }
+        ensures stays { OnErr result (self.new ≡ self.old) }
+
+        // The same as a function of the spot.
+        ensures value { IfOk result (λ z. number_at self.old ≡ Ok (z, self.new)) }
+        ensures fault { IfErr result (λ fault. IsFaultOf fault (number_at self.old)) }
+    {
+        self.next_number()
+    }
+
+    /// Reads a string: blanks, a quote, and all up to the next quote that isn't directly followed by
+    /// another. Inside, two quotes and a grave accent are one quote each, and a return is dropped.
+    ///
+    /// At most 4,096 bytes are kept. The faults are `NoQuote`, `LongString`, `OpenString` and `Memory`.
+    /// docs/FORMAT.md has the rule.
+    pub fn quoted(&mut self, alloc: Global) -> Result<Vec<u8>, TextFault>
+        // What is read is spelled so, and what is spelled so is read, unless memory runs out.
+        ensures spelled { IfOk result (λ text. Quoted text.items self.old.rest self.new.rest) }
+        ensures only { (text rest : List ℕ) → Quoted text self.old.rest rest → IsText result text × OnOk result (self.new.rest ≡ rest) }
+        ensures place { OnOk result (SameEnd self.old self.new) }
+
+        // A fault but `Memory` is answered only where it stands, and there, and the scan stays.
+        ensures exact { (fault : Fault) → result ≡ Err (told fault) → StringFault self.old fault }
+        ensures due { (fault : Fault) → StringFault self.old fault → IsErrOrMemory result (told fault) }
+        ensures stays { OnErr result (self.new ≡ self.old) }
+
+        // The same as a function of the spot.
+        ensures value { IfOk result (λ text. quoted_at self.old ≡ Ok (text.items, self.new)) }
+        ensures fault { IfErr result (λ fault. Stands fault (quoted_at self.old)) }
+    {
+        self.next_string(alloc)
+    }
+
+    // The next number, as the definition reads it.
+    #[tactic(auto, unfolding(crate::specs::Reading::number_at))]
+    fn next_number(&mut self) -> Result<i32, TextFault>
+        ensures value { IfOk result (λ z. number_at self.old ≡ Ok (z, self.new)) }
+        ensures fault { IfErr result (λ fault. IsFaultOf fault (number_at self.old)) }
+        ensures stays { OnErr result (self.new ≡ self.old) }
+    {
+        let start = self.behind_blanks();
+        let (negative, digits) = start.behind_sign();
+        let (number, behind) = digits.amount(negative, start.at)?;
+        *self = behind;
+        Ok(number)
+    }
+
+    // The next string, as the definition reads it.
+    #[tactic(auto, unfolding(crate::specs::Reading::quoted_at))]
+    fn next_string(&mut self, alloc: Global) -> Result<Vec<u8>, TextFault>
+        ensures value { IfOk result (λ text. quoted_at self.old ≡ Ok (text.items, self.new)) }
+        ensures fault { IfErr result (λ fault. Stands fault (quoted_at self.old)) }
+        ensures stays { OnErr result (self.new ≡ self.old) }
+    {
+        let start = self.behind_blanks();
+        let (text, behind) = start.string(alloc)?;
+        *self = behind;
+        Ok(text)
+    }
+
+    // The scan behind the blanks.
+    fn behind_blanks(&self) -> Scan<'a>
+        ensures { result ≡ past_blanks self.now.at self.now.rest }
+    {
+        let mut at = self.at;
+        let mut rest = self.rest;
+        while let [byte, more @ ..] = rest {
+            if !is_blank(*byte) {
+                break;
+            }
+            at += 1;
+            rest = more;
+        }
+        Scan { at, rest }
+    }
+
+    // Whether a minus stands here, and the scan behind a sign.
+    fn behind_sign(&self) -> (bool, Scan<'a>)
+        ensures { result ≡ past_sign self.now.at self.now.rest }
+    {
+        match self.rest {
+            [b'-', more @ ..] => (
+                true,
+                Scan {
+                    at: self.at + 1,
+                    rest: more,
+                },
+            ),
+            [b'+', more @ ..] => (
+                false,
+                Scan {
+                    at: self.at + 1,
+                    rest: more,
+                },
+            ),
+            _ => (
+                false,
+                Scan {
+                    at: self.at,
+                    rest: self.rest,
+                },
+            ),
+        }
+    }
+
+    // The number of the digits here, and the scan behind them. The number began at `start`.
+    fn amount(&self, negative: bool, start: usize) -> Result<(i32, Scan<'a>), TextFault>
+        ensures { MatchResult result (λ x. amount_at negative start self.now.at self.now.rest ≡ Ok x) (λ fault. IsFaultOf fault (amount_at negative start self.now.at self.now.rest)) }
+    {
+        let [first, more @ ..] = self.rest else {
+            return Err(TextFault::NoNumber(start));
+        };
+        if !first.is_ascii_digit() {
+            return Err(TextFault::NoNumber(start));
+        }
+        let mut amount = u64::from(*first - b'0');
+        let mut at = self.at + 1;
+        let mut rest = more;
+        while let [digit, more @ ..] = rest {
+            if !digit.is_ascii_digit() {
+                break;
+            }
+            amount = amount * 10 + u64::from(*digit - b'0');
+            if amount > greatest(negative) {
+                return Err(TextFault::BigNumber(start));
+            }
+            at += 1;
+            rest = more;
+        }
+        Ok((signed(negative, amount), Scan { at, rest }))
+    }
+
+    // The text of the string that opens here, and the scan behind it.
+    fn string(&self, alloc: Global) -> Result<(Vec<u8>, Scan<'a>), TextFault>
+        ensures read { IfOk result (λ x. opening_at self.now.at self.now.rest ≡ Ok (x.0.items, x.1)) }
+        ensures fault { IfErr result (λ fault. Stands fault (opening_at self.now.at self.now.rest)) }
+    {
+        let [b'"', more @ ..] = self.rest else {
+            return Err(TextFault::NoQuote(self.at));
+        };
+        let mut text = Vec::new(alloc);
+        let mut held = false;
+        let mut at = self.at + 1;
+        let mut rest = more;
+        while let [byte, more @ ..] = rest {
+            match *byte {
+                b'"' if held => {
+                    keep(&mut text, b'"', self.at)?;
+                    held = false;
+                }
+                b'"' => held = true,
+                _ if held => break,
+                b'\r' => {}
+                b'`' => keep(&mut text, b'"', self.at)?,
+                other => keep(&mut text, other, self.at)?,
+            }
+            at += 1;
+            rest = more;
+        }
+        if held {
+            Ok((text, Scan { at, rest }))
+        } else {
+            Err(TextFault::OpenString(self.at))
+        }
+    }
+}

@@ -1,0 +1,87 @@
+use super::*;
+use std::alloc::Global;
+use std::test::*;
+
+#[test]
+fn numbers_are_read(rt: HostRuntime) {
+    for (bytes, number, at) in [
+        (b"-2147483648x".as_slice(), -2147483648, 11),
+        (b"2147483647".as_slice(), 2147483647, 10),
+        (b"\t\r\n +007 8".as_slice(), 7, 8),
+        (b"-0-1".as_slice(), 0, 2),
+    ] {
+        let mut scan = Scan::new(bytes);
+        assert_eq!(rt; scan.number(), Ok(number));
+        assert_eq!(rt; scan.at(), at);
+    }
+}
+
+#[test]
+fn numbers_are_refused(rt: HostRuntime) {
+    for (bytes, fault) in [
+        (b" -".as_slice(), TextFault::NoNumber(1)),
+        (b"".as_slice(), TextFault::NoNumber(0)),
+        (b"  \"1\"".as_slice(), TextFault::NoNumber(2)),
+        (b"2147483648".as_slice(), TextFault::BigNumber(0)),
+        (
+            b" -99999999999999999999999x".as_slice(),
+            TextFault::BigNumber(1),
+        ),
+    ] {
+        let mut scan = Scan::new(bytes);
+        assert_eq!(rt; scan.number(), Err(fault));
+        assert_eq!(rt; scan.at(), 0);
+    }
+}
+
+#[test]
+fn strings_are_read(rt: HostRuntime) -> Result<(), Fail> {
+    let mut scan = Scan::new(b" \"a\"\"b`c\r\nd\" 5");
+    let text = scan.quoted(rt.alloc())?;
+    assert_eq!(rt; text.as_slice(), b"a\"b\"c\nd".as_slice());
+    assert_eq!(rt; scan.number(), Ok(5));
+    Ok(())
+}
+
+#[test]
+fn strings_are_refused(rt: HostRuntime) {
+    for (bytes, fault) in [
+        (b" x".as_slice(), TextFault::NoQuote(1)),
+        (b"".as_slice(), TextFault::NoQuote(0)),
+        (b"\n\"ab\"\"".as_slice(), TextFault::OpenString(1)),
+    ] {
+        let mut scan = Scan::new(bytes);
+        assert!(rt; scan.quoted(rt.alloc()) == Err(fault));
+        assert_eq!(rt; scan.at(), 0);
+    }
+}
+
+// A string of so many bytes `x`.
+fn long_string(alloc: Global, length: u16) -> Result<Vec<u8>, Memory> {
+    let mut bytes = Vec::new(alloc);
+    bytes.push(b'"')?;
+    for _ in 0..length {
+        bytes.push(b'x')?;
+    }
+    bytes.push(b'"')?;
+    Ok(bytes)
+}
+
+#[test]
+fn strings_end_at_the_limit(rt: HostRuntime) -> Result<(), Fail> {
+    let most = long_string(rt.alloc(), 4096)?;
+    assert_eq!(rt; Scan::new(&most).quoted(rt.alloc())?.len(), 4096);
+    let more = long_string(rt.alloc(), 4097)?;
+    assert!(rt; Scan::new(&more).quoted(rt.alloc()) == Err(TextFault::LongString(0)));
+    Ok(())
+}
+
+#[test]
+fn written_texts(rt: HostRuntime) -> Result<(), Fail> {
+    let mut out = Vec::new(rt.alloc());
+    put_number(rt.alloc(), &mut out, -2147483648)?;
+    put_quoted(rt.alloc(), &mut out, b"a\"b")?;
+    put_number(rt.alloc(), &mut out, 0)?;
+    assert_eq!(rt; out.as_slice(), b"-2147483648\"a\"\"b\"0".as_slice());
+    Ok(())
+}

@@ -1,0 +1,40 @@
+//! Writing numbers and strings.
+ghost use Rattle.std.specs.Prelude.{◌≡◌, ◌++◌, OnOk, OnErr, IsTrue};
+ghost use Rattle.adv_text.specs.Writing.{number_text, quoted_text, is_text};
+
+use adv_io::Memory;
+use itoa::Buffer;
+use std::alloc::Global;
+
+/// Writes a number at the end: its decimal digits without leading zeros, behind `-` where it is negative.
+///
+/// After a fault nothing was written. docs/FORMAT.md has the rule.
+pub fn put_number(_alloc: Global, out: &mut Vec<u8>, n: i32) -> Result<(), Memory>
+    ensures written { OnOk result (out.new.items ≡ out.old.items ++ number_text n) }
+    ensures kept { OnErr result (out.new.items ≡ out.old.items) }
+{
+    let mut buffer = Buffer::new();
+    out.extend_from_slice(buffer.format(n).as_bytes())?;
+    Ok(())
+}
+
+/// Writes a string at the end: the text between quotes, each quote in it twice.
+///
+/// The text has at most 4,096 bytes, and neither a return nor a grave accent, which no string can give.
+/// After a fault nothing was written. docs/FORMAT.md has the rule.
+pub fn put_quoted(_alloc: Global, out: &mut Vec<u8>, text: &[u8]) -> Result<(), Memory>
+    requires { IsTrue (is_text text.now) }
+    ensures written { OnOk result (out.new.items ≡ out.old.items ++ quoted_text text.now) }
+    ensures kept { OnErr result (out.new.items ≡ out.old.items) }
+{
+    out.reserve(2 * text.len() + 2)?;
+    out.push_reserved(b'"');
+    for byte in text {
+        if *byte == b'"' {
+            out.push_reserved(b'"');
+        }
+        out.push_reserved(*byte);
+    }
+    out.push_reserved(b'"');
+    Ok(())
+}

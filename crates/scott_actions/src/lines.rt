@@ -1,0 +1,198 @@
+//! An action line as a whole.
+ghost use Rattle.std.specs.Prelude.{◌≡◌, ◌<◌, IfOk, OnOk, length, map, drop, slice_index, true, []};
+ghost use Rattle.scott_types.specs.declared.endings.Ran.TheVariants.{Not};
+ghost use Rattle.adv_io.specs.History.{says};
+ghost use Rattle.adv_io.specs.Console.{Speaks};
+ghost use Rattle.scott_types.specs.Opcode.{opcode_of};
+ghost use Rattle.scott_types.specs.State.{Fits};
+ghost use Rattle.std.specs.List.{list_any};
+ghost use Rattle.scott_types.specs.Action.{opcode_numbers, parameters};
+ghost use Rattle.scott_rules.specs.Opcodes.{op, takes, course};
+ghost use Rattle.scott_rules.specs.Lines.{is_more, ran_of, performed, line_done};
+
+use crate::conditions::passes;
+use crate::deeds::{obey, takes};
+use adv_io::{Console, ConsoleFault};
+use arrayvec::ArrayVec;
+use scott_types::{Action, Db, Opcode, Ran, State};
+
+// The opcode that goes on with the tail.
+const MORE: u32 = 73;
+
+// The parameter at a place, or 0 past the last one.
+fn parameter(parameters: &[u32], i: usize) -> u32
+    ensures { result ≡ slice_index parameters.now i }
+{
+    if i < parameters.len() {
+        parameters[i]
+    } else {
+        0
+    }
+}
+
+// The parameters behind those that were taken.
+fn behind(parameters: &[u32], taken: usize) -> &[u32]
+    ensures { result.now ≡ drop taken parameters.now }
+{
+    if taken < parameters.len() {
+        &parameters[taken..]
+    } else {
+        &[]
+    }
+}
+
+// Does the opcode of a number with the next of the parameters.
+fn step<C: Console>(
+    db: &Db,
+    state: &mut State,
+    noun: &[u8],
+    number: u32,
+    parameters: &[u32],
+    console: &mut C,
+) -> Result<Option<u8>, ConsoleFault>
+    requires { Fits db.now state.old }
+    ensures spoken { Speaks C.history C.left C.bound C.faults console.old console.new result
+        (says (op db.now noun.now (opcode_of number) parameters.now state.old).events) }
+    ensures state { state.new ≡ (op db.now noun.now (opcode_of number) parameters.now state.old).value.state }
+    ensures over { IfOk result
+        (λ over. over ≡ (op db.now noun.now (opcode_of number) parameters.now state.old).value.over) }
+    ensures fits { Fits db.now state.new }
+{
+    let (p, q) = (parameter(parameters, 0), parameter(parameters, 1));
+    obey(db, state, noun, Opcode::of(number), p, q, console)
+}
+
+// The parameters that the opcode of a number leaves.
+fn left_by<'a>(db: &Db, state: &State, number: u32, parameters: &'a [u32]) -> &'a [u32]
+    ensures { result.now ≡ drop (takes db.now state.now (opcode_of number)) parameters.now }
+{
+    behind(parameters, takes(db, state, Opcode::of(number)))
+}
+
+// Does opcodes in order, each with the parameters that those before it left, until the game is over.
+fn course<C: Console>(
+    db: &Db,
+    state: &mut State,
+    noun: &[u8],
+    opcodes: &[u32],
+    parameters: &[u32],
+    console: &mut C,
+) -> Result<Option<u8>, ConsoleFault>
+    requires { Fits db.now state.old }
+    ensures spoken { Speaks C.history C.left C.bound C.faults console.old console.new result
+        (says (course db.now noun.now (map opcode_of opcodes.now) parameters.now state.old).events) }
+    ensures state { OnOk result
+        (state.new ≡ (course db.now noun.now (map opcode_of opcodes.now) parameters.now state.old).value.state) }
+    ensures over { IfOk result
+        (λ over. over ≡ (course db.now noun.now (map opcode_of opcodes.now) parameters.now state.old).value.over) }
+    ensures fits { Fits db.now state.new }
+{
+    match opcodes {
+        [] => Ok(None),
+        [number, others @ ..] => {
+            let rest = left_by(db, state, *number, parameters);
+            match step(db, state, noun, *number, parameters, console) {
+                Ok(None) => course(db, state, noun, others, rest, console),
+                Ok(Some(ending)) => Ok(Some(ending)),
+                Err(fault) => Err(fault),
+            }
+        }
+    }
+}
+
+// The numbers of the four opcodes.
+fn opcode_numbers(action: &Action) -> [u32; 4]
+    ensures { result ≡ opcode_numbers action.now }
+{
+    let [first, second] = action.pairs;
+    [first / 150, first % 150, second / 150, second % 150]
+}
+
+// The parameters: the arguments of the conditions of code 0.
+fn parameters(action: &Action) -> ArrayVec<u32, 5>
+    ensures { result.items ≡ parameters action.now }
+{
+    let mut arguments = ArrayVec::new();
+    for packed in &action.conds {
+        if *packed % 20 == 0 {
+            arguments.push(*packed / 20);
+        }
+    }
+    arguments
+}
+
+// Whether one of the opcodes goes on with the tail.
+fn goes_on(numbers: &[u32]) -> bool
+    ensures { result ≡ list_any is_more numbers.now }
+{
+    numbers.iter().any(|number| *number == MORE)
+}
+
+// What became of a line whose opcodes were done.
+fn ran_of(over: Option<u8>, more: bool) -> Ran
+    ensures { result ≡ ran_of over more }
+{
+    match over {
+        None => Ran::Passed(more),
+        Some(ending) => Ran::Over(ending),
+    }
+}
+
+// Does the opcodes of a line that passes.
+fn run<C: Console>(
+    db: &Db,
+    state: &mut State,
+    noun: &[u8],
+    action: &Action,
+    console: &mut C,
+) -> Result<Ran, ConsoleFault>
+    requires { Fits db.now state.old }
+    ensures spoken { Speaks C.history C.left C.bound C.faults console.old console.new result
+        (says (performed true db.now noun.now action.now state.old).events) }
+    ensures state { OnOk result (state.new ≡ (performed true db.now noun.now action.now state.old).value.state) }
+    ensures ran { IfOk result (λ ran. ran ≡ (performed true db.now noun.now action.now state.old).value.ran) }
+    ensures fits { Fits db.now state.new }
+{
+    let numbers = opcode_numbers(action);
+    let parameters = parameters(action);
+    match course(db, state, noun, &numbers, parameters.as_slice(), console) {
+        Ok(over) => Ok(ran_of(over, goes_on(&numbers))),
+        Err(fault) => Err(fault),
+    }
+}
+
+// Leaves a line that doesn't pass.
+fn leave<C: Console>(console: &mut C) -> Result<Ran, ConsoleFault>
+    ensures spoken { Speaks C.history C.left C.bound C.faults console.old console.new result (says []) }
+    ensures ran { IfOk result (λ ran. ran ≡ Not) }
+{
+    Ok(Ran::Not)
+}
+
+/// Tries an action line, with the noun that was typed, and tells what became of it.
+///
+/// `Ran::Not` comes exactly where a condition doesn't hold, and then nothing is said or changed. The
+/// console's fault alone is a refusal; of the state it is then known that it fits. docs/TURN.md has the
+/// rules.
+pub fn perform<C: Console>(
+    db: &Db,
+    state: &mut State,
+    line: u16,
+    noun: &[u8],
+    console: &mut C,
+) -> Result<Ran, ConsoleFault>
+    requires fits { Fits db.now state.old }
+    requires there { line < length db.now.actions }
+    ensures spoken { Speaks C.history C.left C.bound C.faults console.old console.new result
+        (says (line_done db.now noun.now line state.old).events) }
+    ensures state { OnOk result (state.new ≡ (line_done db.now noun.now line state.old).value.state) }
+    ensures ran { IfOk result (λ ran. ran ≡ (line_done db.now noun.now line state.old).value.ran) }
+    ensures fits { Fits db.now state.new }
+{
+    let action = &db.actions()[line as usize];
+    if passes(db, state, action) {
+        run(db, state, noun, action, console)
+    } else {
+        leave(console)
+    }
+}

@@ -1,0 +1,138 @@
+//! What opcodes say.
+ghost use Rattle.std.specs.Prelude.{◌≡◌, ◌<◌, ◌++◌, [], if◌then◌else◌};
+ghost use Rattle.std.specs.Fmt.{signed_decimal};
+ghost use Rattle.scott_types.specs.declared.phrases.Phrase.TheVariants.{Newline, Dead, TooMuch};
+ghost use Rattle.scott_types.specs.Phrase.{text_of};
+ghost use Rattle.adv_io.specs.History.{says};
+ghost use Rattle.adv_io.specs.Console.{Speaks};
+ghost use Rattle.scott_types.specs.State.{Fits};
+ghost use Rattle.scott_rules.specs.Opcodes.{said_message, talk, told};
+ghost use Rattle.scott_rules.specs.Looking.{looked, scored};
+
+use adv_io::{Console, ConsoleFault};
+use itoa::Buffer;
+use scott_light::{Page, add_look, inventory, look, score};
+use scott_types::{Db, Opcode, Phrase, State, TalkOp};
+
+// Says a text and the end of its line.
+fn say_line<C: Console>(text: &[u8], console: &mut C) -> Result<(), ConsoleFault>
+    ensures { Speaks C.history C.left C.bound C.faults console.old console.new result
+        (says (text.now ++ text_of Newline)) }
+{
+    let mut page = Page::new();
+    page.add(text);
+    page.add(Phrase::Newline.text());
+    page.say(console)
+}
+
+// Says nothing.
+fn say_nothing<C: Console>(console: &mut C) -> Result<(), ConsoleFault>
+    ensures { Speaks C.history C.left C.bound C.faults console.old console.new result (says []) }
+{
+    Page::new().say(console)
+}
+
+// Says a message, or nothing where it isn't there.
+fn say_message<C: Console>(db: &Db, message: u32, console: &mut C) -> Result<(), ConsoleFault>
+    ensures { Speaks C.history C.left C.bound C.faults console.old console.new result
+        (says (said_message db.now message)) }
+{
+    let messages = db.messages();
+    if (message as usize) < messages.len() {
+        say_line(messages[message as usize].bytes(), console)
+    } else {
+        say_nothing(console)
+    }
+}
+
+fn say_number<C: Console>(number: i16, console: &mut C) -> Result<(), ConsoleFault>
+    ensures { Speaks C.history C.left C.bound C.faults console.old console.new result
+        (says (signed_decimal number)) }
+{
+    let mut buffer = Buffer::new();
+    console.say(buffer.format(number).as_bytes())
+}
+
+// An opcode that only says something.
+fn talk<C: Console>(
+    db: &Db,
+    state: &State,
+    noun: &[u8],
+    op: TalkOp,
+    console: &mut C,
+) -> Result<(), ConsoleFault>
+    requires { Fits db.now state.now }
+    ensures { Speaks C.history C.left C.bound C.faults console.old console.new result
+        (says (talk db.now noun.now op state.now)) }
+{
+    match op {
+        TalkOp::Look => look(db, state, console),
+        TalkOp::Inventory => inventory(db, state, console),
+        TalkOp::Save => console.say(Phrase::NoSaving.text()),
+        TalkOp::ShowCounter => say_number(state.counter, console),
+        TalkOp::Noun => console.say(noun),
+        TalkOp::NounLine => say_line(noun, console),
+        TalkOp::Newline => console.say(Phrase::Newline.text()),
+    }
+}
+
+// The last words, and a look from where the dead wake.
+fn say_death<C: Console>(db: &Db, state: &State, console: &mut C) -> Result<(), ConsoleFault>
+    requires { Fits db.now state.now }
+    ensures { Speaks C.history C.left C.bound C.faults console.old console.new result
+        (says (text_of Dead ++ looked db.now state.now)) }
+{
+    let mut page = Page::new();
+    page.add(Phrase::Dead.text());
+    add_look(&mut page, db, state);
+    page.say(console)
+}
+
+// The score, whatever it is.
+fn say_score<C: Console>(db: &Db, state: &State, console: &mut C) -> Result<(), ConsoleFault>
+    requires { Fits db.now state.now }
+    ensures { Speaks C.history C.left C.bound C.faults console.old console.new result
+        (says (scored db.now state.now)) }
+{
+    match score(db, state, console) {
+        Ok(_all) => Ok(()),
+        Err(fault) => Err(fault),
+    }
+}
+
+// A refusal where the hands are full, and nothing otherwise.
+fn say_refusal<C: Console>(full: bool, console: &mut C) -> Result<(), ConsoleFault>
+    ensures { Speaks C.history C.left C.bound C.faults console.old console.new result
+        (says (if full then text_of TooMuch else [])) }
+{
+    if full {
+        console.say(Phrase::TooMuch.text())
+    } else {
+        say_nothing(console)
+    }
+}
+
+/// Says what an opcode says, in the state that it leaves; `full` tells whether the hands were full
+/// before it.
+pub fn tell<C: Console>(
+    db: &Db,
+    state: &State,
+    noun: &[u8],
+    opcode: Opcode,
+    full: bool,
+    console: &mut C,
+) -> Result<(), ConsoleFault>
+    requires { Fits db.now state.now }
+    ensures { Speaks C.history C.left C.bound C.faults console.old console.new result
+        (says (told db.now noun.now opcode full state.now)) }
+{
+    match opcode {
+        Opcode::Say(message) => say_message(db, message, console),
+        Opcode::Get => say_refusal(full, console),
+        Opcode::Talk(op) => talk(db, state, noun, op, console),
+        Opcode::Score => say_score(db, state, console),
+        Opcode::Die => say_death(db, state, console),
+        Opcode::Finish => console.say(Phrase::GameOver.text()),
+        _ => say_nothing(console),
+    }
+}

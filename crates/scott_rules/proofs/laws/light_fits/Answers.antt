@@ -1,0 +1,5 @@
+use Rattle.scott_rules.proofs.Fitting.{Fits-light_counted}
+use Rattle.scott_rules.proofs.laws.light_fits.Goals as goal
+
+pub returns : goal.returns
+returns c = λ db s limits fits. Fits-light_counted db limits s fits

@@ -1,0 +1,17 @@
+//! What a player means: the entry of the vocabulary that a word names, and the command of a line.
+#![tactic(auto)]
+
+mod commands;
+mod entries;
+mod matching;
+mod splitting;
+mod vocabulary;
+
+pub use commands::{GO, LAST_DIRECTION, command, is_direction};
+pub use matching::is_typed;
+pub use scott_types::{Column, Heard, Words};
+pub use splitting::{split, typed_noun, word_at};
+pub use vocabulary::{root, which};
+
+#[cfg(test)]
+mod tests;

@@ -1,0 +1,190 @@
+//! Each public call, on a vocabulary made by hand.
+use crate::{
+    Column, Heard, command, is_direction, is_typed, root, split, typed_noun, which, word_at,
+};
+use adv_io::Line;
+use scott_types::{Action, Db, Header, Item, Parts, Room, Text, Trailer, Word};
+use std::alloc::{AllocError, Global};
+use std::test::Fail;
+
+// The verbs and the nouns, by their numbers. Three bytes of a word count.
+const WORDS: [(&str, &str); 12] = [
+    ("AUTO", "ANY"),
+    ("*RUN", "NORTH"),
+    ("GO", "SOUTH"),
+    ("*WALK", "EAST"),
+    ("*", "WEST"),
+    ("LOOK", "UP"),
+    ("", "DOWN"),
+    ("*PEER", "LAMP"),
+    ("GET", "*LANT"),
+    ("LOOKUP", ""),
+    ("", "*NOTHING"),
+    ("ANY", "GO"),
+];
+
+fn text(alloc: Global, content: &str) -> Result<Text, AllocError> {
+    Ok(Text::of(content.as_bytes().to_vec(alloc)?))
+}
+
+fn words(alloc: Global) -> Result<Vec<Word>, AllocError> {
+    let mut words = Vec::new(alloc);
+    for (verb, noun) in WORDS {
+        words.push(Word {
+            verb: text(alloc, verb)?,
+            noun: text(alloc, noun)?,
+        })?;
+    }
+    Ok(words)
+}
+
+// A game with these words, and one entry in each other list.
+fn parts(alloc: Global) -> Result<Parts, AllocError> {
+    Ok(Parts {
+        header: Header {
+            unused: 0,
+            carry: 5,
+            start: 0,
+            treasures: 0,
+            length: 3,
+            light: -1,
+            home: 0,
+        },
+        actions: vec![in alloc;
+            Action {
+                vocab: 0,
+                conds: [0; 5],
+                pairs: [0; 2]
+            },
+        ]?,
+        words: words(alloc)?,
+        rooms: vec![in alloc;
+            Room {
+                exits: [0; 6],
+                text: text(alloc, "cell")?
+            },
+        ]?,
+        messages: vec![in alloc; text(alloc, "")?]?,
+        items: vec![in alloc;
+            Item {
+                text: text(alloc, "Lamp/LAMP/")?,
+                place: 0
+            },
+        ]?,
+        comments: vec![in alloc; text(alloc, "")?]?,
+        trailer: Trailer {
+            version: 1,
+            adventure: 1,
+            third: 1,
+        },
+    })
+}
+
+fn game(alloc: Global) -> Result<Db, Fail> {
+    Ok(Db::new(parts(alloc)?).ok().ok_or("the limits")?)
+}
+
+#[test]
+fn words_name_plain_entries(rt: HostRuntime) -> Result<(), Fail> {
+    let db = game(rt.alloc())?;
+    for (column, word, entry) in [
+        (Column::Verbs, "go", Some(2)),
+        (Column::Verbs, "WALKING", Some(2)),
+        (Column::Verbs, "auto", None),
+        (Column::Verbs, "run", None),
+        (Column::Verbs, "", None),
+        (Column::Verbs, "loo", Some(5)),
+        (Column::Verbs, "lo", None),
+        (Column::Verbs, "peer", Some(6)),
+        (Column::Verbs, "any", Some(11)),
+        (Column::Nouns, "any", None),
+        (Column::Nouns, "lantern", Some(7)),
+        (Column::Nouns, "nothing", Some(9)),
+    ] {
+        assert_eq!(rt; which(&db, column, word.as_bytes()), entry, "at {word}");
+    }
+    Ok(())
+}
+
+#[test]
+fn nouns_have_texts(rt: HostRuntime) -> Result<(), Fail> {
+    let db = game(rt.alloc())?;
+    let entries = db.parts().words.len();
+    assert_eq!(rt; entries, 12);
+    assert_eq!(rt; root(&db, 7), b"LAMP".as_slice());
+    assert_eq!(rt; root(&db, 8), b"*LANT".as_slice());
+    Ok(())
+}
+
+#[test]
+fn lines_split_into_words(rt: HostRuntime) {
+    for (typed, first, second, noun) in [
+        ("", None, None, ""),
+        ("  ", None, None, ""),
+        ("n", Some((0, 1)), None, ""),
+        (" look  ", Some((1, 4)), None, ""),
+        (" Get LAMP now", Some((1, 3)), Some((5, 4)), "lamp"),
+    ] {
+        let line = Line::of(typed.as_bytes());
+        let words = split(&line);
+        assert_eq!(rt; words.first, first, "at {typed}");
+        assert_eq!(rt; words.second, second, "at {typed}");
+        assert_eq!(rt; typed_noun(&line), noun.as_bytes(), "at {typed}");
+        if let Some((start, length)) = words.second {
+            assert_eq!(rt;
+                word_at(&line, start, length),
+                noun.as_bytes(),
+                "at {typed}"
+            );
+        }
+    }
+}
+
+#[test]
+fn lines_are_commands(rt: HostRuntime) -> Result<(), Fail> {
+    let db = game(rt.alloc())?;
+    for (typed, heard) in [
+        ("  ", Heard::Blank),
+        ("  w ", Heard::Command(1, Some(4))),
+        ("North lamp", Heard::Command(1, Some(1))),
+        ("n lamp", Heard::Unknown(0, 1)),
+        ("i", Heard::Unknown(0, 1)),
+        ("walk north", Heard::Command(2, Some(1))),
+        (" peer lant up", Heard::Command(6, Some(7))),
+        ("look xyzzy", Heard::Command(5, None)),
+        ("go", Heard::Command(2, None)),
+        ("lamp get", Heard::Unknown(0, 4)),
+        (" xyzzy rug", Heard::Unknown(1, 5)),
+    ] {
+        assert_eq!(rt;
+            command(&db, &Line::of(typed.as_bytes())),
+            heard,
+            "at {typed}"
+        );
+    }
+    Ok(())
+}
+
+#[test]
+fn six_nouns_are_directions(rt: HostRuntime) {
+    for (noun, direction) in [(0, false), (1, true), (6, true), (7, false)] {
+        assert_eq!(rt; is_direction(noun), direction, "at {noun}");
+    }
+}
+
+#[test]
+fn letters_that_count_match(rt: HostRuntime) {
+    for (size, word, typed, same) in [
+        (3, "LAMP", "lamb", true),
+        (4, "LAMP", "lamb", false),
+        (20, "LAMP", "lamp", true),
+        (20, "LAMP", "lamps", false),
+        (3, "", "", false),
+    ] {
+        assert_eq!(rt;
+            is_typed(size, word.as_bytes(), typed.as_bytes()),
+            same,
+            "at {word}"
+        );
+    }
+}

@@ -1,0 +1,66 @@
+//! The entries of the vocabulary, found by a word or by their number.
+ghost use Rattle.std.specs.Prelude.{◌≡◌, ◌+◌, ◌<◌, ◌≤◌, ◌&&◌, length, map, drop, is_some, IfSome, if◌then◌else◌};
+ghost use Rattle.scott_types.specs.ItemText.{is_starred};
+ghost use Rattle.scott_rules.specs.Words.{column_of, entry_from, is_typed, root, spelling, which};
+ghost use Rattle.scott_vocab.specs.Heard.{IsEntry};
+
+use crate::entries::{entry_text, spelling};
+use crate::matching::is_typed;
+use scott_types::{Column, Db, Word, starts_with_star};
+
+/// The number of the plain entry that a word names: that of the first entry from 1 on that matches it.
+/// There is none exactly where no entry does.
+///
+/// docs/TURN.md, "Words", states the rule.
+pub fn which(db: &Db, column: Column, word: &[u8]) -> Option<u16>
+    ensures value { result ≡ which db.now column word.now }
+    ensures there { IsEntry db.now result }
+{
+    let parts = db.parts();
+    plain_entry(&parts.words, column, parts.header.length as usize, word)
+}
+
+/// The text of a noun's entry, with the mark of a synonym where it has one.
+pub fn root(db: &Db, noun: u16) -> &[u8]
+    requires { noun < length db.now.words }
+    ensures { result.now ≡ root db.now noun }
+{
+    entry_text(&db.parts().words[noun as usize], Column::Nouns)
+}
+
+// The plain entry that a word names among these entries, of which there are at most 1,000.
+fn plain_entry(words: &[Word], column: Column, size: usize, word: &[u8]) -> Option<u16>
+    requires { length words.now ≤ 1000 }
+    ensures value { result ≡ entry_from size word.now None 1 (drop 1 (map (column_of column) words.now)) }
+    ensures there { IfSome result (λ k. k < length words.now) }
+{
+    let mut nearest = None;
+    for k in 1..words.len() {
+        let entry = entry_text(&words[k], column);
+        nearest = plain_at(nearest, entry, k as u16);
+        if names_plain(nearest, entry, size, word) {
+            return nearest;
+        }
+    }
+    None
+}
+
+// The nearest plain entry at or before entry k, where `before` is the nearest one before it.
+fn plain_at(before: Option<u16>, entry: &[u8], k: u16) -> Option<u16>
+    requires { IfSome before (λ plain. plain < k) }
+    ensures value { result ≡ (if is_starred entry.now then before else Some k) }
+    ensures there { IfSome result (λ plain. plain < k + 1) }
+{
+    if starts_with_star(entry) {
+        before
+    } else {
+        Some(k)
+    }
+}
+
+// Whether a word matches an entry that stands for a plain one, the nearest.
+fn names_plain(nearest: Option<u16>, entry: &[u8], size: usize, word: &[u8]) -> bool
+    ensures { result ≡ (is_typed size (spelling entry.now) word.now && is_some nearest) }
+{
+    nearest.is_some() && is_typed(size, spelling(entry), word)
+}
