@@ -9,3 +9,5 @@ pub mod items;
 pub mod lines;
 pub mod messages;
 pub mod rooms;
+#[cfg(test)]
+mod tests;

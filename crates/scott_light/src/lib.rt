@@ -11,3 +11,6 @@ pub use lamp::count_light;
 pub use looking::{add_look, inventory, look};
 pub use pages::Page;
 pub use scoring::{are_all_stored, score};
+
+#[cfg(test)]
+mod tests;
