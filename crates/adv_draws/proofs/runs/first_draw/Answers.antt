@@ -1,0 +1,28 @@
+use Rattle.std.proofs.Common.{◌≡◌, ◌+◌, ◌∷◌, get_or, None, ap, sym, ◌∙◌, inl, inr, arith}
+use Rattle.adv_draws.specs.Run.{draw_behind}
+use Rattle.adv_draws.proofs.RunLemmas.{run_at, run_at-solid, draw_behind-stuck, draw_behind-digit}
+use Rattle.adv_draws.proofs.runs.first_draw.Goals as goal
+
+pub returns-then-not-is_ascii_digit-clause-value : goal.returns-then-not-is_ascii_digit-clause-value
+returns-then-not-is_ascii_digit-clause-value c =
+    let text = c.args.text.now in
+    let at = c.loop-byte.byte-index in
+    let run = run_at-solid text at c.loop-byte-test.true (sym c.is_blank.ensures ∙ c.if-is_blank.false) in
+    let stuck = elim c.then-not-is_ascii_digit.either as (λ _. draw_behind c.loop-byte.number (get_or text at 0 ∷ run_at text (at + 1)) ≡ None) [
+      | inl other ↦ draw_behind-stuck c.loop-byte.number (get_or text at 0) (run_at text (at + 1)) (inl (sym c.is_ascii_digit.ensures.value ∙ other))
+      | inr large ↦ draw_behind-stuck c.loop-byte.number (get_or text at 0) (run_at text (at + 1)) (inr large.1)
+    ] in
+    sym stuck ∙ sym (ap (draw_behind c.loop-byte.number) run) ∙ c.loop-byte.invariant.goes_on
+
+pub loop-byte-preserved : goal.loop-byte-preserved
+loop-byte-preserved c =
+    let text = c.args.text.now in
+    let at = c.loop-byte.byte-index in
+    let run = run_at-solid text at c.loop-byte-test.true (sym c.is_blank.ensures ∙ c.if-is_blank.false) in
+    let digit = draw_behind-digit c.loop-byte.number (get_or text at 0) (run_at text (at + 1)) (sym c.is_ascii_digit.ensures.value ∙ c.if-not-is_ascii_digit.false) in
+    record {
+      small = omega (arith, c.type_inv.text at);
+      goes_on =
+          rw c.from.ensures
+          (sym digit ∙ sym (ap (draw_behind c.loop-byte.number) run) ∙ c.loop-byte.invariant.goes_on);
+    }

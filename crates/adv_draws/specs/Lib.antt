@@ -1,0 +1,6 @@
+pub mod Run
+pub mod Listed
+pub mod Seeded
+pub mod Supply
+pub mod Source
+pub mod Laws

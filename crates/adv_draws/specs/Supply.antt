@@ -1,0 +1,11 @@
+-- What a contract sees of a supply of draws.
+use Rattle.std.specs.Prelude.{ℕ, List}
+
+-- the draws that are left, and how many were taken
+pub record Supply : Type 0 where
+  pub left : List ℕ
+  pub taken : ℕ
+
+-- a supply of which nothing was taken
+abbrev pub untouched : List ℕ → Supply
+untouched draws = record { left = draws; taken = 0 }

@@ -1,0 +1,18 @@
+//! The laws of lists of draws. Each is the contract of a function that does nothing. Together they
+//! say what every text lists: it is runs with blanks between them.
+ghost use Rattle.adv_draws.specs.Laws.{NothingLists, RunAlone, BlankBetween};
+
+/// A text with no bytes lists no draws.
+pub fn nothing_lists()
+    ensures { NothingLists }
+{}
+
+/// A text that is one run lists its draw, or has its fault at its start.
+pub fn run_alone()
+    ensures { RunAlone }
+{}
+
+/// Two texts with a blank between them list the draws of both, or have the first fault of both.
+pub fn blank_between()
+    ensures { BlankBetween }
+{}

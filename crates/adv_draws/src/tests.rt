@@ -1,0 +1,57 @@
+//! What no clause says: outside vectors, and that the calls succeed with ample memory.
+use crate::{DrawFault, Draws};
+use std::process::Abort;
+use std::test::Fail;
+
+// Takes all that is expected, in order.
+fn expect_draws(rt: &impl Abort, draws: &mut Draws, wanted: &[u8]) {
+    for draw in wanted {
+        assert_eq!(rt; draws.next(), Some(*draw));
+    }
+    assert_eq!(rt; draws.taken(), wanted.len() as u64);
+}
+
+#[test]
+fn texts_list_draws(rt: HostRuntime) -> Result<(), Fail> {
+    for (text, wanted) in [
+        (b"2 100 100".as_slice(), [2, 100, 100].as_slice()),
+        (b"", &[]),
+        (b" \t\n\x0b\x0c\r", &[]),
+        (b" 007\n1", &[7, 1]),
+        (b"0000100\r\n50 ", &[100, 50]),
+    ] {
+        let mut draws = Draws::listed(rt.alloc(), text)?;
+        expect_draws(&rt, &mut draws, wanted);
+        assert_eq!(rt; draws.next(), None);
+        assert_eq!(rt; draws.taken(), wanted.len() as u64);
+    }
+    Ok(())
+}
+
+#[test]
+fn runs_that_are_no_draws_are_refused(rt: HostRuntime) {
+    for (text, offset) in [
+        (b"0".as_slice(), 0),
+        (b"5 101", 2),
+        (b"1 x", 2),
+        (b"+1", 0),
+        (b"1000", 0),
+        (b"  000 5", 2),
+        (b"7 1x 0", 2),
+        (b"10\n99999999999999999999", 3),
+        (b"8 9\x08", 2),
+    ] {
+        let answer = Draws::listed(rt.alloc(), text).err();
+        assert_eq!(rt; answer, Some(DrawFault::NotADraw(offset)));
+    }
+}
+
+#[test]
+fn seeds_give_the_words_of_the_generator(rt: HostRuntime) {
+    for (seed, wanted) in [
+        (1, [50, 65, 56, 28, 39, 98, 7, 100, 75, 44].as_slice()),
+        (33, &[25, 44, 32, 52, 74]),
+    ] {
+        expect_draws(&rt, &mut Draws::seeded(seed), wanted);
+    }
+}

@@ -1,0 +1,11 @@
+pub mod Plans
+pub mod Loop
+pub mod Exact
+pub mod Always
+pub mod Kept
+pub mod Told
+pub mod Tokens
+pub mod CanonText
+pub mod Entries
+pub mod Whole
+pub mod Texts

@@ -1,0 +1,5 @@
+use Rattle.scott_format.proofs.Told.{one_database}
+use Rattle.scott_format.proofs.laws.one_database.Goals as goal
+
+pub returns : goal.returns
+returns c = one_database c.text_laws.ensures

@@ -1,0 +1,14 @@
+use Rattle.scott_format.proofs.Told.{found, only, exact, due}
+use Rattle.scott_format.proofs.reading.read_db.Goals as goal
+
+pub returns-clause-found : goal.returns-clause-found
+returns-clause-found c = found c.text_laws.ensures c.args.bytes.now c.read.result c.read.ensures.value
+
+pub returns-clause-only : goal.returns-clause-only
+returns-clause-only c = only c.text_laws.ensures c.args.bytes.now c.read.result c.read.ensures.value c.read.ensures.fault
+
+pub returns-clause-exact : goal.returns-clause-exact
+returns-clause-exact c = exact c.text_laws.ensures c.args.bytes.now c.read.result c.read.ensures.fault
+
+pub returns-clause-due : goal.returns-clause-due
+returns-clause-due c = due c.text_laws.ensures c.args.bytes.now c.read.result c.read.ensures.value c.read.ensures.fault

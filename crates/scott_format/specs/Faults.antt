@@ -1,0 +1,36 @@
+-- Why a text is no database.
+use Rattle.std.specs.Prelude.{ℕ, ℤ}
+use Rattle.adv_text.specs.Reading.{Fault as TextFault}
+use Rattle.adv_text.specs.Reading.{no_number, big_number, no_quote, open_string, long_string}
+use Rattle.adv_text.specs.declared.faults.TextFault.{TextFault as TextAnswer}
+use Rattle.adv_text.specs.declared.faults.TextFault.TheVariants as given
+use Rattle.scott_format.specs.declared.faults.Field.{Field}
+use Rattle.scott_format.specs.declared.faults.FormatFault.{FormatFault}
+use Rattle.scott_format.specs.declared.faults.FormatFault.TheVariants as answer
+
+-- what is wrong: a number or a string, or a number out of the limits of its place
+pub data Fault : Type 0 where
+  text : TextFault → Fault
+  limit : Field → ℤ → Fault
+  no_start : ℤ → Fault
+  negative_action : ℕ → Fault
+
+-- the program's fault for a fault of the format
+abbrev pub told : Fault → FormatFault
+told (text (no_number at)) = answer.NoNumber at
+told (text (big_number at)) = answer.BigNumber at
+told (text (no_quote at)) = answer.NoQuote at
+told (text (open_string at)) = answer.OpenString at
+told (text (long_string at)) = answer.LongString at
+told (limit field value) = answer.Limit field value
+told (no_start value) = answer.NoStart value
+told (negative_action k) = answer.NegativeAction k
+
+-- the fault of the format for a fault of its text
+abbrev pub of_text : TextAnswer → FormatFault
+of_text (given.NoNumber at) = answer.NoNumber at
+of_text (given.BigNumber at) = answer.BigNumber at
+of_text (given.NoQuote at) = answer.NoQuote at
+of_text (given.OpenString at) = answer.OpenString at
+of_text (given.LongString at) = answer.LongString at
+of_text given.Memory = answer.Memory

@@ -1,0 +1,15 @@
+-- What is known of numbers and strings.
+use Rattle.adv_text.specs.Laws.{NumberIsSpelled, SpelledNumberIsRead, NumberFaultIsExact, StringIsSpelled, SpelledStringIsRead, NumberFits, StringIsText, NumberLeavesBytes, StringLeavesBytes, WrittenNumberIsSpelled, WrittenStringIsSpelled}
+
+pub record TextLaws : Type 0 where
+  pub number_is_spelled : NumberIsSpelled
+  pub spelled_number_is_read : SpelledNumberIsRead
+  pub number_fault_is_exact : NumberFaultIsExact
+  pub string_is_spelled : StringIsSpelled
+  pub spelled_string_is_read : SpelledStringIsRead
+  pub number_fits : NumberFits
+  pub string_is_text : StringIsText
+  pub number_leaves_bytes : NumberLeavesBytes
+  pub string_leaves_bytes : StringLeavesBytes
+  pub written_number_is_spelled : WrittenNumberIsSpelled
+  pub written_string_is_spelled : WrittenStringIsSpelled

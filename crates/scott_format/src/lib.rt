@@ -1,0 +1,20 @@
+//! The text of a database: reading one, with the first fault that is met, and writing one.
+#![tactic(auto)]
+
+mod faults;
+mod header;
+pub mod laws;
+mod lines;
+mod lists;
+mod numbers;
+mod pieces;
+mod reading;
+mod text_laws;
+mod writing;
+
+pub use faults::{Field, FormatFault};
+pub use reading::read_db;
+pub use writing::write_db;
+
+#[cfg(test)]
+mod tests;

@@ -1,0 +1,105 @@
+//! Reading a database's text.
+ghost use Rattle.std.specs.Prelude.{◌≡◌, ◌≤◌, length, IfOk, IfErr, Err};
+ghost use Rattle.scott_types.specs.Database.{Database, database_of};
+ghost use Rattle.adv_text.specs.Reading.{spot};
+ghost use Rattle.scott_format.specs.Faults.{Fault, told};
+ghost use Rattle.scott_format.specs.Plan.{run};
+ghost use Rattle.scott_format.specs.Sections.{trailer};
+ghost use Rattle.scott_format.specs.File.{file, header_of, IsReadFrom, DatText, DatFault};
+ghost use Rattle.scott_format.specs.Reading.{Follows, Gives, Stands, IsDb, IsErrOrMemory};
+
+use crate::faults::FormatFault;
+use crate::header::{Closing, Course, Sizes};
+use crate::lists::list;
+use crate::numbers::{number, third_number};
+use crate::text_laws::text_laws;
+use adv_text::Scan;
+use scott_types::{Db, Header, Parts, Trailer};
+use std::alloc::Global;
+
+// The last three numbers.
+#[tactic(auto, unfolding(crate::specs::Sections::trailer))]
+fn last_numbers(scan: &mut Scan) -> Result<Trailer, FormatFault>
+    ensures { Follows trailer scan.old result scan.new }
+{
+    let version = number(scan)?;
+    let adventure = number(scan)?;
+    let third = third_number(scan)?;
+    Ok(Trailer {
+        version,
+        adventure,
+        third,
+    })
+}
+
+// The numbers of the header that no length of a list gives.
+fn header_of(sizes: Sizes, course: Course, closing: Closing) -> Header
+    ensures { result ≡ header_of sizes course closing }
+{
+    Header {
+        unused: sizes.unused,
+        carry: course.carry,
+        start: course.start,
+        treasures: course.treasures,
+        length: course.length,
+        light: course.light,
+        home: closing.home,
+    }
+}
+
+// The parts of a database.
+#[tactic(auto, using(crate::proofs::Plans::sections), unfolding(crate::specs::File::file, crate::specs::File::body))]
+fn parts(alloc: Global, scan: &mut Scan) -> Result<Parts, FormatFault>
+    ensures { Gives database_of file scan.old result scan.new }
+{
+    let sizes = Sizes::read(scan)?;
+    let course = Course::read(scan, sizes.rooms)?;
+    let closing = Closing::read(scan)?;
+    let actions = list(alloc, scan, sizes.actions)?;
+    let words = list(alloc, scan, sizes.words)?;
+    let rooms = list(alloc, scan, u16::from(sizes.rooms))?;
+    let messages = list(alloc, scan, closing.messages)?;
+    let items = list(alloc, scan, u16::from(sizes.items))?;
+    let comments = list(alloc, scan, sizes.actions)?;
+    let trailer = last_numbers(scan)?;
+    Ok(Parts {
+        header: header_of(sizes, course, closing),
+        actions,
+        words,
+        rooms,
+        messages,
+        items,
+        comments,
+        trailer,
+    })
+}
+
+// The database that the bytes are a text of, as the definition reads it.
+fn read(alloc: Global, bytes: &[u8]) -> Result<Db, FormatFault>
+    ensures value { IfOk result (λ db. IsReadFrom bytes.now db) }
+    ensures fault { IfErr result (λ fault. Stands fault (run file (spot 0 bytes.now))) }
+{
+    text_laws();
+    let mut scan = Scan::new(bytes);
+    let parts = parts(alloc, &mut scan)?;
+    Ok(Db::of(parts))
+}
+
+/// Reads a database's text. What follows the trailer is ignored.
+///
+/// The faults are those of `FormatFault`; the first one in the order of the file is answered. A number
+/// is tested as soon as it is read. docs/FORMAT.md has the rule.
+pub fn read_db(alloc: Global, bytes: &[u8]) -> Result<Db, FormatFault>
+    requires { length bytes.now ≤ 1048576 }
+
+    // What is read has this text, and what has a text is read, unless memory runs out.
+    ensures found { IfOk result (λ db. DatText bytes.now db) }
+    ensures only { (db : Database) → DatText bytes.now db → IsDb result db }
+
+    // A fault but `Memory` is answered only where it is the first one, and there, unless memory runs out.
+    ensures exact { (fault : Fault) → result ≡ Err (told fault) → DatFault bytes.now fault }
+    ensures due { (fault : Fault) → DatFault bytes.now fault → IsErrOrMemory result (told fault) }
+{
+    text_laws();
+    read(alloc, bytes)
+}

@@ -1,0 +1,194 @@
+//! Texts of databases that are read and written back, and those that are refused.
+use super::*;
+use std::alloc::{AllocError, Global};
+use std::test::*;
+
+const HEADER: &[u8] = b"0 0 0 6 2 5 1 0 3 -1 0 0\n";
+
+const ACTION: &[u8] = b"0 0 0 0 0 0 0 0\n";
+
+const LISTS: &[u8] = b"\"AUT\" \"ANY\"
+\"GO\" \"NORTH\"
+\"*WALK\" \"SOUTH\"
+\"LOOK\" \"EAST\"
+\"\" \"WEST\"
+\"\" \"UP\"
+\"\" \"DOWN\"
+0 0 0 0 0 0 \"\"
+2 0 0 0 0 0 \"hall\"
+0 1 0 0 0 0 \"*I'm on a hill\"
+\"\"
+";
+
+const ITEM: &[u8] = b"\"Rug\" 1\n";
+
+const TRAILER: &[u8] = b"416 1 0\n";
+
+// A game of these parts, between the lists and the comment that stay.
+fn game(
+    alloc: Global,
+    header: &[u8],
+    action: &[u8],
+    item: &[u8],
+    trailer: &[u8],
+) -> Result<Vec<u8>, AllocError> {
+    let mut bytes = Vec::from_slice(alloc, header)?;
+    bytes.extend_from_slice(action)?;
+    bytes.extend_from_slice(LISTS)?;
+    bytes.extend_from_slice(item)?;
+    bytes.extend_from_slice(b"\"\"\n")?;
+    bytes.extend_from_slice(trailer)?;
+    Ok(bytes)
+}
+
+#[test]
+fn texts_are_read_and_written_back(rt: HostRuntime) -> Result<(), Fail> {
+    let plain = game(rt.alloc(), HEADER, ACTION, ITEM, TRAILER)?;
+    assert_eq!(rt; plain.len(), 209);
+    let carried = game(rt.alloc(), HEADER, ACTION, b"\"Rug\" 255\n", TRAILER)?;
+    for (item, trailer, text) in [
+        (ITEM, TRAILER, &plain),
+        (ITEM, b"416 1".as_slice(), &plain),
+        (ITEM, b"416 1 +00 0 and more".as_slice(), &plain),
+        (b"  \"Rug\"\r\n-1 ".as_slice(), TRAILER, &carried),
+    ] {
+        let bytes = game(rt.alloc(), HEADER, ACTION, item, trailer)?;
+        assert!(rt; bytes.len() <= 1048576);
+        let db = read_db(rt.alloc(), &bytes)?;
+        let written = write_db(rt.alloc(), &db)?;
+        assert_eq!(rt; written.as_slice(), text.as_slice());
+    }
+    Ok(())
+}
+
+#[test]
+fn parts_are_in_their_places(rt: HostRuntime) -> Result<(), Fail> {
+    let header = b"-7 0 0 6 2 -5 1 +13 20 125 0 77\n";
+    let action = b"151 1 2 3 4 5 6 7\n";
+    let bytes = game(rt.alloc(), header, action, b"\"a\"\"b`\" 259 ", b"1 2 3 4")?;
+    assert!(rt; bytes.len() <= 1048576);
+    let db = read_db(rt.alloc(), &bytes)?;
+    let parts = db.parts();
+    let numbers = &parts.header;
+    assert_eq!(rt;
+        (numbers.unused, numbers.carry, numbers.treasures),
+        (-7, -5, 13)
+    );
+    assert_eq!(rt; (numbers.start, numbers.length), (1, 20));
+    assert_eq!(rt; (numbers.light, numbers.home), (125, 77));
+    for line in &parts.actions {
+        assert_eq!(rt; line.vocab, 151);
+        assert_eq!(rt; line.conds, [1, 2, 3, 4, 5]);
+        assert_eq!(rt; line.pairs, [6, 7]);
+    }
+    for item in &parts.items {
+        assert_eq!(rt; item.text.bytes(), b"a\"b\"".as_slice());
+        assert_eq!(rt; item.place, 3);
+    }
+    assert_eq!(rt; parts.words.len(), 7);
+    assert_eq!(rt; parts.rooms.len(), 3);
+    assert_eq!(rt; (parts.trailer.version, parts.trailer.third), (1, 3));
+    Ok(())
+}
+
+#[test]
+fn parts_are_refused(rt: HostRuntime) -> Result<(), Fail> {
+    for (header, action, trailer, fault) in [
+        (
+            b"0 0 0 6 255 5 1 0 3 -1 0 0\n".as_slice(),
+            ACTION,
+            TRAILER,
+            FormatFault::Limit(Field::HighestRoom, 255),
+        ),
+        (
+            b"0 255 x".as_slice(),
+            ACTION,
+            TRAILER,
+            FormatFault::Limit(Field::HighestItem, 255),
+        ),
+        (
+            b"0 0 -1 0 0 0 3 0 3 -1 0 0\n".as_slice(),
+            ACTION,
+            TRAILER,
+            FormatFault::Limit(Field::HighestAction, -1),
+        ),
+        (
+            b"0 0 0 1000 ".as_slice(),
+            ACTION,
+            TRAILER,
+            FormatFault::Limit(Field::HighestWord, 1000),
+        ),
+        (
+            b"0 0 0 6 2 5 3 0 3 -1 0 0\n".as_slice(),
+            ACTION,
+            TRAILER,
+            FormatFault::NoStart(3),
+        ),
+        (
+            b"0 0 0 6 2 5 1 0 0 -1 0 0\n".as_slice(),
+            ACTION,
+            TRAILER,
+            FormatFault::Limit(Field::WordLength, 0),
+        ),
+        (
+            b"0 0 0 6 2 5 1 0 3 -2 0 0\n".as_slice(),
+            ACTION,
+            TRAILER,
+            FormatFault::Limit(Field::LightTime, -2),
+        ),
+        (
+            b"0 0 0 6 2 5 1 0 3 -1 1000 0\n".as_slice(),
+            ACTION,
+            TRAILER,
+            FormatFault::Limit(Field::HighestMessage, 1000),
+        ),
+        (b" x".as_slice(), ACTION, TRAILER, FormatFault::NoNumber(1)),
+        (
+            HEADER,
+            b"0 0 0 0 0 0 0 -1\n".as_slice(),
+            TRAILER,
+            FormatFault::NegativeAction(0),
+        ),
+        (
+            HEADER,
+            b"0 0 0 0 0 0 0 0 0\n".as_slice(),
+            TRAILER,
+            FormatFault::NoQuote(41),
+        ),
+        (
+            HEADER,
+            ACTION,
+            b"416 1 2147483648".as_slice(),
+            FormatFault::BigNumber(207),
+        ),
+        (
+            HEADER,
+            ACTION,
+            b"416 x".as_slice(),
+            FormatFault::NoNumber(205),
+        ),
+    ] {
+        let bytes = game(rt.alloc(), header, action, ITEM, trailer)?;
+        assert!(rt; bytes.len() <= 1048576);
+        assert_eq!(rt; read_db(rt.alloc(), &bytes).err(), Some(fault));
+    }
+    Ok(())
+}
+
+#[test]
+fn cut_comment_is_open(rt: HostRuntime) -> Result<(), Fail> {
+    let mut bytes = game(rt.alloc(), HEADER, ACTION, ITEM, TRAILER)?;
+    bytes.truncate(199);
+    assert!(rt; bytes.len() <= 1048576);
+    assert_eq!(rt;
+        read_db(rt.alloc(), &bytes).err(),
+        Some(FormatFault::OpenString(198))
+    );
+    bytes.clear();
+    assert!(rt; bytes.len() <= 1048576);
+    assert_eq!(rt;
+        read_db(rt.alloc(), &bytes).err(),
+        Some(FormatFault::NoNumber(0))
+    );
+    Ok(())
+}
