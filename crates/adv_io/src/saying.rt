@@ -1,4 +1,4 @@
-//! Saying several texts at once.
+//! Saying several texts, one behind the other.
 ghost use Rattle.adv_io.specs.History.{says};
 ghost use Rattle.adv_io.specs.Console.{Speaks, joined};
 

@@ -1,3 +1,4 @@
+//! Numbers and strings at the ends of their ranges, with ample memory.
 use super::*;
 use std::alloc::Global;
 use std::test::*;

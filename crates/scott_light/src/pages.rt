@@ -1,4 +1,4 @@
-//! Texts that are gathered, to be said at once.
+//! Texts that are gathered first, and then said one behind the other.
 ghost use Rattle.std.specs.Prelude.{◌≡◌, ◌+◌, ◌<◌, ◌≤◌, ◌*◌, ◌++◌, [], length, map, flat_map};
 ghost use Rattle.adv_io.specs.History.{says};
 ghost use Rattle.adv_io.specs.Console.{Speaks};
@@ -83,7 +83,7 @@ impl<'a> Page<'a> {
         }
     }
 
-    /// Says all texts at once.
+    /// Says all texts, one behind the other.
     pub fn say<C: Console>(&self, console: &mut C) -> Result<(), ConsoleFault>
         ensures { Speaks C.history C.left C.bound C.faults console.old console.new result
             (says self.now.text) }

@@ -41,7 +41,7 @@ fn rate_of(treasures: i32, stored: usize) -> i32
     }
 }
 
-/// Whether all treasures are stored.
+// Whether all treasures are stored.
 fn is_full(treasures: i32, stored: usize) -> bool
     requires { stored ≤ 255 }
     ensures { result ≡ is_full_score treasures stored }

@@ -70,6 +70,7 @@ fn room_fits(room: &Room) -> bool
     all_numbers(&room.exits) && text_fits(&room.text)
 }
 
+// A place is a byte: its type says so, and the proof learns it here.
 fn item_fits(item: &Item) -> bool
     ensures { result ≡ is_item item.now }
 {
