@@ -102,7 +102,7 @@ module _ (db : Database) (limits : KeepsLimits db) where
   is_place-destination PutDown s fits = place_from_room db limits s.room fits.rooms.room
 
   -- an item is brought there
-  Fits-transferred : (t : Transfer) (item : ℕ) (s : State) → Fits db s → Fits db (transferred t item s)
+  pub Fits-transferred : (t : Transfer) (item : ℕ) (s : State) → Fits db s → Fits db (transferred t item s)
   Fits-transferred t item s fits =
       Fits-redraw db limits _ true (Fits-with_place db limits s item (destination t s) (is_place-destination t s fits) fits)
 
@@ -184,7 +184,7 @@ module _ (db : Database) (limits : KeepsLimits db) where
       cond_both (room == 0) _ _ (LeavesFitting db) (λ _. Fits-no_way (is_dark s) s fits) (λ _. went)
 
   -- a walk in a direction
-  Fits-walked : (noun : ℕ) (s : State) → Fits db s → Fits db (walked db noun s).value.state
+  pub Fits-walked : (noun : ℕ) (s : State) → Fits db s → Fits db (walked db noun s).value.state
   Fits-walked noun s fits =
       let exit = slice_index_or (room_at db s.room).exits (noun - 1) (pos 0) in
       Fits-way (room_behind (length db.rooms) exit) s (is_room-room_behind exit) fits

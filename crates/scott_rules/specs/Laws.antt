@@ -4,6 +4,7 @@ use Rattle.adv_io.specs.History.{lines_taken, draws_taken}
 use Rattle.scott_types.specs.declared.states.State.{State}
 use Rattle.scott_types.specs.declared.commands.Column.{Column}
 use Rattle.scott_types.specs.declared.endings.Ran.TheVariants.{Not}
+use Rattle.scott_types.specs.declared.endings.Transfer.{Transfer}
 use Rattle.scott_types.specs.declared.endings.Position.{Position}
 use Rattle.scott_types.specs.declared.endings.Position.TheVariants.{Fresh, Over}
 use Rattle.scott_types.specs.declared.opcodes.Opcode.{Opcode}
@@ -16,6 +17,8 @@ use Rattle.scott_rules.specs.Words.{is_typed, spelling, entries_of, which}
 use Rattle.scott_rules.specs.Lines.{LineOutcome, line_done}
 use Rattle.scott_rules.specs.Light.{light_counted}
 use Rattle.scott_rules.specs.Opcodes.{changed}
+use Rattle.scott_rules.specs.Transfer.{transferred}
+use Rattle.scott_rules.specs.Rounds.{walked}
 use Rattle.scott_rules.specs.Play.{Stop, go}
 
 -- ---- words
@@ -92,6 +95,14 @@ OpcodeFits = (db : Database) (opcode : Opcode) (p q : ℕ) (s : State) → Keeps
 -- an action line leaves a state that fits
 abbrev pub LineFits : Type 0
 LineFits = (db : Database) (noun : List ℕ) (line : ℕ) (s : State) → KeepsLimits db → Fits db s → Fits db (line_done db noun line s).value.state
+
+-- an item that is got or dropped leaves a state that fits
+abbrev pub TransferFits : Type 0
+TransferFits = (db : Database) (t : Transfer) (item : ℕ) (s : State) → KeepsLimits db → Fits db s → Fits db (transferred t item s)
+
+-- a walk in a direction leaves a state that fits
+abbrev pub WalkFits : Type 0
+WalkFits = (db : Database) (noun : ℕ) (s : State) → KeepsLimits db → Fits db s → Fits db (walked db noun s).value.state
 
 -- every state that a play leaves fits its database
 abbrev pub PlayFits : Type 0

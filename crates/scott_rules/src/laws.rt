@@ -1,5 +1,5 @@
 //! The laws of the rules. Each is the contract of a function that does nothing.
-ghost use Rattle.scott_rules.specs.Laws.{WordNamesLeastMatch, FailedLineDoesNothing, PlaySplits, PlaySpends, LightFits, OpcodeFits, LineFits, PlayFits, PlayStops, EndingStays};
+ghost use Rattle.scott_rules.specs.Laws.{WordNamesLeastMatch, FailedLineDoesNothing, PlaySplits, PlaySpends, LightFits, OpcodeFits, LineFits, TransferFits, WalkFits, PlayFits, PlayStops, EndingStays};
 
 /// A word names the plain entry of the least entry that matches it, which is the nearest plain entry
 /// at or before it; and no entry where none matches.
@@ -36,6 +36,16 @@ pub fn opcode_fits()
 /// An action line leaves a state that fits its database.
 pub fn line_fits()
     ensures { LineFits }
+{}
+
+/// An item that is got or dropped leaves a state that fits its database.
+pub fn transfer_fits()
+    ensures { TransferFits }
+{}
+
+/// A walk in a direction leaves a state that fits its database.
+pub fn walk_fits()
+    ensures { WalkFits }
 {}
 
 /// Every state that a play leaves fits its database.
