@@ -1,0 +1,63 @@
+-- Groups and tails by the numbers of their lines.
+use Rattle.std.proofs.Common.{◌≡◌, ◌∙◌, ℕ, ◌+◌, ◌≤◌, ◌<◌, List, [], ◌∷◌, Bool, true, false, cond, not, length, drop, refl, sym, ap, arith, add-one, drop-cons}
+use Rattle.std.proofs.lemmas.List.{drop_all}
+use Rattle.std.specs.Prelude.{◌==◌, ◌&&◌, filter}
+use Rattle.scott_types.specs.declared.parts.Action.{Action}
+use Rattle.scott_types.specs.Database.{Database}
+use Rattle.scott_types.specs.Action.{verb_of}
+use Rattle.scott_rules.specs.Lines.{action_at}
+use Rattle.scott_rules.specs.Groups.{Group, tail_of, groups_of, groups_from}
+use Rattle.scott_turn.specs.Heads.{tail_from, group_at, has_verb, groups_for, is_head_of, TailGoesOn}
+
+no_line : Action
+no_line = record { vocab = 0; conds = []; pairs = [] }
+
+-- the lines from one on begin with it
+lines_from : (db : Database) (line : ℕ) → line < length db.actions → drop line db.actions ≡ action_at db line ∷ drop (line + 1) db.actions
+lines_from db line there = drop-cons db.actions line (record { vocab = 0; conds = []; pairs = [] }) there ∙ ap (λ n. action_at db line ∷ drop n db.actions) (sym (add-one line))
+
+-- ---- tails
+
+tail_from-at : (db : Database) (line : ℕ) (a : Action) (in_tail : Bool) → line < length db.actions → action_at db line ≡ a → (a.vocab == 0) ≡ in_tail
+    → tail_from db line ≡ cond in_tail (line ∷ tail_from db (line + 1)) []
+tail_from-at db line a in_tail there is test =
+    ap (tail_of line) (lines_from db line there)
+    ∙ ap (λ b. cond b (line ∷ tail_from db (line + 1)) []) (ap (λ x. x.vocab == 0) is ∙ test)
+
+-- a line that is there goes on with the tail where its vocabulary is 0
+pub tail_there : (db : Database) (line : ℕ) (a : Action) (in_tail : Bool) → line < length db.actions → action_at db line ≡ a → (a.vocab == 0) ≡ in_tail → TailGoesOn db line in_tail
+tail_there db line a true there is test = (there, tail_from-at db line a true there is test)
+tail_there db line a false there is test = tail_from-at db line a false there is test
+
+-- behind the last line there is none
+pub tail_ended : (db : Database) (line : ℕ) → length db.actions ≤ line → TailGoesOn db line false
+tail_ended db line past = ap (tail_of line) (drop_all line db.actions past)
+
+-- ---- heads
+
+filter-head : (p : Group → Bool) (in_tail : Bool) (g : Group) (rest : List Group) → filter p (cond in_tail rest (g ∷ rest)) ≡ cond (not in_tail && p g) (g ∷ filter p rest) (filter p rest)
+filter-head p true g rest = refl
+filter-head p false g rest = refl
+
+groups_for-at : (db : Database) (verb line : ℕ) (a : Action) (head : Bool) → line < length db.actions → action_at db line ≡ a → is_head_of verb a ≡ head
+    → groups_for db verb line ≡ cond head (group_at db line ∷ groups_for db verb (line + 1)) (groups_for db verb (line + 1))
+groups_for-at db verb line a head there is test =
+    ap (λ lines. filter (has_verb verb) (groups_of line lines)) (lines_from db line there)
+    ∙ filter-head (has_verb verb) ((action_at db line).vocab == 0) (group_at db line) (groups_from db (line + 1))
+    ∙ ap (λ b. cond b (group_at db line ∷ groups_for db verb (line + 1)) (groups_for db verb (line + 1))) (ap (is_head_of verb) is ∙ test)
+
+-- a line that is no head of the verb is passed over
+pub groups_for-skip : (db : Database) (verb line : ℕ) (a : Action) → line < length db.actions → action_at db line ≡ a → is_head_of verb a ≡ false → groups_for db verb line ≡ groups_for db verb (line + 1)
+groups_for-skip db verb line a there is test = groups_for-at db verb line a false there is test
+
+-- a head of the verb comes first
+pub groups_for-head : (db : Database) (verb line : ℕ) (a : Action) → line < length db.actions → action_at db line ≡ a → is_head_of verb a ≡ true → groups_for db verb line ≡ group_at db line ∷ groups_for db verb (line + 1)
+groups_for-head db verb line a there is test = groups_for-at db verb line a true there is test
+
+-- behind the last line there is none
+pub groups_for-end : (db : Database) (verb line : ℕ) → length db.actions ≤ line → groups_for db verb line ≡ []
+groups_for-end db verb line past = ap (λ lines. filter (has_verb verb) (groups_of line lines)) (drop_all line db.actions past)
+
+-- a head of a verb has it
+pub verb_of_head : (verb : ℕ) (a : Action) → is_head_of verb a ≡ true → verb_of a.vocab ≡ verb
+verb_of_head verb a test = grind (arith, test)

@@ -1,0 +1,11 @@
+pub mod Seeing
+pub mod Going
+pub mod Groups
+pub mod Tries
+pub mod Turning
+pub mod Items
+pub mod Walks
+pub mod Prompts
+pub mod Playing
+pub mod Sittings
+pub mod Said

@@ -1,0 +1,272 @@
+-- The walks over groups, turn by turn.
+use Rattle.std.proofs.Common.{◌≡◌, ◌∙◌, ℕ, ◌+◌, Bool, true, false, cond, List, [], ◌∷◌, ◌++◌, Option, Some, None, refl, sym, ap, eq-eqb}
+use Rattle.std.proofs.lemmas.List.{append-nil}
+use Rattle.std.specs.Prelude.{nat_le, ◌==◌, ◌&&◌, filter}
+use Rattle.scott_types.specs.declared.states.State.{State}
+use Rattle.scott_types.specs.declared.endings.Ran.{Ran}
+use Rattle.scott_types.specs.declared.endings.Ran.TheVariants.{Not, Passed, Over as Ended}
+use Rattle.scott_types.specs.declared.endings.Halt.{Halt}
+use Rattle.scott_types.specs.declared.endings.Halt.TheVariants.{Through, Waits, Over as AtEnd}
+use Rattle.scott_types.specs.declared.endings.Found.{Found}
+use Rattle.scott_types.specs.declared.endings.Found.TheVariants.{Over, Done, Matched, NoMatch}
+use Rattle.scott_types.specs.Database.{Database}
+use Rattle.scott_types.specs.Action.{verb_of, noun_of}
+use Rattle.scott_rules.specs.Told.{Told, Step, Drew, telling, after}
+use Rattle.scott_rules.specs.Lines.{LineOutcome, action_at}
+use Rattle.scott_rules.specs.Groups.{Group, AutoOutcome, over_of, groups, groups_from, group_tried, auto_behind, auto_tried, auto_drawn, auto_group, automatic}
+use Rattle.scott_rules.specs.Search.{SearchOutcome, is_for_noun, at_least_matched, matched, search_behind, search_group, searched}
+use Rattle.scott_turn.specs.Heads.{group_at, has_verb, groups_for, ComesNext}
+use Rattle.scott_turn.specs.Turns.{halt_of, entered, auto_turn, by_halt, goes_through, found_of, search_turn, by_turn, at_least, with_before, ends_search}
+use Rattle.scott_turn.proofs.Going.{after-after}
+
+-- ---- the automatic step walks over the groups of verb 0 alone
+
+auto_group-for : (is_automatic : Bool) (db : Database) (g : Group) (gs hs : List Group) → (verb_of g.vocab == 0) ≡ is_automatic → automatic db gs ≡ automatic db hs
+    → (s : State) (draws : List ℕ) → auto_group is_automatic db g s draws (automatic db gs) ≡ automatic db (cond is_automatic (g ∷ hs) hs) s draws
+auto_group-for true db g gs hs test same s draws =
+    ap (auto_group true db g s draws) same ∙ ap (λ b. auto_group b db g s draws (automatic db hs)) (sym test)
+auto_group-for false db g gs hs test same s draws = ap (λ next. next s draws) same
+
+automatic-filter : (db : Database) (gs : List Group) → automatic db gs ≡ automatic db (filter (has_verb 0) gs)
+automatic-filter db [] = refl
+automatic-filter db (g ∷ gs) =
+    let turn = auto_group-for (verb_of g.vocab == 0) db g gs (filter (has_verb 0) gs) refl (automatic-filter db gs) in
+    λ i s draws. turn s draws i
+
+pub automatic-for : (db : Database) (line : ℕ) (s : State) (draws : List ℕ) → automatic db (groups_from db line) s draws ≡ automatic db (groups_for db 0 line) s draws
+automatic-for db line s draws = ap (λ walk. walk s draws) (automatic-filter db (groups_from db line))
+
+-- ---- one turn of it
+
+auto_behind-halt : (over : Option ℕ) (t : Told Step LineOutcome) (draws : List ℕ) (next : State → List ℕ → Told Step AutoOutcome)
+    → auto_behind over t draws next ≡ by_halt (halt_of over) (telling t.events (record { state = t.value.state; draws = draws; halt = halt_of over })) next
+auto_behind-halt None t draws next = refl
+auto_behind-halt (Some ending) t draws next = refl
+
+auto_tried-entered : (lets_in : Bool) (db : Database) (g : Group) (s : State) (draws : List ℕ) (next : State → List ℕ → Told Step AutoOutcome)
+    → auto_tried lets_in db g s draws next ≡ by_halt (entered lets_in db g s draws).value.halt (entered lets_in db g s draws) next
+auto_tried-entered true db g s draws next = let t = group_tried db [] g s in auto_behind-halt (over_of t.value.ran) t draws next
+auto_tried-entered false db g s draws next = refl
+
+by_halt-after : (halt : Halt) (es : List Step) (t : Told Step AutoOutcome) (next : State → List ℕ → Told Step AutoOutcome) → after es (by_halt halt t next) ≡ by_halt halt (after es t) next
+by_halt-after Through es t next = after-after es t.events (next t.value.state t.value.draws)
+by_halt-after (Waits head) es t next = refl
+by_halt-after (AtEnd ending) es t next = refl
+
+auto_drawn-turn : (db : Database) (g : Group) (s : State) (draws : List ℕ) (next : State → List ℕ → Told Step AutoOutcome)
+    → auto_drawn db g s draws next ≡ by_halt (auto_turn db g s draws).value.halt (auto_turn db g s draws) next
+auto_drawn-turn db g s [] next = refl
+auto_drawn-turn db g s (draw ∷ draws) next =
+    let b = nat_le draw (noun_of g.vocab) in
+    ap (after (Drew draw ∷ [])) (auto_tried-entered b db g s draws next)
+    ∙ by_halt-after (entered b db g s draws).value.halt (Drew draw ∷ []) (entered b db g s draws) next
+
+by_halt-on : (halt : Halt) (t : Told Step AutoOutcome) (next : State → List ℕ → Told Step AutoOutcome) → goes_through halt ≡ true → by_halt halt t next ≡ after t.events (next t.value.state t.value.draws)
+by_halt-on Through t next on = refl
+by_halt-on (Waits head) t next on = absurd cc
+by_halt-on (AtEnd ending) t next on = absurd cc
+
+by_halt-stop : (halt : Halt) (t : Told Step AutoOutcome) (next : State → List ℕ → Told Step AutoOutcome) → goes_through halt ≡ false → by_halt halt t next ≡ t
+by_halt-stop Through t next stops = absurd cc
+by_halt-stop (Waits head) t next stops = refl
+by_halt-stop (AtEnd ending) t next stops = refl
+
+-- what comes behind a turn's own steps
+abbrev pub behind_halt : Halt → Told Step AutoOutcome → (State → List ℕ → Told Step AutoOutcome) → List Step
+behind_halt Through t next = (next t.value.state t.value.draws).events
+behind_halt (Waits head) t next = []
+behind_halt (AtEnd ending) t next = []
+
+by_halt-front : (halt : Halt) (t : Told Step AutoOutcome) (next : State → List ℕ → Told Step AutoOutcome) → (by_halt halt t next).events ≡ t.events ++ behind_halt halt t next
+by_halt-front Through t next = refl
+by_halt-front (Waits head) t next = sym (append-nil t.events)
+by_halt-front (AtEnd ending) t next = sym (append-nil t.events)
+
+module _ (db : Database) (line head : ℕ) (s : State) (draws : List ℕ) (comes : ComesNext db 0 line head) where
+  automatic-turn : automatic db (groups_for db 0 line) s draws ≡ by_halt (auto_turn db (group_at db head) s draws).value.halt (auto_turn db (group_at db head) s draws) (automatic db (groups_for db 0 (head + 1)))
+  automatic-turn =
+      ap (λ gs. automatic db gs s draws) comes.first
+      ∙ ap (λ b. auto_group b db (group_at db head) s draws (automatic db (groups_for db 0 (head + 1)))) (eq-eqb (verb_of (action_at db head).vocab) 0 comes.has_verb)
+      ∙ auto_drawn-turn db (group_at db head) s draws (automatic db (groups_for db 0 (head + 1)))
+
+  -- behind a turn where the step goes on come the other groups
+  pub automatic-on : (halt : Halt) → halt ≡ (auto_turn db (group_at db head) s draws).value.halt → goes_through halt ≡ true
+      → (state : State) → state ≡ (auto_turn db (group_at db head) s draws).value.state
+      → (left : List ℕ) → left ≡ (auto_turn db (group_at db head) s draws).value.draws
+      → automatic db (groups_for db 0 line) s draws ≡ after (auto_turn db (group_at db head) s draws).events (automatic db (groups_for db 0 (head + 1)) state left)
+  automatic-on halt is on state state_is left left_is =
+      let t = auto_turn db (group_at db head) s draws in
+      automatic-turn
+      ∙ by_halt-on t.value.halt t (automatic db (groups_for db 0 (head + 1))) (ap goes_through (sym is) ∙ on)
+      ∙ ap (λ r. after t.events (automatic db (groups_for db 0 (head + 1)) r t.value.draws)) (sym state_is)
+      ∙ ap (λ ds. after t.events (automatic db (groups_for db 0 (head + 1)) state ds)) (sym left_is)
+
+  -- a turn where it stops is the whole of what is left
+  pub automatic-stop : (halt : Halt) → halt ≡ (auto_turn db (group_at db head) s draws).value.halt → goes_through halt ≡ false → automatic db (groups_for db 0 line) s draws ≡ auto_turn db (group_at db head) s draws
+  automatic-stop halt is stops =
+      let t = auto_turn db (group_at db head) s draws in
+      automatic-turn ∙ by_halt-stop t.value.halt t (automatic db (groups_for db 0 (head + 1))) (ap goes_through (sym is) ∙ stops)
+
+  -- the step begins with its first turn
+  pub automatic-front : (automatic db (groups_for db 0 line) s draws).events
+      ≡ (auto_turn db (group_at db head) s draws).events ++ behind_halt (auto_turn db (group_at db head) s draws).value.halt (auto_turn db (group_at db head) s draws) (automatic db (groups_for db 0 (head + 1)))
+  automatic-front =
+      let t = auto_turn db (group_at db head) s draws in
+      ap (λ w. w.events) automatic-turn ∙ by_halt-front t.value.halt t (automatic db (groups_for db 0 (head + 1)))
+
+-- behind the last group nothing is left
+pub automatic-none : (db : Database) (line : ℕ) (s : State) (draws : List ℕ) → groups_for db 0 line ≡ [] → automatic db (groups_for db 0 line) s draws ≡ telling [] (record { state = s; draws = draws; halt = Through })
+automatic-none db line s draws none = ap (λ gs. automatic db gs s draws) none
+
+-- ---- the search walks over the groups of its verb alone
+
+search_group-for : (has : Bool) (db : Database) (typed : List ℕ) (verb : ℕ) (noun : Option ℕ) (g : Group) (gs hs : List Group) → has_verb verb g ≡ has
+    → searched db typed verb noun gs ≡ searched db typed verb noun hs
+    → (s : State) → search_group (has && is_for_noun (noun_of g.vocab) noun) db typed g s (searched db typed verb noun gs) ≡ searched db typed verb noun (cond has (g ∷ hs) hs) s
+search_group-for true db typed verb noun g gs hs test same s =
+    ap (search_group (is_for_noun (noun_of g.vocab) noun) db typed g s) same
+    ∙ ap (λ b. search_group (b && is_for_noun (noun_of g.vocab) noun) db typed g s (searched db typed verb noun hs)) (sym test)
+search_group-for false db typed verb noun g gs hs test same s = ap (λ next. next s) same
+
+searched-filter : (db : Database) (typed : List ℕ) (verb : ℕ) (noun : Option ℕ) (gs : List Group) → searched db typed verb noun gs ≡ searched db typed verb noun (filter (has_verb verb) gs)
+searched-filter db typed verb noun [] = refl
+searched-filter db typed verb noun (g ∷ gs) =
+    let turn = search_group-for (has_verb verb g) db typed verb noun g gs (filter (has_verb verb) gs) refl (searched-filter db typed verb noun gs) in
+    λ i s. turn s i
+
+pub searched-for : (db : Database) (typed : List ℕ) (verb : ℕ) (noun : Option ℕ) (s : State) → searched db typed verb noun (groups db) s ≡ searched db typed verb noun (groups_for db verb 0) s
+searched-for db typed verb noun s = ap (λ walk. walk s) (searched-filter db typed verb noun (groups db))
+
+-- ---- one turn of it
+
+search_behind-found : (ran : Ran) (t : Told Step LineOutcome) (next : State → Told Step SearchOutcome)
+    → search_behind ran t next ≡ by_turn (found_of ran) (telling t.events (record { state = t.value.state; found = found_of ran })) next
+search_behind-found Not t next = refl
+search_behind-found (Passed more) t next = refl
+search_behind-found (Ended ending) t next = refl
+
+search_group-turn : (meant : Bool) (db : Database) (typed : List ℕ) (g : Group) (s : State) (next : State → Told Step SearchOutcome)
+    → search_group meant db typed g s next ≡ by_turn (search_turn meant db typed g s).value.found (search_turn meant db typed g s) next
+search_group-turn true db typed g s next = let t = group_tried db typed g s in search_behind-found t.value.ran t next
+search_group-turn false db typed g s next = refl
+
+-- what the groups before a turn came to goes on behind it
+with_before-on : (found before : Found) (t : Told Step SearchOutcome) (next : State → Told Step SearchOutcome) → ends_search found ≡ false → ends_search before ≡ false
+    → with_before before (by_turn found t next) ≡ after t.events (with_before (at_least found before) (next t.value.state))
+with_before-on NoMatch NoMatch t next on begun = refl
+with_before-on NoMatch Matched t next on begun = refl
+with_before-on Matched NoMatch t next on begun = refl
+with_before-on Matched Matched t next on begun = matched-matched (next t.value.state)
+  where
+    found_twice : (found : Found) → at_least_matched (at_least_matched found) ≡ at_least_matched found
+    found_twice NoMatch = refl
+    found_twice Matched = refl
+    found_twice Done = refl
+    found_twice (Over ending) = refl
+
+    matched-matched : (w : Told Step SearchOutcome) → after t.events (matched (matched w)) ≡ after t.events (matched w)
+    matched-matched w = ap (λ found. telling (t.events ++ w.events) (record { state = w.value.state; found = found })) (found_twice w.value.found)
+with_before-on Done before t next on begun = absurd cc
+with_before-on (Over ending) before t next on begun = absurd cc
+with_before-on found Done t next on begun = absurd cc
+with_before-on found (Over ending) t next on begun = absurd cc
+
+-- a turn that ends the search is what the search comes to
+with_before-end : (found before : Found) (t : Told Step SearchOutcome) (next : State → Told Step SearchOutcome) → found ≡ t.value.found → ends_search found ≡ true → with_before before (by_turn found t next) ≡ t
+with_before-end NoMatch before t next is ends = absurd cc
+with_before-end Matched before t next is ends = absurd cc
+with_before-end Done before t next is ends = end_stays before
+  where
+    same : matched t ≡ t
+    same = ap (λ found. telling t.events (record { state = t.value.state; found = at_least_matched found })) (sym is) ∙ ap (λ found. telling t.events (record { state = t.value.state; found = found })) is
+
+    end_stays : (before : Found) → with_before before t ≡ t
+    end_stays NoMatch = refl
+    end_stays Matched = same
+    end_stays Done = same
+    end_stays (Over ending) = same
+with_before-end (Over ending) before t next is ends = end_stays before
+  where
+    same : matched t ≡ t
+    same = ap (λ found. telling t.events (record { state = t.value.state; found = at_least_matched found })) (sym is) ∙ ap (λ found. telling t.events (record { state = t.value.state; found = found })) is
+
+    end_stays : (before : Found) → with_before before t ≡ t
+    end_stays NoMatch = refl
+    end_stays Matched = same
+    end_stays Done = same
+    end_stays (Over other) = same
+
+with_before-events : (before : Found) (t : Told Step SearchOutcome) → (with_before before t).events ≡ t.events
+with_before-events NoMatch t = refl
+with_before-events Matched t = refl
+with_before-events Done t = refl
+with_before-events (Over ending) t = refl
+
+-- what comes behind a turn's own steps
+abbrev pub behind_turn : Found → Told Step SearchOutcome → (State → Told Step SearchOutcome) → List Step
+behind_turn NoMatch t next = (next t.value.state).events
+behind_turn Matched t next = (next t.value.state).events
+behind_turn Done t next = []
+behind_turn (Over ending) t next = []
+
+by_turn-front : (found : Found) (t : Told Step SearchOutcome) (next : State → Told Step SearchOutcome) → (by_turn found t next).events ≡ t.events ++ behind_turn found t next
+by_turn-front NoMatch t next = refl
+by_turn-front Matched t next = refl
+by_turn-front Done t next = sym (append-nil t.events)
+by_turn-front (Over ending) t next = sym (append-nil t.events)
+
+-- the number of the group's own noun
+abbrev pub noun_at : Database → ℕ → ℕ
+noun_at db head = noun_of (action_at db head).vocab
+
+module _ (db : Database) (typed : List ℕ) (verb : ℕ) (noun : Option ℕ) (line head : ℕ) (s : State) (comes : ComesNext db verb line head) where
+  searched-turn : searched db typed verb noun (groups_for db verb line) s
+      ≡ by_turn (search_turn (is_for_noun (noun_at db head) noun) db typed (group_at db head) s).value.found (search_turn (is_for_noun (noun_at db head) noun) db typed (group_at db head) s) (searched db typed verb noun (groups_for db verb (head + 1)))
+  searched-turn =
+      ap (λ gs. searched db typed verb noun gs s) comes.first
+      ∙ ap (λ b. search_group (b && is_for_noun (noun_at db head) noun) db typed (group_at db head) s (searched db typed verb noun (groups_for db verb (head + 1)))) (eq-eqb (verb_of (action_at db head).vocab) verb comes.has_verb)
+      ∙ search_group-turn (is_for_noun (noun_at db head) noun) db typed (group_at db head) s (searched db typed verb noun (groups_for db verb (head + 1)))
+
+  -- behind a turn that doesn't end the search come the other groups
+  pub searched-on : (found before : Found) → found ≡ (search_turn (is_for_noun (noun_at db head) noun) db typed (group_at db head) s).value.found → ends_search found ≡ false → ends_search before ≡ false
+      → (state : State) → state ≡ (search_turn (is_for_noun (noun_at db head) noun) db typed (group_at db head) s).value.state
+      → with_before before (searched db typed verb noun (groups_for db verb line) s)
+      ≡ after (search_turn (is_for_noun (noun_at db head) noun) db typed (group_at db head) s).events (with_before (at_least found before) (searched db typed verb noun (groups_for db verb (head + 1)) state))
+  searched-on found before is on begun state state_is =
+      let t = search_turn (is_for_noun (noun_at db head) noun) db typed (group_at db head) s in
+      let next = searched db typed verb noun (groups_for db verb (head + 1)) in
+      ap (with_before before) (searched-turn ∙ ap (λ f. by_turn f t next) (sym is))
+      ∙ with_before-on found before t next on begun
+      ∙ ap (λ r. after t.events (with_before (at_least found before) (next r))) (sym state_is)
+
+  -- a turn that ends it is the whole of what is left
+  pub searched-end : (found before : Found) → found ≡ (search_turn (is_for_noun (noun_at db head) noun) db typed (group_at db head) s).value.found → ends_search found ≡ true
+      → with_before before (searched db typed verb noun (groups_for db verb line) s) ≡ search_turn (is_for_noun (noun_at db head) noun) db typed (group_at db head) s
+  searched-end found before is ends =
+      let t = search_turn (is_for_noun (noun_at db head) noun) db typed (group_at db head) s in
+      let next = searched db typed verb noun (groups_for db verb (head + 1)) in
+      ap (with_before before) (searched-turn ∙ ap (λ f. by_turn f t next) (sym is)) ∙ with_before-end found before t next is ends
+
+  -- the search begins with its first turn
+  pub searched-front : (before : Found) → (with_before before (searched db typed verb noun (groups_for db verb line) s)).events
+      ≡ (search_turn (is_for_noun (noun_at db head) noun) db typed (group_at db head) s).events
+      ++ behind_turn (search_turn (is_for_noun (noun_at db head) noun) db typed (group_at db head) s).value.found (search_turn (is_for_noun (noun_at db head) noun) db typed (group_at db head) s) (searched db typed verb noun (groups_for db verb (head + 1)))
+  searched-front before =
+      let t = search_turn (is_for_noun (noun_at db head) noun) db typed (group_at db head) s in
+      with_before-events before (searched db typed verb noun (groups_for db verb line) s)
+      ∙ ap (λ w. w.events) searched-turn ∙ by_turn-front t.value.found t (searched db typed verb noun (groups_for db verb (head + 1)))
+
+-- behind the last group the search has found what it found before
+pub searched-none : (db : Database) (typed : List ℕ) (verb : ℕ) (noun : Option ℕ) (line : ℕ) (s : State) (before : Found) → groups_for db verb line ≡ [] → ends_search before ≡ false
+    → with_before before (searched db typed verb noun (groups_for db verb line) s) ≡ telling [] (record { state = s; found = before })
+searched-none db typed verb noun line s NoMatch none begun = ap (λ gs. searched db typed verb noun gs s) none
+searched-none db typed verb noun line s Matched none begun = ap (λ gs. matched (searched db typed verb noun gs s)) none
+searched-none db typed verb noun line s Done none begun = absurd cc
+searched-none db typed verb noun line s (Over ending) none begun = absurd cc
+
+-- with one more group that didn't end the search it hasn't ended
+pub at_least-begun : (found before : Found) → ends_search found ≡ false → ends_search before ≡ false → ends_search (at_least found before) ≡ false
+at_least-begun NoMatch before on begun = begun
+at_least-begun Matched before on begun = refl
+at_least-begun Done before on begun = on
+at_least-begun (Over ending) before on begun = on

@@ -1,0 +1,21 @@
+use Rattle.std.proofs.Common.{◌-◌, ◌≤◌, length}
+use Rattle.scott_types.specs.State.{Fits}
+use Rattle.scott_rules.specs.Groups.{tail_tried}
+use Rattle.scott_turn.specs.Heads.{tail_from}
+use Rattle.scott_turn.proofs.Going.{Along}
+use Rattle.scott_turn.proofs.trying.try_tail.Given as goal
+
+-- what is still to come is the tail from this line on
+abbrev pub invariant-loop-state : goal.invariant-loop-state
+invariant-loop-state g l =
+    let console = g.C.Console in
+    record {
+      few : length l.db.actions ≤ 5000;
+      fits : Fits l.db l.state;
+      along : Along console.history console.left console.bound console.faults
+          (tail_tried l.db l.noun (tail_from l.db l.initial.line) l.initial.state)
+          (tail_tried l.db l.noun (tail_from l.db l.line) l.state) l.initial.console l.console;
+    }
+
+abbrev pub decreases-loop-state : goal.decreases-loop-state
+decreases-loop-state g l = length l.db.actions - l.line

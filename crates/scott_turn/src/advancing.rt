@@ -1,0 +1,154 @@
+//! What comes up to the prompt.
+ghost use Rattle.std.specs.Prelude.{◌≡◌, ◌+◌, ◌++◌, IfOk, OnOk, [], length};
+ghost use Rattle.adv_io.specs.Console.{Speaks};
+ghost use Rattle.scott_types.specs.State.{Fits};
+ghost use Rattle.scott_rules.specs.Told.{says};
+ghost use Rattle.scott_rules.specs.Groups.{groups, groups_from, automatic};
+ghost use Rattle.scott_rules.specs.Rounds.{look_due, unmarked, prompted, to_prompt, advance};
+ghost use Rattle.scott_types.specs.declared.phrases.Phrase.TheVariants.{Prompt};
+ghost use Rattle.scott_types.specs.declared.endings.Position.TheVariants.{Fresh};
+ghost use Rattle.scott_types.specs.Phrase.{text_of};
+ghost use Rattle.scott_turn.specs.Seen.{seen};
+
+use crate::automatic::automatic;
+use crate::saying::say_any;
+use adv_draws::Draws;
+use adv_io::{Console, ConsoleFault};
+use scott_light::look;
+use scott_types::{Db, Halt, Phrase, Position, State};
+
+// Clears the mark that the room is to be described.
+fn unmark(state: &mut State) -> bool
+    ensures due { result ≡ state.old.redraw }
+    ensures state { state.new ≡ unmarked state.old }
+{
+    let due = state.redraw;
+    state.redraw = false;
+    due
+}
+
+// A look where one is due.
+#[tactic(auto, using(crate::proofs::Seeing::seen_says))]
+fn look_if_due<C: Console>(db: &Db, state: &mut State, console: &mut C) -> Result<(), ConsoleFault>
+    requires { Fits db.now state.old }
+    ensures spoken { Speaks C.history C.left C.bound C.faults console.old console.new result
+        (seen (says (look_due db.now state.old))) }
+    ensures state { state.new ≡ unmarked state.old }
+    ensures fits { Fits db.now state.new }
+{
+    if unmark(state) {
+        look(db, state, console)
+    } else {
+        say_any(&[], console)
+    }
+}
+
+// A look where one is due, and the prompt.
+fn prompt<C: Console>(db: &Db, state: &mut State, console: &mut C) -> Result<Position, ConsoleFault>
+    requires { Fits db.now state.old }
+    ensures spoken { Speaks C.history C.left C.bound C.faults console.old console.new result
+        (seen (says (look_due db.now state.old ++ text_of Prompt))) }
+    ensures state { state.new ≡ unmarked state.old }
+    ensures position { IfOk result (λ position. position ≡ Position.Line) }
+    ensures fits { Fits db.now state.new }
+{
+    match look_if_due(db, state, console) {
+        Ok(()) => match say_any(Phrase::Prompt.text(), console) {
+            Ok(()) => Ok(Position::Line),
+            Err(fault) => Err(fault),
+        },
+        Err(fault) => Err(fault),
+    }
+}
+
+// What follows the automatic step: the prompt, where the step came through.
+fn go_to_prompt<C: Console>(
+    db: &Db,
+    state: &mut State,
+    halt: Halt,
+    console: &mut C,
+) -> Result<Position, ConsoleFault>
+    requires { Fits db.now state.old }
+    ensures spoken { Speaks C.history C.left C.bound C.faults console.old console.new result
+        (seen (prompted halt db.now state.old []).events) }
+    ensures left { IfOk result (λ position. (prompted halt db.now state.old []).value
+        ≡ record { position = position; state = state.new; draws = [] }) }
+    ensures fits { Fits db.now state.new }
+{
+    match halt {
+        Halt::Through => prompt(db, state, console),
+        Halt::Waits(head) => Ok(Position::Draw(head)),
+        Halt::Over(ending) => Ok(Position::Over(ending)),
+    }
+}
+
+// The automatic step from a line on, and what follows it.
+fn advance_from<C: Console>(
+    db: &Db,
+    state: &mut State,
+    from: u16,
+    draws: &mut Draws,
+    console: &mut C,
+) -> Result<Position, ConsoleFault>
+    requires { Fits db.now state.old }
+    ensures spoken { Speaks C.history C.left C.bound C.faults console.old console.new result
+        (seen (to_prompt db.now (automatic db.now (groups_from db.now from) state.old draws.old.left)).events) }
+    ensures left { IfOk result
+        (λ position. (to_prompt db.now (automatic db.now (groups_from db.now from) state.old draws.old.left)).value
+        ≡ record { position = position; state = state.new; draws = draws.new.left }) }
+    ensures taken { draws.new.taken + length draws.new.left ≡ draws.old.taken + length draws.old.left }
+    ensures fits { Fits db.now state.new }
+{
+    match automatic(db, state, from, draws, console) {
+        Ok(halt) => go_to_prompt(db, state, halt, console),
+        Err(fault) => Err(fault),
+    }
+}
+
+// A round begins.
+fn begin<C: Console>(
+    db: &Db,
+    state: &mut State,
+    draws: &mut Draws,
+    console: &mut C,
+) -> Result<Position, ConsoleFault>
+    requires { Fits db.now state.old }
+    ensures spoken { Speaks C.history C.left C.bound C.faults console.old console.new result
+        (seen (advance db.now Position.Fresh state.old draws.old.left).events) }
+    ensures left { IfOk result (λ position. (advance db.now Position.Fresh state.old draws.old.left).value
+        ≡ record { position = position; state = state.new; draws = draws.new.left }) }
+    ensures taken { draws.new.taken + length draws.new.left ≡ draws.old.taken + length draws.old.left }
+    ensures fits { Fits db.now state.new }
+{
+    match look_if_due(db, state, console) {
+        Ok(()) => advance_from(db, state, 0, draws, console),
+        Err(fault) => Err(fault),
+    }
+}
+
+/// Everything up to the prompt, from where a play stands.
+///
+/// The console's fault alone is a refusal; the state fits then too. docs/TURN.md, "The round", has the
+/// rule.
+pub fn advance<C: Console>(
+    db: &Db,
+    state: &mut State,
+    position: Position,
+    draws: &mut Draws,
+    console: &mut C,
+) -> Result<Position, ConsoleFault>
+    requires { Fits db.now state.old }
+    ensures spoken { Speaks C.history C.left C.bound C.faults console.old console.new result
+        (seen (advance db.now position state.old draws.old.left).events) }
+    ensures left { IfOk result (λ reached. (advance db.now position state.old draws.old.left).value
+        ≡ record { position = reached; state = state.new; draws = draws.new.left }) }
+    ensures taken { draws.new.taken + length draws.new.left ≡ draws.old.taken + length draws.old.left }
+    ensures fits { Fits db.now state.new }
+{
+    match position {
+        Position::Fresh => begin(db, state, draws, console),
+        Position::Draw(head) => advance_from(db, state, head, draws, console),
+        Position::Line => Ok(Position::Line),
+        Position::Over(ending) => Ok(Position::Over(ending)),
+    }
+}

@@ -1,0 +1,123 @@
+//! The answer to a line.
+ghost use Rattle.std.specs.Prelude.{◌≡◌, ◌++◌, IfOk, OnOk, [], List, ℕ};
+ghost use Rattle.adv_io.specs.Console.{Speaks};
+ghost use Rattle.adv_io.specs.History.{says};
+ghost use Rattle.scott_types.specs.declared.phrases.Phrase.TheVariants.{Prompt};
+ghost use Rattle.scott_types.specs.Phrase.{text_of};
+ghost use Rattle.scott_types.specs.State.{Fits};
+ghost use Rattle.scott_rules.specs.Commands.{heard};
+ghost use Rattle.scott_rules.specs.Rounds.{turn_ended, command_done, obeyed, asked_again, unknown_word, by_heard};
+ghost use Rattle.scott_vocab.specs.Heard.{IsEntry};
+ghost use Rattle.scott_turn.specs.Seen.{seen};
+
+use crate::obeying::obey;
+use crate::searching::Command;
+use adv_io::{Console, ConsoleFault, Line};
+use scott_light::{Page, count_light};
+use scott_types::{Db, Heard, Phrase, Position, State};
+use scott_vocab::{command, typed_noun, word_at};
+
+// Behind a command the light burns, where the game goes on, and a round begins.
+#[tactic(auto, using(crate::proofs::Seeing::seen_says))]
+fn end_turn<C: Console>(
+    db: &Db,
+    state: &mut State,
+    over: Option<u8>,
+    console: &mut C,
+) -> Result<Position, ConsoleFault>
+    requires { Fits db.now state.old }
+    ensures spoken { Speaks C.history C.left C.bound C.faults console.old console.new result
+        (seen (turn_ended over state.old).events) }
+    ensures left { IfOk result (λ position. (turn_ended over state.old).value
+        ≡ record { position = position; state = state.new }) }
+    ensures fits { Fits db.now state.new }
+{
+    match over {
+        None => match count_light(db, state, console) {
+            Ok(()) => Ok(Position::Fresh),
+            Err(fault) => Err(fault),
+        },
+        Some(ending) => Ok(Position::Over(ending)),
+    }
+}
+
+// Does a command, and ends the turn.
+fn take_turn<C: Console>(
+    db: &Db,
+    state: &mut State,
+    command: Command,
+    typed: &[u8],
+    console: &mut C,
+) -> Result<Position, ConsoleFault>
+    requires fits { Fits db.now state.old }
+    requires there { IsEntry db.now command.noun }
+    ensures spoken { Speaks C.history C.left C.bound C.faults console.old console.new result
+        (seen (command_done (obeyed db.now typed.now command.verb command.noun state.old)).events) }
+    ensures left { IfOk result
+        (λ position. (command_done (obeyed db.now typed.now command.verb command.noun state.old)).value
+        ≡ record { position = position; state = state.new }) }
+    ensures fits { Fits db.now state.new }
+{
+    match obey(db, state, command, typed, console) {
+        Ok(over) => end_turn(db, state, over, console),
+        Err(fault) => Err(fault),
+    }
+}
+
+// Asks again behind a blank line.
+fn ask_again<C: Console>(console: &mut C) -> Result<Position, ConsoleFault>
+    ensures spoken { Speaks C.history C.left C.bound C.faults console.old console.new result
+        (says (text_of Prompt)) }
+    ensures position { IfOk result (λ position. position ≡ Position.Line) }
+{
+    match console.say(Phrase::Prompt.text()) {
+        Ok(()) => Ok(Position::Line),
+        Err(fault) => Err(fault),
+    }
+}
+
+// Says that a word isn't known, and asks again.
+fn refuse_word<C: Console>(word: &[u8], console: &mut C) -> Result<Position, ConsoleFault>
+    ensures spoken { Speaks C.history C.left C.bound C.faults console.old console.new result
+        (says (unknown_word word.now ++ text_of Prompt)) }
+    ensures position { IfOk result (λ position. position ≡ Position.Line) }
+{
+    let mut page = Page::new();
+    page.add(Phrase::UnknownFront.text());
+    page.add(word);
+    page.add(Phrase::UnknownBack.text());
+    page.add(Phrase::Prompt.text());
+    match page.say(console) {
+        Ok(()) => Ok(Position::Line),
+        Err(fault) => Err(fault),
+    }
+}
+
+/// Answers a line that was taken at the prompt, and tells where the play stands then: at a prompt again,
+/// where a round begins, or at the game's end.
+///
+/// The console's fault alone is a refusal; the state fits then too. docs/TURN.md, "The round", has the
+/// rule.
+#[tactic(auto, using(crate::proofs::Seeing::seen_says))]
+pub fn answer<C: Console>(
+    db: &Db,
+    state: &mut State,
+    line: &Line,
+    console: &mut C,
+) -> Result<Position, ConsoleFault>
+    requires { Fits db.now state.old }
+    ensures spoken { Speaks C.history C.left C.bound C.faults console.old console.new result
+        (seen (by_heard (heard db.now line.now) db.now line.now state.old).events) }
+    ensures left { IfOk result
+        (λ position. (by_heard (heard db.now line.now) db.now line.now state.old).value
+        ≡ record { position = position; state = state.new }) }
+    ensures fits { Fits db.now state.new }
+{
+    match command(db, line) {
+        Heard::Blank => ask_again(console),
+        Heard::Unknown(start, length) => refuse_word(word_at(line, start, length), console),
+        Heard::Command(verb, noun) => {
+            take_turn(db, state, Command { verb, noun }, typed_noun(line), console)
+        }
+    }
+}

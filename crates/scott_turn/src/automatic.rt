@@ -1,0 +1,135 @@
+//! The automatic step: the groups of verb 0, each where a draw lets it in.
+ghost use Rattle.std.specs.Prelude.{◌≡◌, ◌+◌, ◌<◌, ◌==◌, nat_le, IfOk, OnOk, [], length};
+ghost use Rattle.adv_io.specs.Console.{Speaks};
+ghost use Rattle.scott_types.specs.State.{Fits};
+ghost use Rattle.scott_types.specs.Action.{noun_of};
+ghost use Rattle.scott_rules.specs.Lines.{action_at};
+ghost use Rattle.scott_rules.specs.Groups.{over_of, group_tried, groups_from, automatic};
+ghost use Rattle.scott_turn.specs.Seen.{seen};
+ghost use Rattle.scott_turn.specs.Heads.{group_at};
+ghost use Rattle.scott_turn.specs.Turns.{halt_of, entered, auto_turn, goes_through};
+
+use crate::heads::next_head;
+use crate::trying::try_group;
+use adv_draws::Draws;
+use adv_io::{Console, ConsoleFault};
+use scott_types::{Db, Halt, Ran, State};
+
+// The verb of the automatic groups.
+const AUTOMATIC: u16 = 0;
+
+// How far the step came with a group that was tried.
+fn halt_of(ran: Ran) -> Halt
+    ensures { result ≡ halt_of (over_of ran) }
+{
+    match ran {
+        Ran::Over(ending) => Halt::Over(ending),
+        _ => Halt::Through,
+    }
+}
+
+// Whether a draw lets the group of a head in: it is at most the head's noun.
+fn lets_in(db: &Db, head: u16, draw: u8) -> bool
+    requires { head < length db.now.actions }
+    ensures { result ≡ nat_le draw (noun_of (action_at db.now head).vocab) }
+{
+    let action = &db.actions()[head as usize];
+    u32::from(draw) <= action.vocab % 150
+}
+
+// Tries the group of a head where its draw lets it in, and tells how far the step came.
+fn enter<C: Console>(
+    db: &Db,
+    state: &mut State,
+    head: u16,
+    draw: u8,
+    console: &mut C,
+) -> Result<Halt, ConsoleFault>
+    requires fits { Fits db.now state.old }
+    requires there { head < length db.now.actions }
+    ensures spoken { let b = nat_le draw (noun_of (action_at db.now head).vocab) in
+        Speaks C.history C.left C.bound C.faults console.old console.new result
+        (seen (entered b db.now (group_at db.now head) state.old []).events) }
+    ensures state { let b = nat_le draw (noun_of (action_at db.now head).vocab) in
+        OnOk result (state.new ≡ (entered b db.now (group_at db.now head) state.old []).value.state) }
+    ensures halt { let b = nat_le draw (noun_of (action_at db.now head).vocab) in
+        IfOk result (λ halt. halt ≡ (entered b db.now (group_at db.now head) state.old []).value.halt) }
+    ensures fits { Fits db.now state.new }
+{
+    if lets_in(db, head, draw) {
+        match try_group(db, state, head, &[], console) {
+            Ok(ran) => Ok(halt_of(ran)),
+            Err(fault) => Err(fault),
+        }
+    } else {
+        Ok(Halt::Through)
+    }
+}
+
+// Takes the draw of a head's group, and tries the group where that lets it in.
+fn take_turn<C: Console>(
+    db: &Db,
+    state: &mut State,
+    head: u16,
+    draws: &mut Draws,
+    console: &mut C,
+) -> Result<Halt, ConsoleFault>
+    requires fits { Fits db.now state.old }
+    requires there { head < length db.now.actions }
+    ensures spoken { Speaks C.history C.left C.bound C.faults console.old console.new result
+        (seen (auto_turn db.now (group_at db.now head) state.old draws.old.left).events) }
+    ensures state { OnOk result
+        (state.new ≡ (auto_turn db.now (group_at db.now head) state.old draws.old.left).value.state) }
+    ensures halt { IfOk result
+        (λ halt. halt ≡ (auto_turn db.now (group_at db.now head) state.old draws.old.left).value.halt) }
+    ensures draws { draws.new.left ≡ (auto_turn db.now (group_at db.now head) state.old draws.old.left).value.draws }
+    ensures taken { draws.new.taken + length draws.new.left ≡ draws.old.taken + length draws.old.left }
+    ensures fits { Fits db.now state.new }
+{
+    match draws.next() {
+        None => Ok(Halt::Waits(head)),
+        Some(draw) => enter(db, state, head, draw, console),
+    }
+}
+
+// Whether the step goes on behind a group.
+fn goes_on(halt: Halt) -> bool
+    ensures { result ≡ goes_through halt }
+{
+    match halt {
+        Halt::Through => true,
+        _ => false,
+    }
+}
+
+/// The automatic step from a line on: each group of verb 0 whose head stands there or behind takes a
+/// draw, and is tried where that is at most its noun. It stops at a group that waits for its draw, and
+/// where the game ends.
+///
+/// The console's fault alone is a refusal; the state fits then too. docs/TURN.md, "Groups", has the rule.
+pub fn automatic<C: Console>(
+    db: &Db,
+    state: &mut State,
+    from: u16,
+    draws: &mut Draws,
+    console: &mut C,
+) -> Result<Halt, ConsoleFault>
+    requires { Fits db.now state.old }
+    ensures spoken { Speaks C.history C.left C.bound C.faults console.old console.new result
+        (seen (automatic db.now (groups_from db.now from) state.old draws.old.left).events) }
+    ensures left { IfOk result (λ halt. (automatic db.now (groups_from db.now from) state.old draws.old.left).value
+        ≡ record { state = state.new; draws = draws.new.left; halt = halt }) }
+    ensures taken { draws.new.taken + length draws.new.left ≡ draws.old.taken + length draws.old.left }
+    ensures fits { Fits db.now state.new }
+{
+    let _lines = db.actions();
+    let mut line = from;
+    while let Some(head) = next_head(db, AUTOMATIC, line) {
+        let halt = take_turn(db, state, head, draws, console)?;
+        if !goes_on(halt) {
+            return Ok(halt);
+        }
+        line = head + 1;
+    }
+    Ok(Halt::Through)
+}

@@ -1,0 +1,130 @@
+//! Getting and dropping one item.
+ghost use Rattle.std.specs.Prelude.{◌≡◌, ◌<◌, ◌≤◌, ◌&&◌, not, IfOk, IfSome, length};
+ghost use Rattle.adv_io.specs.Console.{Speaks};
+ghost use Rattle.scott_types.specs.ItemText.{get_word};
+ghost use Rattle.scott_types.specs.State.{Fits};
+ghost use Rattle.scott_rules.specs.Words.{is_empty, is_typed, root};
+ghost use Rattle.scott_rules.specs.Transfer.{is_at_hand, item_named, one_moved, one_from, one_transferred};
+ghost use Rattle.scott_vocab.specs.Heard.{IsEntry};
+ghost use Rattle.scott_turn.specs.Seen.{seen};
+ghost use Rattle.scott_turn.specs.Meetings.{IsItem};
+
+use crate::saying::say_only;
+use crate::transferring::{is_at_hand, is_refused, transfer_item};
+use adv_io::{Console, ConsoleFault};
+use scott_types::{Db, Item, Phrase, State, Transfer, get_word};
+use scott_vocab::{is_typed, root};
+
+// Whether an item is at hand and the word names it. An empty word names none.
+fn is_named(state: &State, transfer: Transfer, size: usize, word: &[u8], i: u8, item: &Item) -> bool
+    ensures { result
+        ≡ (is_at_hand transfer state.now i && (not (is_empty word.now) && is_typed size (get_word item.now.text) word.now)) }
+{
+    is_at_hand(state, transfer, i) && !word.is_empty() && is_typed(size, get_word(&item.text), word)
+}
+
+// The least of the items that is at hand and that the word names.
+fn least_named(
+    items: &[Item],
+    state: &State,
+    transfer: Transfer,
+    size: usize,
+    word: &[u8],
+) -> Option<u8>
+    requires { length items.now ≤ 255 }
+    ensures value { result ≡ item_named transfer size word.now 0 items.now state.now }
+    ensures there { IfSome result (λ i. i < length items.now) }
+{
+    for i in 0..items.len() {
+        let item = &items[i];
+        if is_named(state, transfer, size, word, i as u8, item) {
+            return Some(i as u8);
+        }
+    }
+    None
+}
+
+// The least item at hand that a noun names.
+fn item_for(db: &Db, state: &State, transfer: Transfer, noun: u16) -> Option<u8>
+    requires { noun < length db.now.words }
+    ensures value { result ≡ item_named transfer db.now.header.length (root db.now noun) 0 db.now.items state.now }
+    ensures there { IsItem db.now result }
+{
+    let size = db.header().length as usize;
+    least_named(db.items(), state, transfer, size, root(db, noun))
+}
+
+// Gets or drops an item, or says that it can't be done where there is none.
+#[tactic(auto, using(crate::proofs::Seeing::seen_says))]
+fn move_one<C: Console>(
+    db: &Db,
+    state: &mut State,
+    transfer: Transfer,
+    item: Option<u8>,
+    console: &mut C,
+) -> Result<Option<u8>, ConsoleFault>
+    requires fits { Fits db.now state.old }
+    requires there { IsItem db.now item }
+    ensures spoken { Speaks C.history C.left C.bound C.faults console.old console.new result
+        (seen (one_moved transfer item state.old).events) }
+    ensures left { IfOk result (λ over. (one_moved transfer item state.old).value
+        ≡ record { state = state.new; over = over }) }
+    ensures fits { Fits db.now state.new }
+{
+    match item {
+        None => say_only(Phrase::BeyondPower.text(), console),
+        Some(item) => {
+            transfer_item(db, state, transfer, item);
+            say_only(Phrase::Done.text(), console)
+        }
+    }
+}
+
+// Gets or drops the item that a noun names, unless no more can be got.
+fn move_named<C: Console>(
+    db: &Db,
+    state: &mut State,
+    transfer: Transfer,
+    noun: u16,
+    console: &mut C,
+) -> Result<Option<u8>, ConsoleFault>
+    requires fits { Fits db.now state.old }
+    requires there { noun < length db.now.words }
+    ensures spoken { Speaks C.history C.left C.bound C.faults console.old console.new result
+        (seen (one_transferred transfer db.now (Some noun) state.old).events) }
+    ensures left { IfOk result (λ over. (one_transferred transfer db.now (Some noun) state.old).value
+        ≡ record { state = state.new; over = over }) }
+    ensures fits { Fits db.now state.new }
+{
+    if is_refused(db, state, transfer) {
+        say_only(Phrase::TooMuch.text(), console)
+    } else {
+        let item = item_for(db, state, transfer, noun);
+        move_one(db, state, transfer, item, console)
+    }
+}
+
+/// Gets or drops the item that a noun names; without a noun it asks for one.
+///
+/// The console's fault alone is a refusal; the state fits then too. docs/TURN.md, "Get and drop", has the
+/// rule.
+pub fn transfer_one<C: Console>(
+    db: &Db,
+    state: &mut State,
+    transfer: Transfer,
+    noun: Option<u16>,
+    console: &mut C,
+) -> Result<Option<u8>, ConsoleFault>
+    requires fits { Fits db.now state.old }
+    requires there { IsEntry db.now noun }
+    ensures spoken { Speaks C.history C.left C.bound C.faults console.old console.new result
+        (seen (one_transferred transfer db.now noun state.old).events) }
+    ensures left { IfOk result (λ over. (one_transferred transfer db.now noun state.old).value
+        ≡ record { state = state.new; over = over }) }
+    ensures fits { Fits db.now state.new }
+{
+    match noun {
+        None => say_only(Phrase::WhatItem.text(), console),
+        Some(noun) => move_named(db, state, transfer, noun, console),
+    }
+}

@@ -1,0 +1,96 @@
+//! A play whose lines are handed in, one by one.
+ghost use Rattle.std.specs.Prelude.{◌≡◌, ◌+◌, IfOk, length, true};
+ghost use Rattle.adv_io.specs.Console.{Speaks};
+ghost use Rattle.scott_types.specs.State.{Fits};
+ghost use Rattle.scott_rules.specs.Play.{go};
+ghost use Rattle.scott_turn.specs.Rounds.{is_prompt};
+ghost use Rattle.scott_turn.specs.Seen.{seen};
+ghost use Rattle.scott_turn.specs.Handed.{given, said, behind_line};
+
+use crate::advancing::advance;
+use crate::answering::answer;
+use crate::rounds::is_prompt;
+use adv_draws::Draws;
+use adv_io::{Console, ConsoleFault, Line};
+use scott_rules::laws::play_spends;
+use scott_types::{Db, Position, State};
+
+// Answers a line that was handed in at the prompt, and goes on to the next prompt.
+fn answer_and_advance<C: Console>(
+    db: &Db,
+    state: &mut State,
+    draws: &mut Draws,
+    line: &Line,
+    console: &mut C,
+) -> Result<Position, ConsoleFault>
+    requires { Fits db.now state.old }
+    ensures spoken { Speaks C.history C.left C.bound C.faults console.old console.new result
+        (seen (behind_line true db.now line.now Position.Line state.old draws.old.left).events) }
+    ensures left { IfOk result
+        (λ reached. (behind_line true db.now line.now Position.Line state.old draws.old.left).value
+        ≡ record { position = reached; state = state.new; draws = draws.new.left }) }
+    ensures taken { draws.new.taken + length draws.new.left ≡ draws.old.taken + length draws.old.left }
+    ensures fits { Fits db.now state.new }
+{
+    match answer(db, state, line, console) {
+        Ok(position) => advance(db, state, position, draws, console),
+        Err(fault) => Err(fault),
+    }
+}
+
+// The same where the play stands behind a prompt; elsewhere the line is dropped.
+fn hand_in<C: Console>(
+    db: &Db,
+    state: &mut State,
+    position: Position,
+    draws: &mut Draws,
+    line: &Line,
+    console: &mut C,
+) -> Result<Position, ConsoleFault>
+    requires { Fits db.now state.old }
+    ensures spoken { let b = is_prompt position in
+        Speaks C.history C.left C.bound C.faults console.old console.new result
+        (seen (behind_line b db.now line.now position state.old draws.old.left).events) }
+    ensures left { let b = is_prompt position in
+        IfOk result
+        (λ reached. (behind_line b db.now line.now position state.old draws.old.left).value
+        ≡ record { position = reached; state = state.new; draws = draws.new.left }) }
+    ensures taken { draws.new.taken + length draws.new.left ≡ draws.old.taken + length draws.old.left }
+    ensures fits { Fits db.now state.new }
+{
+    if is_prompt(position) {
+        answer_and_advance(db, state, draws, line, console)
+    } else {
+        Ok(position)
+    }
+}
+
+/// Goes on from a position as a play does whose lines are the one that is handed in, or none, and tells
+/// where the play stands then. No line is taken from the console, and one that the play doesn't come to
+/// take is dropped.
+///
+/// The console's fault alone is a refusal; the state fits then too. docs/TURN.md, "Play", has the rule.
+pub fn hear_on<C: Console>(
+    db: &Db,
+    state: &mut State,
+    position: Position,
+    draws: &mut Draws,
+    line: Option<&Line>,
+    console: &mut C,
+) -> Result<Position, ConsoleFault>
+    requires { Fits db.now state.old }
+    ensures spoken { Speaks C.history C.left C.bound C.faults console.old console.new result
+        (said (go db.now position state.old (given line.entry) draws.old.left).events) }
+    ensures left { let t = go db.now position state.old (given line.entry) draws.old.left in
+        IfOk result (λ reached. t.value
+        ≡ record { position = reached; state = state.new; lines = t.value.lines; draws = draws.new.left }) }
+    ensures taken { draws.new.taken + length draws.new.left ≡ draws.old.taken + length draws.old.left }
+    ensures fits { Fits db.now state.new }
+{
+    play_spends();
+    let reached = advance(db, state, position, draws, console)?;
+    match line {
+        None => Ok(reached),
+        Some(line) => hand_in(db, state, reached, draws, line, console),
+    }
+}

@@ -1,0 +1,124 @@
+//! Rounds, one behind another, until a line or a draw is wanted or the game is over.
+ghost use Rattle.std.specs.Prelude.{◌≡◌, ◌+◌, ◌<◌, ◌≤◌, false, length, IfOk, IfSome, OnOk};
+ghost use Rattle.adv_io.specs.Faults.{HasCause};
+ghost use Rattle.scott_types.specs.State.{Fits};
+ghost use Rattle.scott_rules.specs.Play.{go};
+ghost use Rattle.scott_turn.specs.Rounds.{is_prompt, AnswersNext, GoesRound, PlaysOut};
+
+use crate::advancing::advance;
+use crate::answering::answer;
+use adv_draws::Draws;
+use adv_io::{Console, ConsoleFault, Line, Taken};
+use scott_types::{Db, Position, State};
+
+/// Where a round left the play, and whether it stopped there.
+#[derive(Clone, Copy)]
+pub struct Round {
+    pub position: Position,
+    pub stopped: bool,
+}
+
+// Whether a play stands behind a prompt.
+pub fn is_prompt(position: Position) -> bool
+    ensures { result ≡ is_prompt position }
+{
+    match position {
+        Position::Line => true,
+        _ => false,
+    }
+}
+
+// Takes the next line and answers it, and tells where the play stands then; or finds that no line is left.
+fn answer_next<C: Console>(
+    db: &Db,
+    state: &mut State,
+    line: &mut Line,
+    console: &mut C,
+) -> Result<Option<Position>, ConsoleFault>
+    requires { Fits db.now state.old }
+    ensures told { IfSome (C.left console.old) (λ lines.
+        AnswersNext C.history C.left console.old console.new db.now lines result state.old state.new) }
+    ensures falls { IfOk result (λ answered. IfSome answered (λ _. C.bound console.new < C.bound console.old)) }
+    ensures bounded { C.bound console.new ≤ C.bound console.old }
+    ensures cause { HasCause (C.faults console.old) (C.faults console.new) result }
+    ensures fits { Fits db.now state.new }
+{
+    match console.take(line) {
+        Ok(Taken::End) => Ok(None),
+        Ok(Taken::Got) => match answer(db, state, line, console) {
+            Ok(position) => Ok(Some(position)),
+            Err(fault) => Err(fault),
+        },
+        Err(fault) => Err(fault),
+    }
+}
+
+// Everything up to the prompt, and the answer to the next line.
+fn go_round<C: Console>(
+    db: &Db,
+    state: &mut State,
+    position: Position,
+    draws: &mut Draws,
+    line: &mut Line,
+    console: &mut C,
+) -> Result<Round, ConsoleFault>
+    requires { Fits db.now state.old }
+    ensures told { IfSome (C.left console.old) (λ lines.
+        GoesRound C.history C.left console.old console.new result (go db.now position state.old lines draws.old.left)
+        db.now state.new draws.new.left) }
+    ensures falls { IfOk result (λ round. round.stopped ≡ false → C.bound console.new < C.bound console.old) }
+    ensures bounded { C.bound console.new ≤ C.bound console.old }
+    ensures cause { HasCause (C.faults console.old) (C.faults console.new) result }
+    ensures taken { draws.new.taken + length draws.new.left ≡ draws.old.taken + length draws.old.left }
+    ensures fits { Fits db.now state.new }
+{
+    let reached = advance(db, state, position, draws, console)?;
+    if !is_prompt(reached) {
+        return Ok(Round {
+            position: reached,
+            stopped: true,
+        });
+    }
+    match answer_next(db, state, line, console) {
+        Ok(None) => Ok(Round {
+            position: reached,
+            stopped: true,
+        }),
+        Ok(Some(position)) => Ok(Round {
+            position,
+            stopped: false,
+        }),
+        Err(fault) => Err(fault),
+    }
+}
+
+/// Plays on from a position, until a line or a draw is wanted and none is left, or the game is over, and
+/// tells where the play stands then.
+///
+/// The console's fault alone is a refusal; the state fits then too. docs/TURN.md, "Play", has the rule.
+pub fn play_on<C: Console>(
+    db: &Db,
+    state: &mut State,
+    position: Position,
+    draws: &mut Draws,
+    console: &mut C,
+) -> Result<Position, ConsoleFault>
+    requires { Fits db.now state.old }
+    ensures told { IfSome (C.left console.old) (λ lines.
+        PlaysOut C.history C.left console.old console.new result (go db.now position state.old lines draws.old.left)
+        state.new draws.new.left) }
+    ensures bounded { C.bound console.new ≤ C.bound console.old }
+    ensures cause { HasCause (C.faults console.old) (C.faults console.new) result }
+    ensures taken { draws.new.taken + length draws.new.left ≡ draws.old.taken + length draws.old.left }
+    ensures fits { Fits db.now state.new }
+{
+    let mut line = Line::of(&[]);
+    let mut position = position;
+    loop {
+        let round = go_round(db, state, position, draws, &mut line, console)?;
+        if round.stopped {
+            return Ok(round.position);
+        }
+        position = round.position;
+    }
+}

@@ -1,0 +1,137 @@
+//! The search for a command's group.
+ghost use Rattle.std.specs.Prelude.{◌≡◌, ◌+◌, ◌<◌, IfOk, OnOk, length};
+ghost use Rattle.adv_io.specs.Console.{Speaks};
+ghost use Rattle.scott_types.specs.State.{Fits};
+ghost use Rattle.scott_types.specs.Action.{noun_of};
+ghost use Rattle.scott_rules.specs.Lines.{action_at};
+ghost use Rattle.scott_rules.specs.Groups.{group_tried, groups};
+ghost use Rattle.scott_rules.specs.Search.{is_for_noun, searched};
+ghost use Rattle.scott_turn.specs.Seen.{seen};
+ghost use Rattle.scott_turn.specs.Heads.{group_at};
+ghost use Rattle.scott_turn.specs.Turns.{found_of, search_turn, ends_search, at_least};
+
+use crate::heads::next_head;
+use crate::trying::try_group;
+use adv_io::{Console, ConsoleFault};
+use scott_types::{Db, Found, Ran, State};
+
+/// A verb, and the noun that goes with it, by their numbers.
+#[derive(Clone, Copy)]
+pub struct Command {
+    pub verb: u16,
+    pub noun: Option<u16>,
+}
+
+// Whether a head of this noun is for the noun of a command: one of noun 0 is for every noun and for none.
+fn is_for_noun(own: u32, noun: Option<u16>) -> bool
+    ensures { result ≡ is_for_noun own noun }
+{
+    match noun {
+        None => own == 0,
+        Some(noun) => own == u32::from(noun) || own == 0,
+    }
+}
+
+// Whether the group of a head is for a noun.
+fn is_meant(db: &Db, head: u16, noun: Option<u16>) -> bool
+    requires { head < length db.now.actions }
+    ensures { result ≡ is_for_noun (noun_of (action_at db.now head).vocab) noun }
+{
+    let action = &db.actions()[head as usize];
+    is_for_noun(action.vocab % 150, noun)
+}
+
+// What a group that was tried comes to in a search.
+fn found_of(ran: Ran) -> Found
+    ensures { result ≡ found_of ran }
+{
+    match ran {
+        Ran::Not => Found::Matched,
+        Ran::Passed(_) => Found::Done,
+        Ran::Over(ending) => Found::Over(ending),
+    }
+}
+
+// Tries the group of a head where it is for the noun.
+fn take_turn<C: Console>(
+    db: &Db,
+    state: &mut State,
+    head: u16,
+    noun: Option<u16>,
+    typed: &[u8],
+    console: &mut C,
+) -> Result<Found, ConsoleFault>
+    requires fits { Fits db.now state.old }
+    requires there { head < length db.now.actions }
+    ensures spoken { let b = is_for_noun (noun_of (action_at db.now head).vocab) noun in
+        Speaks C.history C.left C.bound C.faults console.old console.new result
+        (seen (search_turn b db.now typed.now (group_at db.now head) state.old).events) }
+    ensures state { let b = is_for_noun (noun_of (action_at db.now head).vocab) noun in
+        OnOk result (state.new ≡ (search_turn b db.now typed.now (group_at db.now head) state.old).value.state) }
+    ensures found { let b = is_for_noun (noun_of (action_at db.now head).vocab) noun in
+        IfOk result (λ found. found ≡ (search_turn b db.now typed.now (group_at db.now head) state.old).value.found) }
+    ensures fits { Fits db.now state.new }
+{
+    if is_meant(db, head, noun) {
+        match try_group(db, state, head, typed, console) {
+            Ok(ran) => Ok(found_of(ran)),
+            Err(fault) => Err(fault),
+        }
+    } else {
+        Ok(Found::NoMatch)
+    }
+}
+
+// Whether a search ends with a group.
+fn ends_search(found: Found) -> bool
+    ensures { result ≡ ends_search found }
+{
+    match found {
+        Found::Done => true,
+        Found::Over(_) => true,
+        _ => false,
+    }
+}
+
+// What a search has found so far, behind one more group.
+fn at_least(found: Found, before: Found) -> Found
+    ensures { result ≡ at_least found before }
+{
+    match found {
+        Found::NoMatch => before,
+        _ => found,
+    }
+}
+
+/// Tries the groups for a verb and a noun in order, up to the first whose head passes, with the noun
+/// that was typed.
+///
+/// The console's fault alone is a refusal; the state fits then too. docs/TURN.md, "Groups", has the rule.
+pub fn search<C: Console>(
+    db: &Db,
+    state: &mut State,
+    command: Command,
+    typed: &[u8],
+    console: &mut C,
+) -> Result<Found, ConsoleFault>
+    requires { Fits db.now state.old }
+    ensures spoken { Speaks C.history C.left C.bound C.faults console.old console.new result
+        (seen (searched db.now typed.now command.verb command.noun (groups db.now) state.old).events) }
+    ensures left { IfOk result
+        (λ found. (searched db.now typed.now command.verb command.noun (groups db.now) state.old).value
+        ≡ record { state = state.new; found = found }) }
+    ensures fits { Fits db.now state.new }
+{
+    let _lines = db.actions();
+    let mut before = Found::NoMatch;
+    let mut line = 0;
+    while let Some(head) = next_head(db, command.verb, line) {
+        let found = take_turn(db, state, head, command.noun, typed, console)?;
+        if ends_search(found) {
+            return Ok(found);
+        }
+        before = at_least(found, before);
+        line = head + 1;
+    }
+    Ok(before)
+}

@@ -1,0 +1,166 @@
+//! A session: a game that is being played, from its beginning, and on from where it stopped.
+ghost use Rattle.std.specs.Prelude.{◌≡◌, ◌≤◌, ◌↔◌, true, false, IfOk, IfSome, OnOk, IsOk, IsFalse};
+ghost use Rattle.adv_io.specs.Console.{Speaks};
+ghost use Rattle.adv_io.specs.Faults.{HasCause};
+ghost use Rattle.scott_types.specs.State.{start};
+ghost use Rattle.scott_types.specs.declared.endings.Position.TheVariants.{Fresh};
+ghost use Rattle.scott_rules.specs.Play.{go, ending_of};
+ghost use Rattle.scott_turn.specs.Handed.{given, said};
+ghost use Rattle.scott_turn.specs.Played.{Leaves, Plays, GoesOn};
+
+use crate::hearing::hear_on;
+use crate::rounds::play_on;
+use adv_draws::Draws;
+use adv_io::{Console, ConsoleFault, Line, Memory};
+use scott_rules::laws::{play_spends, play_splits};
+use scott_types::{Db, Ending, Position, State};
+use std::alloc::Global;
+use std::marker::Model;
+
+/// A game that is being played.
+///
+/// A clause sees the game, where its play stands, its state, and whether a failure of the console broke
+/// the session.
+#[derive(Drop)]
+pub struct Session<'a> {
+    db: &'a Db,
+    position: Position,
+    state: State,
+    broken: bool,
+}
+
+impl<'a> Model for Session<'a> {
+    ghost use Rattle.scott_types.specs.State.{Fits};
+    ghost use Rattle.scott_turn.specs.Played.{Sitting};
+
+    ghost Value = { Sitting };
+
+    ghost view = { λ s. record { game = s.db.now; position = s.position; state = s.state; broken = s.broken } };
+
+    ghost invariant = { λ s. Fits s.db.now s.state };
+}
+
+// Why a play that stands at a position stopped.
+fn ending_of(position: Position) -> Ending
+    ensures { result ≡ ending_of position }
+{
+    match position {
+        Position::Fresh => Ending::NeedsLine,
+        Position::Draw(_) => Ending::NeedsDraw,
+        Position::Line => Ending::NeedsLine,
+        Position::Over(ending) => Ending::Over(ending),
+    }
+}
+
+impl<'a> Session<'a> {
+    /// A session at the beginning of a game. Once it is open it takes no memory.
+    pub fn open(_alloc: Global, db: &'a Db) -> Result<Session<'a>, Memory>
+        ensures game { IfOk result (λ session. session.game ≡ db.now) }
+        ensures position { IfOk result (λ session. session.position ≡ Position.Fresh) }
+        ensures state { IfOk result (λ session. session.state ≡ start db.now) }
+        ensures whole { IfOk result (λ session. session.broken ≡ false) }
+    {
+        Ok(Session {
+            db,
+            position: Position::Fresh,
+            state: State::start(db),
+            broken: false,
+        })
+    }
+
+    /// Plays on until a line or a draw is wanted and none is left, or the game is over, and tells which.
+    ///
+    /// The console's fault alone is a refusal, and breaks the session: it can't be played on. docs/TURN.md,
+    /// "Play", has the rule.
+    pub fn play<C: Console>(
+        &mut self,
+        draws: &mut Draws,
+        console: &mut C,
+    ) -> Result<Ending, ConsoleFault>
+        requires { self.old.broken ≡ false }
+        ensures plays { IfSome (C.left console.old) (λ lines.
+            Plays C.history C.left console.old console.new result
+            (go self.old.game self.old.position self.old.state lines draws.old.left) self.new draws.old draws.new) }
+        ensures goes_on { IfSome (C.left console.old) (λ lines. OnOk result
+            (GoesOn self.old self.new lines draws.old.left
+            (go self.old.game self.old.position self.old.state lines draws.old.left))) }
+        ensures bounded { C.bound console.new ≤ C.bound console.old }
+        ensures cause { HasCause (C.faults console.old) (C.faults console.new) result }
+        ensures game { self.new.game ≡ self.old.game }
+        ensures breaks { IsOk result ↔ IsFalse self.new.broken }
+    {
+        play_spends();
+        play_splits();
+        match play_on(self.db, &mut self.state, self.position, draws, console) {
+            Ok(position) => {
+                self.position = position;
+                Ok(ending_of(position))
+            }
+            Err(fault) => {
+                self.broken = true;
+                Err(fault)
+            }
+        }
+    }
+
+    /// Goes on as a play does whose lines are the one that is handed in, or none, and tells why it stopped.
+    /// The console only says: no line is taken from it, and one that the play doesn't come to take is dropped.
+    ///
+    /// The console's fault alone is a refusal, and breaks the session: it can't be played on. docs/TURN.md,
+    /// "Play", has the rule.
+    pub fn hear<C: Console>(
+        &mut self,
+        draws: &mut Draws,
+        line: Option<&Line>,
+        console: &mut C,
+    ) -> Result<Ending, ConsoleFault>
+        requires { self.old.broken ≡ false }
+        ensures spoken { Speaks C.history C.left C.bound C.faults console.old console.new result
+            (said (go self.old.game self.old.position self.old.state (given line.entry) draws.old.left).events) }
+        ensures leaves { IfOk result (λ ending.
+            Leaves (go self.old.game self.old.position self.old.state (given line.entry) draws.old.left)
+            self.new draws.old draws.new ending) }
+        ensures game { self.new.game ≡ self.old.game }
+        ensures breaks { IsOk result ↔ IsFalse self.new.broken }
+    {
+        play_spends();
+        match hear_on(
+            self.db,
+            &mut self.state,
+            self.position,
+            draws,
+            line,
+            console,
+        ) {
+            Ok(position) => {
+                self.position = position;
+                Ok(ending_of(position))
+            }
+            Err(fault) => {
+                self.broken = true;
+                Err(fault)
+            }
+        }
+    }
+
+    /// The state of the play.
+    pub fn state(&self) -> &State
+        ensures { result.now ≡ self.now.state }
+    {
+        &self.state
+    }
+
+    /// Where the play stands.
+    pub fn position(&self) -> Position
+        ensures { result ≡ self.now.position }
+    {
+        self.position
+    }
+
+    /// Whether a failure of the console broke the session.
+    pub fn broken(&self) -> bool
+        ensures { result ≡ self.now.broken }
+    {
+        self.broken
+    }
+}

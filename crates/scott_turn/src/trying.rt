@@ -1,0 +1,134 @@
+//! To try a group: its head, and the tail where the head goes on.
+ghost use Rattle.std.specs.Prelude.{◌≡◌, ◌+◌, ◌<◌, IfOk, OnOk, length};
+ghost use Rattle.adv_io.specs.Console.{Speaks};
+ghost use Rattle.scott_types.specs.State.{Fits};
+ghost use Rattle.scott_rules.specs.Lines.{line_tried};
+ghost use Rattle.scott_rules.specs.Groups.{over_of, tail_line, tail_tried, passed_or_over, group_tried};
+ghost use Rattle.scott_turn.specs.Seen.{seen};
+ghost use Rattle.scott_turn.specs.Heads.{tail_from, group_at};
+
+use crate::heads::tail_goes_on;
+use adv_io::{Console, ConsoleFault};
+use scott_actions::lines::perform;
+use scott_types::{Db, Ran, State};
+
+// Tries an action line.
+#[tactic(auto, using(crate::proofs::Seeing::seen_line))]
+fn try_line<C: Console>(
+    db: &Db,
+    state: &mut State,
+    line: u16,
+    noun: &[u8],
+    console: &mut C,
+) -> Result<Ran, ConsoleFault>
+    requires fits { Fits db.now state.old }
+    requires there { line < length db.now.actions }
+    ensures spoken { Speaks C.history C.left C.bound C.faults console.old console.new result
+        (seen (line_tried db.now noun.now line state.old).events) }
+    ensures state { OnOk result (state.new ≡ (line_tried db.now noun.now line state.old).value.state) }
+    ensures ran { IfOk result (λ ran. ran ≡ (line_tried db.now noun.now line state.old).value.ran) }
+    ensures fits { Fits db.now state.new }
+{
+    perform(db, state, line, noun, console)
+}
+
+// The ending that a line came to.
+fn over_of(ran: Ran) -> Option<u8>
+    ensures { result ≡ over_of ran }
+{
+    match ran {
+        Ran::Over(ending) => Some(ending),
+        _ => None,
+    }
+}
+
+// Tries a line of a tail, and tells whether it ended the game.
+fn try_tail_line<C: Console>(
+    db: &Db,
+    state: &mut State,
+    line: u16,
+    noun: &[u8],
+    console: &mut C,
+) -> Result<Option<u8>, ConsoleFault>
+    requires fits { Fits db.now state.old }
+    requires there { line < length db.now.actions }
+    ensures spoken { Speaks C.history C.left C.bound C.faults console.old console.new result
+        (seen (tail_line db.now noun.now line state.old).events) }
+    ensures state { OnOk result (state.new ≡ (tail_line db.now noun.now line state.old).value.state) }
+    ensures over { IfOk result (λ over. over ≡ (tail_line db.now noun.now line state.old).value.over) }
+    ensures fits { Fits db.now state.new }
+{
+    match try_line(db, state, line, noun, console) {
+        Ok(ran) => Ok(over_of(ran)),
+        Err(fault) => Err(fault),
+    }
+}
+
+// Tries each line of the tail that goes on at a line, until one ends the game.
+fn try_tail<C: Console>(
+    db: &Db,
+    state: &mut State,
+    from: u16,
+    noun: &[u8],
+    console: &mut C,
+) -> Result<Option<u8>, ConsoleFault>
+    requires { Fits db.now state.old }
+    ensures spoken { Speaks C.history C.left C.bound C.faults console.old console.new result
+        (seen (tail_tried db.now noun.now (tail_from db.now from) state.old).events) }
+    ensures state { OnOk result
+        (state.new ≡ (tail_tried db.now noun.now (tail_from db.now from) state.old).value.state) }
+    ensures over { IfOk result
+        (λ over. over ≡ (tail_tried db.now noun.now (tail_from db.now from) state.old).value.over) }
+    ensures fits { Fits db.now state.new }
+{
+    let _lines = db.actions();
+    let mut line = from;
+    while tail_goes_on(db, line) {
+        let over = try_tail_line(db, state, line, noun, console)?;
+        if over.is_some() {
+            return Ok(over);
+        }
+        line += 1;
+    }
+    Ok(None)
+}
+
+// What became of a group whose head went on with its tail.
+fn with_tail(over: Option<u8>) -> Ran
+    ensures { result ≡ passed_or_over over }
+{
+    match over {
+        None => Ran::Passed(true),
+        Some(ending) => Ran::Over(ending),
+    }
+}
+
+/// Tries the group of a head, with the noun that was typed: the head, and where it passes and goes on
+/// each line of its tail.
+///
+/// The console's fault alone is a refusal; the state fits then too. docs/TURN.md, "Groups", has the rule.
+pub fn try_group<C: Console>(
+    db: &Db,
+    state: &mut State,
+    head: u16,
+    noun: &[u8],
+    console: &mut C,
+) -> Result<Ran, ConsoleFault>
+    requires fits { Fits db.now state.old }
+    requires there { head < length db.now.actions }
+    ensures spoken { Speaks C.history C.left C.bound C.faults console.old console.new result
+        (seen (group_tried db.now noun.now (group_at db.now head) state.old).events) }
+    ensures state { OnOk result (state.new ≡ (group_tried db.now noun.now (group_at db.now head) state.old).value.state) }
+    ensures ran { IfOk result (λ ran. ran ≡ (group_tried db.now noun.now (group_at db.now head) state.old).value.ran) }
+    ensures fits { Fits db.now state.new }
+{
+    let _lines = db.actions();
+    match try_line(db, state, head, noun, console) {
+        Ok(Ran::Passed(true)) => match try_tail(db, state, head + 1, noun, console) {
+            Ok(over) => Ok(with_tail(over)),
+            Err(fault) => Err(fault),
+        },
+        Ok(ran) => Ok(ran),
+        Err(fault) => Err(fault),
+    }
+}

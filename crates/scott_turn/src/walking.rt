@@ -1,0 +1,85 @@
+//! Moving from room to room.
+ghost use Rattle.std.specs.Prelude.{◌≡◌, ◌-◌, IfOk, IsTrue, length, [], if◌then◌else◌};
+ghost use Rattle.adv_io.specs.Console.{Speaks};
+ghost use Rattle.scott_types.specs.declared.phrases.Phrase.TheVariants.{DarkMove};
+ghost use Rattle.scott_types.specs.Database.{room_at};
+ghost use Rattle.scott_types.specs.Phrase.{text_of};
+ghost use Rattle.scott_types.specs.Room.{exit_of};
+ghost use Rattle.scott_types.specs.State.{Fits, is_dark};
+ghost use Rattle.scott_rules.specs.Commands.{is_direction};
+ghost use Rattle.scott_rules.specs.Rounds.{way, walked};
+ghost use Rattle.scott_turn.specs.Seen.{seen};
+ghost use Rattle.scott_turn.specs.Ways.{way_text, way_over};
+
+use adv_io::{Console, ConsoleFault};
+use scott_light::Page;
+use scott_rules::laws::walk_fits;
+use scott_types::{Db, Phrase, State, exit};
+
+// The warning of a move in the dark.
+fn warning(dark: bool) -> &'static [u8]
+    ensures { result.now ≡ (if dark then text_of DarkMove else []) }
+{
+    if dark { Phrase::DarkMove.text() } else { &[] }
+}
+
+// What is said of a way: that it was gone, or why not.
+fn way_text(dark: bool, room: u8) -> &'static [u8]
+    ensures { result.now ≡ way_text dark room }
+{
+    if room != 0 {
+        Phrase::Moved.text()
+    } else if dark {
+        Phrase::BrokenNeck.text()
+    } else {
+        Phrase::NoExitThere.text()
+    }
+}
+
+// A fall in the dark ends the game.
+fn way_over(dark: bool, room: u8) -> Option<u8>
+    ensures { result ≡ way_over dark room }
+{
+    if room == 0 && dark { Some(2) } else { None }
+}
+
+// The room becomes the one behind an exit, where there is one.
+fn go(state: &mut State, room: u8)
+    ensures { state.new ≡ (way room state.old).value.state }
+{
+    if room != 0 {
+        state.room = room;
+        state.redraw = true;
+    }
+}
+
+/// Goes in a direction, which is a noun from 1 to 6. In the dark a warning comes first, and where there is
+/// no exit the game ends with a fall.
+///
+/// The console's fault alone is a refusal; the state fits then too. docs/TURN.md, "Commands", has the rule.
+pub fn walk<C: Console>(
+    db: &Db,
+    state: &mut State,
+    noun: u16,
+    console: &mut C,
+) -> Result<Option<u8>, ConsoleFault>
+    requires fits { Fits db.now state.old }
+    requires direction { IsTrue (is_direction noun) }
+    ensures spoken { Speaks C.history C.left C.bound C.faults console.old console.new result
+        (seen (walked db.now noun state.old).events) }
+    ensures left { IfOk result (λ over. (walked db.now noun state.old).value
+        ≡ record { state = state.new; over = over }) }
+    ensures fits { Fits db.now state.new }
+{
+    walk_fits();
+    let dark = state.is_dark();
+    let room = exit(db, state.room, noun as usize - 1);
+    go(state, room);
+    let mut page = Page::new();
+    page.add(warning(dark));
+    page.add(way_text(dark, room));
+    match page.say(console) {
+        Ok(()) => Ok(way_over(dark, room)),
+        Err(fault) => Err(fault),
+    }
+}
