@@ -21,7 +21,8 @@ pub trait Entry {
 
     /// Adds the warnings of the entry of a number at the end.
     fn add_warnings(&self, db: &Db, index: u16, found: &mut Vec<Warning>) -> Result<(), Memory>
-        ensures { OnOk result (found.new.items ≡ found.old.items ++ warnings_of (sites db.now index self.now)) };
+        ensures { OnOk result (found.new.items ≡ found.old.items
+            ++ warnings_of (sites db.now index self.now)) };
 }
 
 // The parameters behind those that the opcode of a number takes.
@@ -105,7 +106,8 @@ impl Entry for Item {
 /// Adds the warnings of each entry of a list at the end.
 pub fn add_entries<E: Entry>(db: &Db, entries: &[E], found: &mut Vec<Warning>) -> Result<(), Memory>
     requires { length entries.now ≤ 5000 }
-    ensures { OnOk result (found.new.items ≡ found.old.items ++ warnings_of (each_from 0 (E.sites db.now) entries.now)) }
+    ensures { OnOk result (found.new.items ≡ found.old.items
+        ++ warnings_of (each_from 0 (E.sites db.now) entries.now)) }
 {
     for (index, entry) in entries.iter().enumerate() {
         entry.add_warnings(db, index as u16, found)?;

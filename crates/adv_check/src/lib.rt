@@ -14,6 +14,9 @@ mod rows;
 mod reporting;
 mod searching;
 
+// Laws of the above.
+pub mod laws;
+
 pub use findings::{Part, Warning, What};
 pub use reporting::report;
 pub use searching::warnings;

@@ -36,7 +36,8 @@ pub fn add_row(
     faults: &[Option<Fault>],
 ) -> Result<(), Memory>
     requires { length faults.now ≤ 6 }
-    ensures { OnOk result (found.new.items ≡ found.old.items ++ warnings_of (row part index faults.now)) }
+    ensures { OnOk result (found.new.items ≡ found.old.items
+        ++ warnings_of (row part index faults.now)) }
 {
     for (i, fault) in faults.iter().enumerate() {
         add(found, part, index, (i + 1) as u8, *fault)?;
