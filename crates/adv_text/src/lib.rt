@@ -9,7 +9,7 @@ pub mod writing;
 pub use adv_io::Memory;
 pub use faults::TextFault;
 pub use scan::Scan;
-pub use writing::{put_number, put_quoted};
+pub use writing::{put_integer, put_number, put_quoted};
 
 #[cfg(test)]
 mod tests;

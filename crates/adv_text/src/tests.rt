@@ -83,6 +83,10 @@ fn written_texts(rt: HostRuntime) -> Result<(), Fail> {
     put_number(rt.alloc(), &mut out, -2147483648)?;
     put_quoted(rt.alloc(), &mut out, b"a\"b")?;
     put_number(rt.alloc(), &mut out, 0)?;
-    assert_eq!(rt; out.as_slice(), b"-2147483648\"a\"\"b\"0".as_slice());
+    put_integer(rt.alloc(), &mut out, i64::MIN)?;
+    assert_eq!(rt;
+        out.as_slice(),
+        b"-2147483648\"a\"\"b\"0-9223372036854775808".as_slice()
+    );
     Ok(())
 }

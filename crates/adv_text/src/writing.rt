@@ -3,19 +3,30 @@ ghost use Rattle.std.specs.Prelude.{◌≡◌, ◌++◌, OnOk, OnErr, IsTrue};
 ghost use Rattle.adv_text.specs.Writing.{number_text, quoted_text, is_text};
 
 use adv_io::Memory;
-use itoa::Buffer;
+use itoa::{Buffer, Integer};
 use std::alloc::Global;
 
-/// Writes a number at the end: its decimal digits without leading zeros, behind `-` where it is negative.
+/// Writes an integer of any type at the end: its decimal digits without leading zeros, behind `-` where
+/// it is negative.
 ///
-/// After a fault nothing was written. docs/FORMAT.md has the rule.
-pub fn put_number(_alloc: Global, out: &mut Vec<u8>, n: i32) -> Result<(), Memory>
-    ensures written { OnOk result (out.new.items ≡ out.old.items ++ number_text n) }
+/// After a fault nothing was written.
+pub fn put_integer<I: Integer>(_alloc: Global, out: &mut Vec<u8>, n: I) -> Result<(), Memory>
+    ensures written { OnOk result (out.new.items ≡ out.old.items ++ I.text n) }
     ensures kept { OnErr result (out.new.items ≡ out.old.items) }
 {
     let mut buffer = Buffer::new();
     out.extend_from_slice(buffer.format(n).as_bytes())?;
     Ok(())
+}
+
+/// Writes a number of a database file at the end, as `put_integer` does.
+///
+/// After a fault nothing was written. docs/FORMAT.md has the rule.
+pub fn put_number(alloc: Global, out: &mut Vec<u8>, n: i32) -> Result<(), Memory>
+    ensures written { OnOk result (out.new.items ≡ out.old.items ++ number_text n) }
+    ensures kept { OnErr result (out.new.items ≡ out.old.items) }
+{
+    put_integer(alloc, out, n)
 }
 
 /// Writes a string at the end: the text between quotes, each quote in it twice.

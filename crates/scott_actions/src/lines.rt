@@ -13,7 +13,7 @@ ghost use Rattle.scott_rules.specs.Lines.{is_more, ran_of, performed, line_done}
 use crate::conditions::passes;
 use crate::deeds::{obey, takes};
 use adv_io::{Console, ConsoleFault};
-use arrayvec::ArrayVec;
+use scott_types::action_lines::{opcode_numbers, parameters};
 use scott_types::{Action, Db, Opcode, Ran, State};
 
 // The opcode that goes on with the tail.
@@ -98,27 +98,6 @@ fn course<C: Console>(
             }
         }
     }
-}
-
-// The numbers of the four opcodes.
-fn opcode_numbers(action: &Action) -> [u32; 4]
-    ensures { result ≡ opcode_numbers action.now }
-{
-    let [first, second] = action.pairs;
-    [first / 150, first % 150, second / 150, second % 150]
-}
-
-// The parameters: the arguments of the conditions of code 0.
-fn parameters(action: &Action) -> ArrayVec<u32, 5>
-    ensures { result.items ≡ parameters action.now }
-{
-    let mut arguments = ArrayVec::new();
-    for packed in &action.conds {
-        if *packed % 20 == 0 {
-            arguments.push(*packed / 20);
-        }
-    }
-    arguments
 }
 
 // Whether one of the opcodes goes on with the tail.

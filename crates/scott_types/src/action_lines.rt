@@ -1,8 +1,9 @@
 //! An action line unpacked.
 ghost use Rattle.std.specs.Prelude.{◌≡◌, ◌<◌, slice_index};
-ghost use Rattle.scott_types.specs.Action.{argument_of, condition_code, opcode_numbers, is_blank};
+ghost use Rattle.scott_types.specs.Action.{argument_of, condition_code, opcode_numbers, parameters};
 
 use crate::parts::Action;
+use arrayvec::ArrayVec;
 
 /// The argument and the code, 0..19, of one of the five conditions.
 pub fn condition(action: &Action, i: usize) -> (u32, u8)
@@ -25,4 +26,25 @@ pub fn opcode(action: &Action, i: usize) -> u32
         2 => action.pairs[1] / 150,
         _ => action.pairs[1] % 150,
     }
+}
+
+/// The numbers of the four opcodes.
+pub fn opcode_numbers(action: &Action) -> [u32; 4]
+    ensures { result ≡ opcode_numbers action.now }
+{
+    let [first, second] = action.pairs;
+    [first / 150, first % 150, second / 150, second % 150]
+}
+
+/// The parameters of the line's opcodes, in order: the arguments of its conditions of code 0.
+pub fn parameters(action: &Action) -> ArrayVec<u32, 5>
+    ensures { result.items ≡ parameters action.now }
+{
+    let mut arguments = ArrayVec::new();
+    for packed in &action.conds {
+        if *packed % 20 == 0 {
+            arguments.push(*packed / 20);
+        }
+    }
+    arguments
 }

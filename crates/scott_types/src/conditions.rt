@@ -1,6 +1,8 @@
 //! The conditions of an action line.
 ghost use Rattle.std.specs.Prelude.{◌≡◌, ◌<◌};
-ghost use Rattle.scott_types.specs.Condition.{condition_of, code_of};
+ghost use Rattle.scott_types.specs.Condition.{condition_of, code_of, names_of};
+
+use crate::parameters::Parameter;
 
 /// What a condition tests. Each takes one argument; docs/TURN.md says when each holds.
 #[derive(Clone, Copy, Debug, PartialEq, Eq)]
@@ -66,5 +68,31 @@ impl Condition {
         ensures { result ≡ code_of self }
     {
         self as u8
+    }
+
+    /// What the condition's argument names: a mere number where it names nothing.
+    pub fn names(self) -> Parameter
+        ensures { result ≡ names_of self }
+    {
+        match self {
+            Condition::Carried
+            | Condition::Here
+            | Condition::Near
+            | Condition::NotHere
+            | Condition::NotCarried
+            | Condition::NotNear
+            | Condition::InGame
+            | Condition::OutOfGame
+            | Condition::AtStart
+            | Condition::NotAtStart => Parameter::Item,
+            Condition::At | Condition::NotAt => Parameter::Room,
+            Condition::FlagSet | Condition::FlagClear => Parameter::Flag,
+            Condition::Parameter
+            | Condition::SomeCarried
+            | Condition::NoneCarried
+            | Condition::CounterAtMost
+            | Condition::CounterOver
+            | Condition::CounterIs => Parameter::Number,
+        }
     }
 }

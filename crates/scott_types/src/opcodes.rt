@@ -1,6 +1,8 @@
 //! The opcodes of an action line, in families by what they change.
 ghost use Rattle.std.specs.Prelude.{◌≡◌, ◌<◌, ◌^◌, length};
-ghost use Rattle.scott_types.specs.Opcode.{opcode_of, number_of, say_number, item_number, room_number, flag_number, counter_number, talk_number, item_parameters, room_parameters, flag_parameters, counter_parameters, uses};
+ghost use Rattle.scott_types.specs.Opcode.{opcode_of, number_of, say_number, item_number, room_number, flag_number, counter_number, talk_number, item_parameters, room_parameters, flag_parameters, counter_parameters, parameters_of, uses};
+
+use crate::parameters::Parameter;
 
 /// What an opcode does. It takes its parameters from a list; docs/TURN.md says what each does with them.
 #[derive(Clone, Copy, Debug, PartialEq, Eq)]
@@ -172,61 +174,72 @@ impl Opcode {
 }
 
 impl Opcode {
+    /// What the opcode's parameters name, in their order.
+    pub fn parameters(self) -> &'static [Parameter]
+        ensures { result.now ≡ parameters_of self }
+    {
+        match self {
+            Opcode::Get => &[Parameter::Item],
+            Opcode::Items(op) => op.parameters(),
+            Opcode::Rooms(op) => op.parameters(),
+            Opcode::Flags(op) => op.parameters(),
+            Opcode::Counters(op) => op.parameters(),
+            Opcode::Picture => &[Parameter::Number],
+            _ => &[],
+        }
+    }
+
     /// How many parameters the opcode takes.
     pub fn uses(self) -> usize
         ensures { result ≡ uses self }
     {
-        match self {
-            Opcode::Get | Opcode::Picture => 1,
-            Opcode::Items(op) => op.uses(),
-            Opcode::Rooms(op) => op.uses(),
-            Opcode::Flags(op) => op.uses(),
-            Opcode::Counters(op) => op.uses(),
-            _ => 0,
-        }
+        self.parameters().len()
     }
 }
 
 impl ItemOp {
-    fn uses(self) -> usize
-        ensures { result ≡ length (item_parameters self) }
+    fn parameters(self) -> &'static [Parameter]
+        ensures { result.now ≡ item_parameters self }
     {
         match self {
-            ItemOp::Put | ItemOp::Swap | ItemOp::Join => 2,
-            _ => 1,
+            ItemOp::Put => &[Parameter::Item, Parameter::Place],
+            ItemOp::Swap | ItemOp::Join => &[Parameter::Item, Parameter::Item],
+            _ => &[Parameter::Item],
         }
     }
 }
 
 impl RoomOp {
-    fn uses(self) -> usize
-        ensures { result ≡ length (room_parameters self) }
+    fn parameters(self) -> &'static [Parameter]
+        ensures { result.now ≡ room_parameters self }
     {
         match self {
-            RoomOp::SwapSaved => 0,
-            _ => 1,
+            RoomOp::Go => &[Parameter::Room],
+            RoomOp::SwapSaved => &[],
+            RoomOp::SwapRoom => &[Parameter::Backup],
         }
     }
 }
 
 impl FlagOp {
-    fn uses(self) -> usize
-        ensures { result ≡ length (flag_parameters self) }
+    fn parameters(self) -> &'static [Parameter]
+        ensures { result.now ≡ flag_parameters self }
     {
         match self {
-            FlagOp::SetFlag | FlagOp::ClearFlag => 1,
-            _ => 0,
+            FlagOp::SetFlag | FlagOp::ClearFlag => &[Parameter::Flag],
+            _ => &[],
         }
     }
 }
 
 impl CounterOp {
-    fn uses(self) -> usize
-        ensures { result ≡ length (counter_parameters self) }
+    fn parameters(self) -> &'static [Parameter]
+        ensures { result.now ≡ counter_parameters self }
     {
         match self {
-            CounterOp::Down => 0,
-            _ => 1,
+            CounterOp::Down => &[],
+            CounterOp::SwapCounter => &[Parameter::Backup],
+            _ => &[Parameter::Number],
         }
     }
 }

@@ -1,4 +1,4 @@
-//! What the parameters of opcodes name.
+//! What the parameters of opcodes and the arguments of conditions name.
 
 /// What a parameter of an opcode, or the argument of a condition, names.
 #[derive(Clone, Copy, Debug, PartialEq, Eq)]
@@ -10,5 +10,6 @@ pub enum Parameter {
     Backup,
     /// A room, or where an item is carried or out of the game.
     Place,
+    /// Nothing: a mere number.
     Number,
 }

@@ -1,7 +1,7 @@
 use Rattle.std.proofs.Common.{◌≡◌, ◌≤◌, map, take, length}
 use Rattle.std.specs.Prelude.{filter}
 use Rattle.scott_types.specs.Action.{argument_of, condition_code, is_zero}
-use Rattle.scott_actions.proofs.lines.parameters.Given as goal
+use Rattle.scott_types.proofs.action_lines.parameters.Given as goal
 
 -- the parameters so far are those of the conditions so far
 abbrev pub invariant-loop-packed : goal.invariant-loop-packed

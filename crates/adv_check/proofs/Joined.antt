@@ -1,0 +1,40 @@
+-- The warnings of places one behind the other, and texts one behind the other.
+use Rattle.std.proofs.Common.{◌≡◌, ◌∙◌, ℕ, zero, suc, ◌+◌, ◌<◌, List, [], ◌∷◌, ◌++◌, length, take, get_or, refl, sym, ap, arith, add-one, append-nil, append_assoc}
+use Rattle.std.proofs.lemmas.List.Elements.{filter_map-append}
+use Rattle.adv_check.specs.declared.findings.Warning.{Warning}
+use Rattle.adv_check.specs.Sites.{Site, each_from, warning_at, warnings_of}
+
+-- the places of one element more
+module _ {X : Type 0} (of : ℕ → X → List Site) where
+  each_from-next : (xs : List X) (first i : ℕ) (x : X) → i < length xs
+      → each_from first of (take (suc i) xs) ≡ each_from first of (take i xs) ++ of (first + i) (get_or xs i x)
+  each_from-next [] first i x h = absurd (omega arith)
+  each_from-next (y ∷ xs) first zero x h =
+      let same : first ≡ first + zero = omega arith in
+      append-nil (of first y) ∙ ap (λ n. of n y) same
+  each_from-next (y ∷ xs) first (suc i) x h =
+      let same : first + 1 + i ≡ first + suc i = omega arith in
+      let last = of (first + 1 + i) (get_or xs i x) in
+      ap (λ places. of first y ++ places) (each_from-next xs (first + 1) i x (omega arith))
+      ∙ sym (append_assoc (of first y) (each_from (first + 1) of (take i xs)) last)
+      ∙ ap (λ n. (of first y ++ each_from (first + 1) of (take i xs)) ++ of n (get_or xs i x)) same
+
+-- warnings of places, and of those behind them
+pub both : (start first second : List Warning) (xs ys : List Site) → first ≡ start ++ warnings_of xs → second ≡ first ++ warnings_of ys
+    → second ≡ start ++ warnings_of (xs ++ ys)
+both start first second xs ys e f =
+    f ∙ rw (e, filter_map-append warning_at xs ys) (append_assoc start (warnings_of xs) (warnings_of ys))
+
+-- a loop's step: the warnings of the elements so far, and of the next one
+pub one_more : {X : Type 0} (of : ℕ → X → List Site) (xs : List X) (first i number : ℕ) (x d : X) (start before after : List Warning)
+    → i < length xs → number ≡ first + i → x ≡ get_or xs i d
+    → before ≡ start ++ warnings_of (each_from first of (take i xs)) → after ≡ before ++ warnings_of (of number x)
+    → after ≡ start ++ warnings_of (each_from first of (take (i + 1) xs))
+one_more of xs first i number x d start before after h counted is so_far added =
+    both start before after (each_from first of (take i xs)) (of (first + i) (get_or xs i d)) so_far (rw (counted, is) at added)
+    ∙ rw (add-one, each_from-next of xs first i d h) refl
+
+-- six texts that were written one behind the other
+pub six_written : (start o₁ o₂ o₃ o₄ o₅ o₆ a b c d e f : List ℕ) → o₁ ≡ start ++ a → o₂ ≡ o₁ ++ b → o₃ ≡ o₂ ++ c → o₄ ≡ o₃ ++ d → o₅ ≡ o₄ ++ e → o₆ ≡ o₅ ++ f
+    → o₆ ≡ start ++ (a ++ (b ++ (c ++ (d ++ (e ++ f)))))
+six_written start o₁ o₂ o₃ o₄ o₅ o₆ a b c d e f h₁ h₂ h₃ h₄ h₅ h₆ = h₆ ∙ rw (h₅, h₄, h₃, h₂, h₁) (simp append_assoc)

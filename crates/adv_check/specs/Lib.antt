@@ -1,0 +1,5 @@
+pub mod Faults
+pub mod Sites
+pub mod Report
+pub mod Laws
+pub mod Worked
