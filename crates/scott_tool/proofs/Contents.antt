@@ -1,12 +1,11 @@
 -- What a database file reads as, held to what the reader answers.
-use Rattle.std.proofs.Common.{◌≡◌, ◌≢◌, ◌⊎◌, ℕ, List, Option, Some, None, IfSome, Result, Ok, Err, refl, sym, ap, inl, inr}
+use Rattle.std.proofs.Common.{◌≡◌, ◌≢◌, ℕ, List, Result, Ok, Err, sym, ap, inl, inr}
 use Rattle.scott_types.specs.Database.{Database}
-use Rattle.scott_types.specs.declared.databases.Db.{Db}
 use Rattle.scott_format.specs.declared.faults.FormatFault.{FormatFault}
 use Rattle.scott_format.specs.declared.faults.FormatFault.TheVariants.{NoNumber, BigNumber, NoQuote, OpenString, LongString, Limit, NoStart, NegativeAction, Memory}
 use Rattle.scott_format.specs.Faults.{Fault, told}
 use Rattle.scott_format.specs.File.{DatText, DatFault}
-use Rattle.scott_format.specs.Reading.{IsDb, IsErrOrMemory}
+use Rattle.scott_format.specs.Reading.{IsErrOrMemory}
 use Rattle.scott_tool.specs.Cause.{Cause, no_database, fault_cause}
 use Rattle.scott_tool.specs.Work.{Reads, database}
 use Rattle.scott_tool.specs.Stopping.{Refuses}

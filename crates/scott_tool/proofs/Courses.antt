@@ -1,5 +1,5 @@
 -- The course that a request takes by its files: each way that the work can come out, with what it takes for it.
-use Rattle.std.proofs.Common.{◌≡◌, ◌∙◌, ◌⊎◌, ◌<◌, ◌≤◌, ℕ, List, [], ◌∷◌, length, Option, Some, None, IfSome, Result, Ok, Err, Bool, true, false, refl, sym, ap, subst, inl, inr, arith, ltb, leb, lit<}
+use Rattle.std.proofs.Common.{◌≡◌, ◌∙◌, ◌<◌, ℕ, List, [], ◌∷◌, length, Option, Some, None, IfSome, Result, Ok, Err, Bool, true, false, refl, sym, ap, subst, inl, inr, arith}
 use Rattle.std.specs.Prelude.{nat_le, Contains, if◌then◌else◌}
 use Rattle.std.specs.FinMap.{get}
 use Rattle.std.proofs.lemmas.Bool.Decides.{nat_tests}
@@ -9,14 +9,14 @@ use Rattle.adv_draws.specs.Listed.{listed_draws}
 use Rattle.adv_draws.specs.Seeded.{seeded_draws}
 use Rattle.scott_types.specs.Database.{Database}
 use Rattle.scott_format.specs.Faults.{Fault, told, negative_action}
-use Rattle.scott_format.specs.File.{DatText, DatFault}
+use Rattle.scott_format.specs.File.{DatText}
 use Rattle.scott_format.specs.Laws.{TextOrFault}
 use Rattle.scott_tool.specs.Request.{Chance, listed, seeded, Request, check, play}
-use Rattle.scott_tool.specs.Cause.{Cause, unread, unfit, no_database, file_limit, status_of}
-use Rattle.scott_tool.specs.Work.{◌>>=◌, game_of, names_of, loads, within_limit, loaded, draws_in, drawn, Reads, IsContent, database, Task, reporting, playing, work, due_status}
+use Rattle.scott_tool.specs.Cause.{Cause, unread, unfit, no_database, file_limit}
+use Rattle.scott_tool.specs.Work.{◌>>=◌, game_of, names_of, loads, within_limit, loaded, draws_in, drawn, Reads, IsContent, Task, reporting, playing, work, due_status}
 use Rattle.scott_tool.specs.declared.complaints.Complaint.TheVariants.{TooLong, NoDraw}
-use Rattle.scott_tool.specs.Answer.{Has, IsTooLong, IsLoadable, IsGame, HasDraws, IsAccepted, DrawsAre, GameHasFault, DrawsHaveFault, OneLoaded}
-use Rattle.scott_tool.proofs.Working.{check-stopped, check-loaded, play-stopped, play-loaded, report_of, played_by}
+use Rattle.scott_tool.specs.Answer.{Has, IsTooLong, IsLoadable, HasDraws, IsAccepted, DrawsAre}
+use Rattle.scott_tool.proofs.Working.{check-stopped, check-loaded, play-stopped, play-loaded, played_by}
 
 -- ---- one file
 

@@ -5,8 +5,8 @@ use Rattle.adv_io.specs.History.{says, grown, GrewByPart}
 use Rattle.adv_io.specs.Shelf.{Files}
 use Rattle.scott_types.specs.Database.{Database}
 use Rattle.adv_check.specs.Report.{report_text}
-use Rattle.scott_tool.specs.Request.{Request, check, play}
-use Rattle.scott_tool.specs.Work.{Task, reporting, playing, events_of, ComesTo}
+use Rattle.scott_tool.specs.Request.{Request, check}
+use Rattle.scott_tool.specs.Work.{reporting, playing, events_of, ComesTo}
 use Rattle.scott_tool.specs.Ending.{Heard, Concludes, EndsDone, Ends, stopped, worked}
 
 -- what was said, and the status behind it

@@ -1,5 +1,5 @@
 -- What follows for the status and the history from how a command ends.
-use Rattle.std.proofs.Common.{◌≡◌, ◌∙◌, ◌⊎◌, ℕ, List, Option, Some, None, IfSome, Result, Ok, Err, refl, sym, ap, subst, inl, inr, arith}
+use Rattle.std.proofs.Common.{◌≡◌, ◌∙◌, ℕ, List, Option, Some, None, IfSome, Result, Ok, sym, ap, subst, inl, inr, arith}
 use Rattle.std.specs.Prelude.{Contains}
 use Rattle.adv_io.specs.declared.events.Event.{Event}
 use Rattle.adv_io.specs.History.{says, grown}
@@ -7,10 +7,9 @@ use Rattle.adv_io.specs.Shelf.{Files}
 use Rattle.scott_types.specs.Database.{Database}
 use Rattle.scott_format.specs.Faults.{Fault}
 use Rattle.scott_format.specs.Laws.{TextOrFault}
-use Rattle.scott_tool.specs.declared.complaints.Complaint.TheVariants.{TooLong, NoDatabase, NoDraw}
-use Rattle.scott_tool.specs.Request.{Chance, listed, Request, check, play}
+use Rattle.scott_tool.specs.Request.{Request, check, play}
 use Rattle.scott_tool.specs.Cause.{Cause, no_request, unread, unfit, line_of, status_of}
-use Rattle.scott_tool.specs.Work.{game_of, loads, Task, reporting, playing, events_of, Reads, IsContent, work, ComesTo, due_status, due_events}
+use Rattle.scott_tool.specs.Work.{Task, reporting, playing, events_of, Reads, IsContent, work, ComesTo, due_status, due_events}
 use Rattle.scott_tool.specs.Stopping.{StopsRequest}
 use Rattle.scott_tool.specs.Ending.{Heard, Concludes, EndsFor, EndsDone, Ends, stopped, worked}
 use Rattle.scott_tool.specs.Answer.{statuses, IsTooLong, OneLoaded, GameHasFault, DrawsHaveFault, IsAccepted, StandsFor, HasDueStatus, HasDueHistory, IsShown}

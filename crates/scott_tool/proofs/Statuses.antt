@@ -1,5 +1,5 @@
 -- The numbers of the statuses.
-use Rattle.std.proofs.Common.{◌≡◌, ◌⊎◌, ℕ, List, Option, Some, None, refl, arith, lit<, inl, inr, subst, sym}
+use Rattle.std.proofs.Common.{◌≡◌, ℕ, List, refl, arith, lit<}
 use Rattle.std.specs.Prelude.{Contains}
 use Rattle.scott_tool.specs.declared.complaints.Complaint.TheVariants.{TooLong, NoDatabase, NoDraw}
 use Rattle.scott_tool.specs.Cause.{Cause, no_request, unread, unfit, status_of}
@@ -27,31 +27,3 @@ status-0 (unread name) e = omega arith
 status-0 (unfit name TooLong) e = omega arith
 status-0 (unfit name (NoDatabase fault)) e = omega arith
 status-0 (unfit name (NoDraw at)) e = omega arith
-
-pub status-1 : (cause : Cause) → status_of cause ≡ 1 → cause ≡ no_request
-status-1 no_request e = refl
-status-1 (unread name) e = absurd (omega arith)
-status-1 (unfit name TooLong) e = absurd (omega arith)
-status-1 (unfit name (NoDatabase fault)) e = absurd (omega arith)
-status-1 (unfit name (NoDraw at)) e = absurd (omega arith)
-
-pub status-2 : (cause : Cause) → status_of cause ≡ 2 → (name : List ℕ) × (cause ≡ unread name)
-status-2 no_request e = absurd (omega arith)
-status-2 (unread name) e = (name, refl)
-status-2 (unfit name TooLong) e = absurd (omega arith)
-status-2 (unfit name (NoDatabase fault)) e = absurd (omega arith)
-status-2 (unfit name (NoDraw at)) e = absurd (omega arith)
-
-pub status-3 : (cause : Cause) → status_of cause ≡ 3 → ⊥
-status-3 no_request e = omega arith
-status-3 (unread name) e = omega arith
-status-3 (unfit name TooLong) e = omega arith
-status-3 (unfit name (NoDatabase fault)) e = omega arith
-status-3 (unfit name (NoDraw at)) e = omega arith
-
-pub status-9 : (cause : Cause) → status_of cause ≡ 9 → ⊥
-status-9 no_request e = omega arith
-status-9 (unread name) e = omega arith
-status-9 (unfit name TooLong) e = omega arith
-status-9 (unfit name (NoDatabase fault)) e = omega arith
-status-9 (unfit name (NoDraw at)) e = omega arith

@@ -1,10 +1,10 @@
 -- How the steps of a command come to its work, or to the cause for which it stops.
-use Rattle.std.proofs.Common.{◌≡◌, ◌∙◌, ◌⊎◌, ℕ, List, [], ◌∷◌, length, Option, Some, None, IfSome, Result, Ok, Err, Bool, true, false, refl, sym, ap, subst, inl, inr, rules, arith}
-use Rattle.std.specs.Prelude.{nat_le, ◌+◌, ◌-◌, ◌^◌, ◌≤◌, Contains, ⊤, if◌then◌else◌}
+use Rattle.std.proofs.Common.{◌≡◌, ◌∙◌, ℕ, List, [], ◌∷◌, length, Option, Some, None, IfSome, Result, Ok, Err, Bool, true, false, refl, ap, subst, inl, inr, arith}
+use Rattle.std.specs.Prelude.{nat_le, ◌≤◌, Contains, ⊤, if◌then◌else◌}
 use Rattle.std.specs.Result.{IsOkAnd}
 use Rattle.std.specs.FinMap.{get}
-use Rattle.std.proofs.lemmas.List.Elements.{Contains-append_left, Contains-append_right}
-use Rattle.adv_io.specs.Shelf.{Files, Lacks}
+use Rattle.std.proofs.lemmas.List.Elements.{Contains-append_right}
+use Rattle.adv_io.specs.Shelf.{Files}
 use Rattle.adv_io.specs.Faults.{Rose}
 use Rattle.scott_types.specs.Database.{Database}
 use Rattle.scott_format.specs.Faults.{Fault}

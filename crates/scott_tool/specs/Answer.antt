@@ -1,9 +1,8 @@
 -- What the program promises of its status, and of the history that the console tells.
-use Rattle.std.specs.Prelude.{◌≡◌, ◌⊎◌, ◌<◌, ◌≤◌, ℕ, List, [], ◌∷◌, length, Option, Some, None, IfSome, IsSomeAnd, Contains, Result, Ok, Err}
+use Rattle.std.specs.Prelude.{◌≡◌, ◌⊎◌, ◌<◌, ◌≤◌, ℕ, List, [], ◌∷◌, length, Option, Some, None, Contains, Result, Ok, Err}
 use Rattle.std.specs.FinMap.{get}
-use Rattle.adv_io.specs.declared.events.Event.{Event}
 use Rattle.adv_io.specs.History.{says, grown, shown}
-use Rattle.adv_io.specs.Shelf.{Files, Lacks}
+use Rattle.adv_io.specs.Shelf.{Files}
 use Rattle.adv_draws.specs.Listed.{listed_draws}
 use Rattle.adv_draws.specs.Seeded.{seeded_draws}
 use Rattle.adv_check.specs.Report.{report_text}
@@ -14,7 +13,7 @@ use Rattle.scott_rules.specs.Told.{trace}
 use Rattle.scott_rules.specs.Play as rules
 use Rattle.scott_tool.specs.Request.{Chance, listed, seeded, Request, check, play}
 use Rattle.scott_tool.specs.Cause.{unread, line_of, file_limit}
-use Rattle.scott_tool.specs.Work.{game_of, names_of, loads, work, IsContent, due_status, due_events}
+use Rattle.scott_tool.specs.Work.{game_of, loads, work, IsContent, due_status, due_events}
 use Rattle.scott_tool.specs.Ending.{Heard, Concludes}
 
 -- 0: done. 1: no request. 2: a file can't be read. 3: the console failed. 4: no database. 5: no draws. 9: want of memory. 11: a file is too long.

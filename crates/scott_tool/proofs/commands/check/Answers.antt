@@ -1,4 +1,3 @@
-use Rattle.std.proofs.Common.{rules}
 use Rattle.scott_tool.specs.Stopping.{cause_of}
 use Rattle.scott_tool.specs.Ending.{stopped}
 use Rattle.scott_tool.proofs.Endings.{check-ends}

@@ -1,4 +1,3 @@
-use Rattle.std.proofs.Common.{rules}
 use Rattle.std.proofs.lemmas.Result.{err_from_is_err_and}
 use Rattle.scott_tool.specs.Request.{chance_of}
 use Rattle.scott_tool.specs.Stopping.{cause_of}
