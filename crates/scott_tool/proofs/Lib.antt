@@ -1,0 +1,7 @@
+mod Numbers
+mod Contents
+mod Working
+mod Endings
+mod Statuses
+mod Courses
+mod Promises

@@ -1,0 +1,6 @@
+pub mod Request
+pub mod Cause
+pub mod Work
+pub mod Stopping
+pub mod Ending
+pub mod Answer
