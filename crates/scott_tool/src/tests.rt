@@ -3,8 +3,12 @@
 mod games;
 
 use crate::program::scott;
+use adv_draws::Draws;
 use adv_io::{Line, MemoryConsole, MemoryShelf, Shelf};
 use games::{Game, T};
+use scott_format::read_db;
+use scott_turn::Session;
+use scott_types::{Ending, Position};
 use std::alloc::Global;
 use std::process::Abort;
 use std::test::Fail;
@@ -489,5 +493,32 @@ fn shelves_fail(rt: HostRuntime) -> Result<(), Fail> {
         ..given
     };
     expect_answer(&rt, given, "play t.dat draws=d.txt", 0, &[HALL, ASK])?;
+    Ok(())
+}
+
+// A session that is handed its lines says what a play of them says, and takes none from its console.
+#[test]
+fn lines_are_handed_in(rt: HostRuntime) -> Result<(), Fail> {
+    let alloc = rt.alloc();
+    let text = T.text(alloc)?;
+    assert!(rt; text.len() < 1000);
+    let db = read_db(alloc, text.as_bytes()).ok().ok_or("no database")?;
+    let Ok(mut session) = Session::open(alloc, &db) else {
+        return Err(Fail::from("no session"));
+    };
+    let mut draws = Draws::seeded(1);
+    let mut console = console_of(alloc, NOTHING)?;
+    let Ok(first) = session.hear(&mut draws, None, &mut console) else {
+        return Err(Fail::from("the console failed"));
+    };
+    assert_eq!(rt; first, Ending::NeedsLine);
+    assert_eq!(rt; console.said().len(), 79);
+    let line = Line::of(b"GO NORTH");
+    let second = session.hear(&mut draws, Some(&line), &mut console);
+    assert_eq!(rt; second, Ok(Ending::NeedsLine));
+    assert_eq!(rt; console.said().len(), 142);
+    assert_eq!(rt; session.state().room, 2);
+    assert_eq!(rt; session.position(), Position::Line);
+    assert_eq!(rt; draws.taken(), 0);
     Ok(())
 }
