@@ -3,3 +3,4 @@ pub mod Histories
 pub mod Recordings
 pub mod Files
 pub mod Sayings
+pub mod Gatherings

@@ -67,14 +67,14 @@ text_then_part (Err e) old mid new a b first part = part_on old mid new a b firs
 
 module _ {X : Type 0} (text : X → List ℕ) where
   -- all texts are those so far and those to come
-  flat_map-split : (xs : List X) (i : ℕ) (d : X) → i < length xs → flat_map text xs ≡ flat_map text (take i xs) ++ (text (get_or xs i d) ++ flat_map text (drop (suc i) xs))
+  pub flat_map-split : (xs : List X) (i : ℕ) (d : X) → i < length xs → flat_map text xs ≡ flat_map text (take i xs) ++ (text (get_or xs i d) ++ flat_map text (drop (suc i) xs))
   flat_map-split [] i d within = absurd (omega arith)
   flat_map-split (x ∷ xs) zero d within = refl
   flat_map-split (x ∷ xs) (suc i) d within =
       ap (λ bytes. text x ++ bytes) (flat_map-split xs i d (omega arith))
       ∙ sym (append_assoc (text x) (flat_map text (take i xs)) (text (get_or xs i d) ++ flat_map text (drop (suc i) xs)))
 
-  flat_map-next : (xs : List X) (i : ℕ) (d : X) → i < length xs → flat_map text (take (suc i) xs) ≡ flat_map text (take i xs) ++ text (get_or xs i d)
+  pub flat_map-next : (xs : List X) (i : ℕ) (d : X) → i < length xs → flat_map text (take (suc i) xs) ≡ flat_map text (take i xs) ++ text (get_or xs i d)
   flat_map-next [] i d within = absurd (omega arith)
   flat_map-next (x ∷ xs) zero d within = append-nil (text x)
   flat_map-next (x ∷ xs) (suc i) d within =

@@ -1,9 +1,9 @@
 -- What a console answers, by the lines that it tells.
-use Rattle.std.specs.Prelude.{◌≡◌, ℕ, ◌<◌, ◌≤◌, List, [], ◌∷◌, Option, Some, None, Result, Ok, Err, OnOk, OnErr}
+use Rattle.std.specs.Prelude.{◌≡◌, ℕ, ◌<◌, ◌≤◌, List, [], ◌∷◌, ◌++◌, Option, Some, None, Result, Ok, Err, OnOk, OnErr}
 use Rattle.std.specs.List.{flat_map}
 use denote.Ref.{Bor}
 use Rattle.adv_io.specs.Faults.{HasCause}
-use Rattle.adv_io.specs.History.{grown, GrewByPart}
+use Rattle.adv_io.specs.History.{says, grown, GrewByPart}
 use Rattle.adv_io.specs.declared.events.Event.{Event}
 use Rattle.adv_io.specs.declared.events.Event.TheVariants.{Take}
 use Rattle.adv_io.specs.declared.faults.ConsoleFault.{ConsoleFault}
@@ -47,3 +47,12 @@ pub record Speaks {C T E : Type 0} (history : C → Option (List Event)) (left :
 -- texts one behind the other
 abbrev pub joined : List (Bor (List ℕ)) → List ℕ
 joined pieces = flat_map (λ piece. piece.now) pieces
+
+-- What a call promises that gathers bytes and says some: what was said and what is gathered now are what was gathered before, and the
+-- bytes that were added. After a failure a front of them was said.
+pub record Gathers {C T E : Type 0} (history : C → Option (List Event)) (left : C → Option (List (List ℕ))) (bound faults : C → ℕ) (old new : C) (result : Result T E) (before after added : List ℕ) : Type 0 where
+  pub said : OnOk result ((done : List ℕ) × (history new ≡ grown (history old) (says done)) × (done ++ after ≡ before ++ added))
+  pub part : OnErr result (GrewByPart (history old) (history new) (says (before ++ added)))
+  pub lines_stay : left new ≡ left old
+  pub bounded : bound new ≤ bound old
+  pub cause : HasCause (faults old) (faults new) result

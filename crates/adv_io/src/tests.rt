@@ -97,7 +97,7 @@ fn a_script_gives_its_lines(rt: HostRuntime) {
 #[test]
 fn pieces_are_said_in_order(rt: HostRuntime) -> Result<(), Fail> {
     let alloc = rt.alloc();
-    let mut console = MemoryConsole::new(alloc, Vec::new(alloc), vec![in alloc; 4]?, 10)?;
+    let mut console = MemoryConsole::new(alloc, Vec::new(alloc), vec![in alloc; 2]?, 10)?;
     assert_eq!(rt; say_all(&mut console, &[]), Ok(()));
     assert_eq!(rt; say_all(&mut console, &[b"a", b"", b"bc"]), Ok(()));
     assert_eq!(rt; say_all(&mut console, &[b"d"]), Err(ConsoleFault::Failed));
@@ -107,6 +107,44 @@ fn pieces_are_said_in_order(rt: HostRuntime) -> Result<(), Fail> {
     );
     assert_eq!(rt; console.said(), b"abcefghijk".as_slice());
     Ok(())
+}
+
+// Says pieces, of which the calls are as many as told, and then fails.
+fn expect_calls(
+    rt: &impl Abort,
+    alloc: Global,
+    pieces: &[&[u8]],
+    calls: u64,
+    size: usize,
+) -> Result<(), Fail> {
+    let failing = vec![in alloc; calls + 1]?;
+    let mut console = MemoryConsole::new(alloc, Vec::new(alloc), failing, 10_000)?;
+    assert_eq!(rt; say_all(&mut console, pieces), Ok(()));
+    assert_eq!(rt; console.said().len(), size);
+    assert_eq!(rt; say_all(&mut console, &[b"."]), Err(ConsoleFault::Failed));
+    Ok(())
+}
+
+#[test]
+fn pieces_are_said_in_as_few_calls_as_may_be(rt: HostRuntime) -> Result<(), Fail> {
+    let alloc = rt.alloc();
+    let x = [b'x'; 5000];
+    expect_calls(&rt, alloc, &[b"", b""], 0, 0)?;
+    expect_calls(
+        &rt,
+        alloc,
+        &[x.get(..4000).unwrap_or(b""), x.get(..96).unwrap_or(b"")],
+        1,
+        4096,
+    )?;
+    expect_calls(
+        &rt,
+        alloc,
+        &[x.get(..4000).unwrap_or(b""), x.get(..97).unwrap_or(b"")],
+        2,
+        4097,
+    )?;
+    expect_calls(&rt, alloc, &[b"a", x.as_slice(), b"b", b"c"], 3, 5003)
 }
 
 // Loads a file, and expects its bytes or a fault.

@@ -5,3 +5,4 @@ pub mod Written
 pub mod Giving
 pub mod Places
 pub mod Answered
+pub mod Pieces

@@ -1,5 +1,5 @@
 -- Reading from left to right, with the first fault that is met.
-use Rattle.std.specs.Prelude.{ℕ, ◌≡◌, ◌+◌, ◌-◌, ◌*◌, ◌≤◌, ◌⊎◌, ◌==◌, nat_le, nat_lt, Bool, true, false, if◌then◌else◌, List, [], ◌∷◌, ◌++◌, length, ℤ, Result, Ok, Err}
+use Rattle.std.specs.Prelude.{ℕ, ◌≡◌, ◌+◌, ◌-◌, ◌*◌, ◌≤◌, ◌<◌, ◌⊎◌, ◌==◌, nat_le, nat_lt, Bool, true, false, not, ◌&&◌, if◌then◌else◌, Option, Some, None, drop, List, [], ◌∷◌, ◌++◌, length, ℤ, Result, Ok, Err}
 use Rattle.std.specs.Global.{Vec}
 use Rattle.std.specs.Char.{is_ascii_digit}
 use Rattle.adv_text.specs.Spelling.{is_blank, signed, greatest}
@@ -127,11 +127,23 @@ IsText (Err fault) text = fault ≡ answer.Memory
 abbrev pub IsErrOrMemory : Result (Vec ℕ) TextFault → TextFault → Type 0
 IsErrOrMemory r fault = (r ≡ Err fault) ⊎ (r ≡ Err answer.Memory)
 
--- the string that was opened at this place has 4,096 bytes already, unless memory ran out
-abbrev pub IsLong : TextFault → ℕ → List ℕ → Type 0
-IsLong (answer.NoNumber at) opened kept = ⊥
-IsLong (answer.BigNumber at) opened kept = ⊥
-IsLong (answer.NoQuote at) opened kept = ⊥
-IsLong (answer.OpenString at) opened kept = ⊥
-IsLong (answer.LongString at) opened kept = (at ≡ opened) × (4096 ≤ length kept)
-IsLong answer.Memory opened kept = Unit {0}
+-- more bytes of the string that was opened at this place make it longer than 4,096, unless memory ran out
+abbrev pub IsLong : TextFault → ℕ → ℕ → Type 0
+IsLong (answer.NoNumber at) opened size = ⊥
+IsLong (answer.BigNumber at) opened size = ⊥
+IsLong (answer.NoQuote at) opened size = ⊥
+IsLong (answer.OpenString at) opened size = ⊥
+IsLong (answer.LongString at) opened size = (at ≡ opened) × (4096 < size)
+IsLong answer.Memory opened size = Unit {0}
+
+-- a byte of a string that is kept as it is
+abbrev pub is_plain : ℕ → Bool
+is_plain b = not (b == 34) && (not (b == 13) && not (b == 96))
+
+-- From any place: a piece of a string takes bytes, and what was kept by then goes on behind it; or the string ends here, or the file.
+abbrev pub GoesOn : ℕ → Bool → List ℕ → List ℕ → List ℕ → Option (ℕ × Bool) → Type 0
+GoesOn opened held kept rest more None =
+    (more ≡ kept) × ((at : ℕ) → inside_at opened held kept at rest ≡ (if held then Ok (kept, spot at rest) else Err (open_string opened)))
+GoesOn opened held kept rest more (Some piece) =
+    (1 ≤ piece.0) × (piece.0 ≤ length rest)
+    × ((at : ℕ) → inside_at opened held kept at rest ≡ inside_at opened piece.1 more (at + piece.0) (drop piece.0 rest))

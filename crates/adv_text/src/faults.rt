@@ -28,3 +28,14 @@ impl<T: Drop> From<AllocFailed<T>> for TextFault {
         TextFault::Memory
     }
 }
+
+impl From<AllocError> for TextFault {
+    ghost use Rattle.std.specs.Prelude.{◌≡◌};
+    ghost use Rattle.adv_text.specs.declared.faults.TextFault.TheVariants.{Memory};
+
+    ghost from_gives = { λ _ fault. fault ≡ Memory };
+
+    fn from(_fault: AllocError) -> TextFault {
+        TextFault::Memory
+    }
+}

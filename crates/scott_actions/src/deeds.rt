@@ -4,7 +4,8 @@ ghost use Rattle.adv_io.specs.History.{says};
 ghost use Rattle.adv_io.specs.Console.{Speaks};
 ghost use Rattle.scott_types.specs.declared.opcodes.Opcode.TheVariants.{Get};
 ghost use Rattle.scott_types.specs.State.{Fits};
-ghost use Rattle.scott_rules.specs.Opcodes.{changed, ending, deed, takes};
+ghost use Rattle.scott_rules.specs.Opcodes.{is_full, changed, told, ending, deed, takes};
+ghost use Rattle.scott_types.specs.declared.states.State.{State as Standing};
 
 use crate::counters::change_counter;
 use crate::flags::change_flag;
@@ -72,6 +73,30 @@ fn ending(db: &Db, state: &State, opcode: Opcode) -> Option<u8>
     }
 }
 
+// Whether the hands are full, where that matters to what an opcode says: they are counted for a get alone.
+fn are_hands_full(db: &Db, state: &State, opcode: Opcode) -> bool
+    ensures { (noun : List ℕ) (after : Standing) → told db.now noun opcode result after
+        ≡ told db.now noun opcode (is_full db.now state.now) after }
+{
+    match opcode {
+        Opcode::Get => is_full(db, state),
+        Opcode::Nothing
+        | Opcode::Say(_)
+        | Opcode::Items(_)
+        | Opcode::Rooms(_)
+        | Opcode::Flags(_)
+        | Opcode::Counters(_)
+        | Opcode::Talk(_)
+        | Opcode::Refill
+        | Opcode::Score
+        | Opcode::Die
+        | Opcode::Finish
+        | Opcode::Screen
+        | Opcode::Picture
+        | Opcode::More => false,
+    }
+}
+
 /// Does an opcode with its two parameters, and tells how it ended the game, if it did.
 ///
 /// The console's fault alone is a refusal. docs/TURN.md has the table.
@@ -91,7 +116,7 @@ pub fn obey<C: Console>(
     ensures over { IfOk result (λ over. over ≡ (deed db.now noun.now opcode p q state.old).value.over) }
     ensures fits { Fits db.now state.new }
 {
-    let full = is_full(db, state);
+    let full = are_hands_full(db, state, opcode);
     change_fitting(db, state, opcode, p, q);
     match tell(db, state, noun, opcode, full, console) {
         Ok(()) => Ok(ending(db, state, opcode)),

@@ -9,27 +9,36 @@ ghost use Rattle.scott_types.specs.State.{Fits};
 ghost use Rattle.scott_rules.specs.Opcodes.{said_message, talk, told};
 ghost use Rattle.scott_rules.specs.Looking.{looked, scored};
 
-use adv_io::{Console, ConsoleFault};
+use adv_io::{Console, ConsoleFault, say_all};
 use itoa::Buffer;
 use scott_light::{Page, add_look, inventory, look, score};
 use scott_types::{Db, Opcode, Phrase, State, TalkOp};
+
+// Says two texts, one behind the other.
+fn say_both<'a, C: Console>(
+    first: &'a [u8],
+    second: &'a [u8],
+    console: &mut C,
+) -> Result<(), ConsoleFault>
+    ensures { Speaks C.history C.left C.bound C.faults console.old console.new result
+        (says (first.now ++ second.now)) }
+{
+    say_all(console, &[first, second])
+}
 
 // Says a text and the end of its line.
 fn say_line<C: Console>(text: &[u8], console: &mut C) -> Result<(), ConsoleFault>
     ensures { Speaks C.history C.left C.bound C.faults console.old console.new result
         (says (text.now ++ text_of Newline)) }
 {
-    let mut page = Page::new();
-    page.add(text);
-    page.add(Phrase::Newline.text());
-    page.say(console)
+    say_both(text, Phrase::Newline.text(), console)
 }
 
 // Says nothing.
 fn say_nothing<C: Console>(console: &mut C) -> Result<(), ConsoleFault>
     ensures { Speaks C.history C.left C.bound C.faults console.old console.new result (says []) }
 {
-    Page::new().say(console)
+    say_all(console, &[])
 }
 
 // Says a message, or nothing where it isn't there.

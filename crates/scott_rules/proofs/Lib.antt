@@ -7,3 +7,4 @@ pub mod FittingStates
 pub mod FittingLines
 pub mod FittingCommands
 pub mod Fitting
+pub mod Endings

@@ -18,7 +18,7 @@ use Rattle.scott_rules.specs.Lines.{LineOutcome, line_done}
 use Rattle.scott_rules.specs.Light.{light_counted}
 use Rattle.scott_rules.specs.Opcodes.{changed}
 use Rattle.scott_rules.specs.Transfer.{transferred}
-use Rattle.scott_rules.specs.Rounds.{walked}
+use Rattle.scott_rules.specs.Rounds.{walked, advance, answer}
 use Rattle.scott_rules.specs.Play.{Stop, go}
 
 -- ---- words
@@ -123,3 +123,28 @@ abbrev pub EndingStays : Type 0
 EndingStays = (db : Database) (position : Position) (s : State) (lines more : List (List ℕ)) (draws further : List ℕ) (ending : ℕ)
     → (go db position s lines draws).value.position ≡ Over ending
     → go db position s (lines ++ more) (draws ++ further) ≡ with_more more further (go db position s lines draws)
+
+-- ---- endings
+
+-- the endings that there are: 1 by an opcode, 2 by a fall in the dark, 3 by a full score
+abbrev pub IsEnding : ℕ → Type 0
+IsEnding ending = (1 ≤ ending) × (ending ≤ 3)
+
+-- where a game is over, it ended with one of these
+abbrev pub EndsWell : Position → Type 0
+EndsWell (Over ending) = IsEnding ending
+EndsWell _ = Unit
+
+-- what comes up to the prompt ends a game with 1, 2 or 3
+abbrev pub AdvanceEndsWell : Type 0
+AdvanceEndsWell = (db : Database) (position : Position) (s : State) (draws : List ℕ)
+    → EndsWell position → EndsWell (advance db position s draws).value.position
+
+-- the answer to a line ends a game with 1, 2 or 3
+abbrev pub AnswerEndsWell : Type 0
+AnswerEndsWell = (db : Database) (line : List ℕ) (s : State) → EndsWell (answer db line s).value.position
+
+-- a play ends a game with 1, 2 or 3
+abbrev pub EndingsAreThree : Type 0
+EndingsAreThree = (db : Database) (position : Position) (s : State) (lines : List (List ℕ)) (draws : List ℕ)
+    → EndsWell position → EndsWell (go db position s lines draws).value.position

@@ -1,5 +1,5 @@
 //! The laws of the rules. Each is the contract of a function that does nothing.
-ghost use Rattle.scott_rules.specs.Laws.{WordNamesLeastMatch, FailedLineDoesNothing, PlaySplits, PlaySpends, LightFits, OpcodeFits, LineFits, TransferFits, WalkFits, PlayFits, PlayStops, EndingStays};
+ghost use Rattle.scott_rules.specs.Laws.{WordNamesLeastMatch, FailedLineDoesNothing, PlaySplits, PlaySpends, LightFits, OpcodeFits, LineFits, TransferFits, WalkFits, PlayFits, PlayStops, EndingStays, AdvanceEndsWell, AnswerEndsWell, EndingsAreThree};
 
 /// A word names the plain entry of the least entry that matches it, which is the nearest plain entry
 /// at or before it; and no entry where none matches.
@@ -61,4 +61,20 @@ pub fn play_stops()
 /// A game that is over stays over, and more lines and draws are left untouched.
 pub fn ending_stays()
     ensures { EndingStays }
+{}
+
+/// What comes up to the prompt ends a game with 1, 2 or 3, or not at all.
+pub fn advance_ends_well()
+    ensures { AdvanceEndsWell }
+{}
+
+/// The answer to a line ends a game with 1, 2 or 3, or not at all.
+pub fn answer_ends_well()
+    ensures { AnswerEndsWell }
+{}
+
+/// A play ends a game with 1 by an opcode, 2 by a fall in the dark or 3 by a full score, and with no
+/// other number.
+pub fn endings_are_three()
+    ensures { EndingsAreThree }
 {}

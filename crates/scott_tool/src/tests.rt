@@ -8,3 +8,4 @@ mod trying;
 // The tests.
 mod plays;
 mod refusals;
+mod sessions;

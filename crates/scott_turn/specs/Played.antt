@@ -7,9 +7,11 @@ use Rattle.adv_io.specs.declared.faults.ConsoleFault.{ConsoleFault}
 use Rattle.scott_types.specs.declared.states.State.{State}
 use Rattle.scott_types.specs.declared.endings.Position.{Position}
 use Rattle.scott_types.specs.declared.endings.Ending.{Ending}
+use Rattle.scott_types.specs.declared.endings.Ending.TheVariants.{Over}
 use Rattle.scott_types.specs.Database.{Database}
 use Rattle.scott_rules.specs.Told.{Told, Step, after, trace}
 use Rattle.scott_rules.specs.Play.{Stop, go, ending_of}
+use Rattle.scott_rules.specs.Laws.{IsEnding}
 
 -- the game, where its play stands, and whether a failure of the console broke it
 pub record Sitting : Type 0 where
@@ -25,6 +27,11 @@ pub record Leaves (t : Told Step Stop) (new : Sitting) (before now : Supply) (wh
   pub draws : now.left ≡ t.value.draws
   pub taken : now.taken ≡ before.taken + length (draws_taken (trace t.events))
   pub ending : why ≡ ending_of t.value.position
+
+-- a game that is over ended with 1 by an opcode, 2 by a fall in the dark or 3 by a full score
+abbrev pub EndingIsKnown : Ending → Type 0
+EndingIsKnown (Over ending) = IsEnding ending
+EndingIsKnown _ = Unit
 
 -- a play on a console that tells its lines: what it shows is what the rules give, and a failure shows a front of that
 pub record Plays {C : Type 0} (history : C → Option (List Event)) (left : C → Option (List (List ℕ))) (old_console new_console : C) (result : Result Ending ConsoleFault) (t : Told Step Stop) (new : Sitting) (before now : Supply) : Type 0 where

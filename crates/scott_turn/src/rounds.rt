@@ -3,12 +3,14 @@ ghost use Rattle.std.specs.Prelude.{◌≡◌, ◌+◌, ◌<◌, ◌≤◌, fals
 ghost use Rattle.adv_io.specs.Faults.{HasCause};
 ghost use Rattle.scott_types.specs.State.{Fits};
 ghost use Rattle.scott_rules.specs.Play.{go};
+ghost use Rattle.scott_rules.specs.Laws.{EndsWell};
 ghost use Rattle.scott_turn.specs.Rounds.{is_prompt, AnswersNext, GoesRound, PlaysOut};
 
 use crate::advancing::advance;
 use crate::answering::answer;
 use adv_draws::Draws;
 use adv_io::{Console, ConsoleFault, Line, Taken};
+use scott_rules::laws::{advance_ends_well, answer_ends_well};
 use scott_types::{Db, Position, State};
 
 /// Where a round left the play, and whether it stopped there.
@@ -42,7 +44,9 @@ fn answer_next<C: Console>(
     ensures bounded { C.bound console.new ≤ C.bound console.old }
     ensures cause { HasCause (C.faults console.old) (C.faults console.new) result }
     ensures fits { Fits db.now state.new }
+    ensures ends { IfOk result (λ answered. IfSome answered EndsWell) }
 {
+    answer_ends_well();
     match console.take(line) {
         Ok(Taken::End) => Ok(None),
         Ok(Taken::Got) => match answer(db, state, line, console) {
@@ -62,7 +66,8 @@ fn go_round<C: Console>(
     line: &mut Line,
     console: &mut C,
 ) -> Result<Round, ConsoleFault>
-    requires { Fits db.now state.old }
+    requires fits { Fits db.now state.old }
+    requires ends { EndsWell position }
     ensures told { IfSome (C.left console.old) (λ lines.
         GoesRound C.history C.left console.old console.new result (go db.now position state.old lines draws.old.left)
         db.now state.new draws.new.left) }
@@ -71,7 +76,9 @@ fn go_round<C: Console>(
     ensures cause { HasCause (C.faults console.old) (C.faults console.new) result }
     ensures taken { draws.new.taken + length draws.new.left ≡ draws.old.taken + length draws.old.left }
     ensures fits { Fits db.now state.new }
+    ensures ends { IfOk result (λ round. EndsWell round.position) }
 {
+    advance_ends_well();
     let reached = advance(db, state, position, draws, console)?;
     if !is_prompt(reached) {
         return Ok(Round {
@@ -103,7 +110,8 @@ pub fn play_on<C: Console>(
     draws: &mut Draws,
     console: &mut C,
 ) -> Result<Position, ConsoleFault>
-    requires { Fits db.now state.old }
+    requires fits { Fits db.now state.old }
+    requires ends { EndsWell position }
     ensures told { IfSome (C.left console.old) (λ lines.
         PlaysOut C.history C.left console.old console.new result (go db.now position state.old lines draws.old.left)
         state.new draws.new.left) }
@@ -111,6 +119,7 @@ pub fn play_on<C: Console>(
     ensures cause { HasCause (C.faults console.old) (C.faults console.new) result }
     ensures taken { draws.new.taken + length draws.new.left ≡ draws.old.taken + length draws.old.left }
     ensures fits { Fits db.now state.new }
+    ensures ends { IfOk result EndsWell }
 {
     let mut line = Line::of(&[]);
     let mut position = position;

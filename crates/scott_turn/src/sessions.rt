@@ -6,13 +6,13 @@ ghost use Rattle.scott_types.specs.State.{start};
 ghost use Rattle.scott_types.specs.declared.endings.Position.TheVariants.{Fresh};
 ghost use Rattle.scott_rules.specs.Play.{go, ending_of};
 ghost use Rattle.scott_turn.specs.Handed.{given, said};
-ghost use Rattle.scott_turn.specs.Played.{Leaves, Plays, GoesOn};
+ghost use Rattle.scott_turn.specs.Played.{Leaves, Plays, GoesOn, EndingIsKnown};
 
 use crate::hearing::hear_on;
 use crate::rounds::play_on;
 use adv_draws::Draws;
 use adv_io::{Console, ConsoleFault, Line, Memory};
-use scott_rules::laws::{play_spends, play_splits};
+use scott_rules::laws::{endings_are_three, play_spends, play_splits};
 use scott_types::{Db, Ending, Position, State};
 use std::alloc::Global;
 use std::marker::Model;
@@ -31,13 +31,14 @@ pub struct Session<'a> {
 
 impl<'a> Model for Session<'a> {
     ghost use Rattle.scott_types.specs.State.{Fits};
+    ghost use Rattle.scott_rules.specs.Laws.{EndsWell};
     ghost use Rattle.scott_turn.specs.Played.{Sitting};
 
     ghost Value = { Sitting };
 
     ghost view = { λ s. record { game = s.db.now; position = s.position; state = s.state; broken = s.broken } };
 
-    ghost invariant = { λ s. Fits s.db.now s.state };
+    ghost invariant = { λ s. Fits s.db.now s.state × EndsWell s.position };
 }
 
 // Why a play that stands at a position stopped.
@@ -88,6 +89,7 @@ impl<'a> Session<'a> {
         ensures cause { HasCause (C.faults console.old) (C.faults console.new) result }
         ensures game { self.new.game ≡ self.old.game }
         ensures breaks { IsOk result ↔ IsFalse self.new.broken }
+        ensures three { IfOk result (λ ending. EndingIsKnown ending) }
     {
         play_spends();
         play_splits();
@@ -122,8 +124,10 @@ impl<'a> Session<'a> {
             self.new draws.old draws.new ending) }
         ensures game { self.new.game ≡ self.old.game }
         ensures breaks { IsOk result ↔ IsFalse self.new.broken }
+        ensures three { IfOk result (λ ending. EndingIsKnown ending) }
     {
         play_spends();
+        endings_are_three();
         match hear_on(
             self.db,
             &mut self.state,

@@ -25,6 +25,7 @@ loop-round-preserved g c =
     let console = g.C.Console in
     record {
       fits = c.go_round.ensures.fits;
+      ends = c.in_ok-round.ensures.ends;
       taken = omega (arith, c.loop-round.invariant.taken, c.go_round.ensures.taken);
       bounded = omega (arith, c.loop-round.invariant.bounded, c.go_round.ensures.bounded);
       later = omega (arith, c.loop-round.invariant.later, c.go_round.ensures.cause.later);
@@ -37,7 +38,8 @@ pub loop-round-init : goal.loop-round-init
 loop-round-init g c =
     let console = g.C.Console in
     record {
-      fits = c.requires;
+      fits = c.requires.fits;
+      ends = c.requires.ends;
       taken = refl;
       bounded = omega arith;
       later = omega arith;

@@ -1,6 +1,7 @@
 use Rattle.std.proofs.Common.{◌≡◌, ◌+◌, ◌≤◌, length, IfSome}
 use Rattle.scott_types.specs.State.{Fits}
 use Rattle.scott_rules.specs.Play.{go}
+use Rattle.scott_rules.specs.Laws.{EndsWell}
 use Rattle.scott_turn.proofs.Playing.{Ahead}
 use Rattle.scott_turn.proofs.rounds.play_on.Given as goal
 
@@ -10,6 +11,7 @@ invariant-loop-round g l =
     let console = g.C.Console in
     record {
       fits : Fits l.db l.state;
+      ends : EndsWell l.position;
       taken : l.draws.taken + length l.draws.left ≡ l.initial.draws.taken + length l.initial.draws.left;
       bounded : console.bound l.console ≤ console.bound l.initial.console;
       later : console.faults l.initial.console ≤ console.faults l.console;

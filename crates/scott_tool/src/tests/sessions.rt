@@ -1,0 +1,37 @@
+//! Sessions that are handed their lines.
+use super::games::T;
+use super::trying::{NOTHING, console_of};
+use adv_draws::Draws;
+use adv_io::Line;
+use scott_format::read_db;
+use scott_turn::Session;
+use scott_types::{Ending, Position};
+use std::process::Abort;
+use std::test::Fail;
+
+// A session that is handed its lines says what a play of them says, and takes none from its console.
+#[test]
+fn lines_are_handed_in(rt: HostRuntime) -> Result<(), Fail> {
+    let alloc = rt.alloc();
+    let text = T.text(alloc)?;
+    assert!(rt; text.len() < 1000);
+    let db = read_db(alloc, text.as_bytes()).ok().ok_or("no database")?;
+    let Ok(mut session) = Session::open(alloc, &db) else {
+        return Err(Fail::from("no session"));
+    };
+    let mut draws = Draws::seeded(1);
+    let mut console = console_of(alloc, NOTHING)?;
+    let Ok(first) = session.hear(&mut draws, None, &mut console) else {
+        return Err(Fail::from("the console failed"));
+    };
+    assert_eq!(rt; first, Ending::NeedsLine);
+    assert_eq!(rt; console.said().len(), 79);
+    let line = Line::of(b"GO NORTH");
+    let second = session.hear(&mut draws, Some(&line), &mut console);
+    assert_eq!(rt; second, Ok(Ending::NeedsLine));
+    assert_eq!(rt; console.said().len(), 142);
+    assert_eq!(rt; session.state().room, 2);
+    assert_eq!(rt; session.position(), Position::Line);
+    assert_eq!(rt; draws.taken(), 0);
+    Ok(())
+}
