@@ -5,7 +5,7 @@ ghost use Rattle.scott_vocab.specs.Span.{IsWithin};
 ghost use Rattle.scott_vocab.specs.Heard.{IsEntry, IsThere};
 
 use crate::splitting::{split, word_at};
-use crate::vocabulary::which;
+use crate::vocabulary::{which, which_up_to};
 use adv_io::Line;
 use scott_types::{Column, Db, Heard};
 
@@ -17,6 +17,8 @@ pub const LAST_DIRECTION: u16 = 6;
 
 /// What a line means: nothing, a word that isn't known and where it stands in the line, or a verb and
 /// perhaps a noun, by the numbers of their plain entries.
+///
+/// The verbs are passed once, and the nouns once, but for those of the directions.
 ///
 /// docs/TURN.md, "A line", states the rule.
 pub fn command(db: &Db, line: &Line) -> Heard
@@ -33,7 +35,7 @@ pub fn command(db: &Db, line: &Line) -> Heard
     } else {
         typed
     };
-    if let Some(noun) = which(db, Column::Nouns, word)
+    if let Some(noun) = which_up_to(db, Column::Nouns, word, Some(LAST_DIRECTION))
         && is_direction(noun)
     {
         return Heard::Command(GO, Some(noun));

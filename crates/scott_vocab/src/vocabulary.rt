@@ -2,6 +2,7 @@
 ghost use Rattle.std.specs.Prelude.{◌≡◌, ◌+◌, ◌<◌, ◌≤◌, ◌&&◌, length, map, drop, is_some, IfSome, if◌then◌else◌};
 ghost use Rattle.scott_types.specs.ItemText.{is_starred};
 ghost use Rattle.scott_rules.specs.Words.{column_of, entry_from, is_typed, root, spelling, which};
+ghost use Rattle.scott_vocab.specs.Found.{is_behind, up_to};
 ghost use Rattle.scott_vocab.specs.Heard.{IsEntry};
 
 use crate::entries::{entry_text, spelling};
@@ -16,8 +17,22 @@ pub fn which(db: &Db, column: Column, word: &[u8]) -> Option<u16>
     ensures value { result ≡ which db.now column word.now }
     ensures there { IsEntry db.now result }
 {
+    which_up_to(db, column, word, None)
+}
+
+/// The same, but none behind the last that is asked for. No word behind that one is looked at.
+pub(crate) fn which_up_to(db: &Db, column: Column, word: &[u8], last: Option<u16>) -> Option<u16>
+    ensures value { result ≡ up_to last (which db.now column word.now) }
+    ensures there { IsEntry db.now result }
+{
     let parts = db.parts();
-    plain_entry(&parts.words, column, parts.header.length as usize, word)
+    plain_entry(
+        &parts.words,
+        column,
+        parts.header.length as usize,
+        word,
+        last,
+    )
 }
 
 /// The text of a noun's entry, with the mark of a synonym where it has one.
@@ -29,20 +44,50 @@ pub fn root(db: &Db, noun: u16) -> &[u8]
 }
 
 // The plain entry that a word names among these entries, of which there are at most 1,000.
-fn plain_entry(words: &[Word], column: Column, size: usize, word: &[u8]) -> Option<u16>
+fn plain_entry(
+    words: &[Word],
+    column: Column,
+    size: usize,
+    word: &[u8],
+    last: Option<u16>,
+) -> Option<u16>
     requires { length words.now ≤ 1000 }
-    ensures value { result ≡ entry_from size word.now None 1 (drop 1 (map (column_of column) words.now)) }
+    ensures value { result ≡ up_to last (entry_from size word.now None 1 (drop 1 (map (column_of column) words.now))) }
     ensures there { IfSome result (λ k. k < length words.now) }
 {
+    let end = place_of(last);
     let mut nearest = None;
     for k in 1..words.len() {
         let entry = entry_text(&words[k], column);
         nearest = plain_at(nearest, entry, k as u16);
+        if end < k && is_behind(nearest, last) {
+            return None;
+        }
         if names_plain(nearest, entry, size, word) {
             return nearest;
         }
     }
     None
+}
+
+// The place of the last entry that is asked for; where there is none, one behind all entries.
+fn place_of(last: Option<u16>) -> usize
+    ensures { IfSome last (λ n. result ≡ n) }
+{
+    match last {
+        Some(n) => n as usize,
+        None => usize::MAX,
+    }
+}
+
+// Whether an entry is behind the last that is asked for, where there is one.
+fn is_behind(entry: Option<u16>, last: Option<u16>) -> bool
+    ensures { result ≡ is_behind entry last }
+{
+    match (entry, last) {
+        (Some(entry), Some(last)) => last < entry,
+        _ => false,
+    }
 }
 
 // The nearest plain entry at or before entry k, where `before` is the nearest one before it.
