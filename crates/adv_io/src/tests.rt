@@ -109,15 +109,15 @@ fn pieces_are_said_in_order(rt: HostRuntime) -> Result<(), Fail> {
     Ok(())
 }
 
-// Says pieces, of which the calls are as many as told, and then fails.
-fn expect_calls(
+// Says pieces, all of them before a call that fails.
+fn expect_said_before(
     rt: &impl Abort,
     alloc: Global,
     pieces: &[&[u8]],
-    calls: u64,
+    failing: u64,
     size: usize,
 ) -> Result<(), Fail> {
-    let failing = vec![in alloc; calls + 1]?;
+    let failing = vec![in alloc; failing]?;
     let mut console = MemoryConsole::new(alloc, Vec::new(alloc), failing, 10_000)?;
     assert_eq!(rt; say_all(&mut console, pieces), Ok(()));
     assert_eq!(rt; console.said().len(), size);
@@ -125,26 +125,21 @@ fn expect_calls(
     Ok(())
 }
 
+const LONG: &[u8] = &[b'x'; 4000];
+
+const REST: &[u8] = &[b'y'; 96];
+
+const MORE: &[u8] = &[b'z'; 97];
+
+const HUGE: &[u8] = &[b'h'; 5000];
+
 #[test]
 fn pieces_are_said_in_as_few_calls_as_may_be(rt: HostRuntime) -> Result<(), Fail> {
     let alloc = rt.alloc();
-    let x = [b'x'; 5000];
-    expect_calls(&rt, alloc, &[b"", b""], 0, 0)?;
-    expect_calls(
-        &rt,
-        alloc,
-        &[x.get(..4000).unwrap_or(b""), x.get(..96).unwrap_or(b"")],
-        1,
-        4096,
-    )?;
-    expect_calls(
-        &rt,
-        alloc,
-        &[x.get(..4000).unwrap_or(b""), x.get(..97).unwrap_or(b"")],
-        2,
-        4097,
-    )?;
-    expect_calls(&rt, alloc, &[b"a", x.as_slice(), b"b", b"c"], 3, 5003)
+    expect_said_before(&rt, alloc, &[b"", b""], 1, 0)?;
+    expect_said_before(&rt, alloc, &[LONG, REST], 2, 4096)?;
+    expect_said_before(&rt, alloc, &[LONG, MORE], 3, 4097)?;
+    expect_said_before(&rt, alloc, &[b"a", HUGE, b"b", b"c"], 4, 5003)
 }
 
 // Loads a file, and expects its bytes or a fault.
