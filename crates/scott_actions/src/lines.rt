@@ -41,32 +41,31 @@ fn behind(parameters: &[u32], taken: usize) -> &[u32]
     }
 }
 
-// Does the opcode of a number with the next of the parameters.
+// Does an opcode with the next of the parameters.
 fn step<C: Console>(
     db: &Db,
     state: &mut State,
     noun: &[u8],
-    number: u32,
+    opcode: Opcode,
     parameters: &[u32],
     console: &mut C,
 ) -> Result<Option<u8>, ConsoleFault>
     requires { Fits db.now state.old }
     ensures spoken { Speaks C.history C.left C.bound C.faults console.old console.new result
-        (says (op db.now noun.now (opcode_of number) parameters.now state.old).events) }
-    ensures state { state.new ≡ (op db.now noun.now (opcode_of number) parameters.now state.old).value.state }
-    ensures over { IfOk result
-        (λ over. over ≡ (op db.now noun.now (opcode_of number) parameters.now state.old).value.over) }
+        (says (op db.now noun.now opcode parameters.now state.old).events) }
+    ensures state { state.new ≡ (op db.now noun.now opcode parameters.now state.old).value.state }
+    ensures over { IfOk result (λ over. over ≡ (op db.now noun.now opcode parameters.now state.old).value.over) }
     ensures fits { Fits db.now state.new }
 {
     let (p, q) = (parameter(parameters, 0), parameter(parameters, 1));
-    obey(db, state, noun, Opcode::of(number), p, q, console)
+    obey(db, state, noun, opcode, p, q, console)
 }
 
-// The parameters that the opcode of a number leaves.
-fn left_by<'a>(db: &Db, state: &State, number: u32, parameters: &'a [u32]) -> &'a [u32]
-    ensures { result.now ≡ drop (takes db.now state.now (opcode_of number)) parameters.now }
+// The parameters that an opcode leaves.
+fn left_by<'a>(db: &Db, state: &State, opcode: Opcode, parameters: &'a [u32]) -> &'a [u32]
+    ensures { result.now ≡ drop (takes db.now state.now opcode) parameters.now }
 {
-    behind(parameters, takes(db, state, Opcode::of(number)))
+    behind(parameters, takes(db, state, opcode))
 }
 
 // Does opcodes in order, each with the parameters that those before it left, until the game is over.
@@ -90,8 +89,9 @@ fn course<C: Console>(
     match opcodes {
         [] => Ok(None),
         [number, others @ ..] => {
-            let rest = left_by(db, state, *number, parameters);
-            match step(db, state, noun, *number, parameters, console) {
+            let opcode = Opcode::of(*number);
+            let rest = left_by(db, state, opcode, parameters);
+            match step(db, state, noun, opcode, parameters, console) {
                 Ok(None) => course(db, state, noun, others, rest, console),
                 Ok(Some(ending)) => Ok(Some(ending)),
                 Err(fault) => Err(fault),

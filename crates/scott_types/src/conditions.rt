@@ -31,7 +31,7 @@ pub enum Condition {
 }
 
 // The conditions by their codes in the file.
-const CONDITIONS: [Condition; 20] = [
+static CONDITIONS: [Condition; 20] = [
     Condition::Parameter,
     Condition::Carried,
     Condition::Here,

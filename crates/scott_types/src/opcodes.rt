@@ -94,7 +94,7 @@ pub enum TalkOp {
 }
 
 // The opcodes of the numbers from 52 to 89.
-const NAMED: [Opcode; 38] = [
+static NAMED: [Opcode; 38] = [
     Opcode::Get,
     Opcode::Items(ItemOp::Drop),
     Opcode::Rooms(RoomOp::Go),

@@ -14,9 +14,9 @@ returns-in-Ok-None-clause-spoken g t c =
     let next = course db noun (map opcode_of others) (drop (takes db c.args.state.now opcode) c.args.parameters.now) in
     rw (course-first db noun c.args.opcodes.now c.args.parameters.now c.args.state.now c.in-len1-up.len_at_least)
     (told_then first next
-    (sym (rw c.in-Ok-None.field-0-is at c.in-Ok-None.ensures.over))
-    c.in-Ok-None.ensures.spoken
-    (rw (c.in-Ok-None.ensures.state, c.left_by-rest.ensures) at c.course.ensures.spoken))
+    (sym (rw (c.in-Ok-None.field-0-is, c.of-opcode.ensures) at c.in-Ok-None.ensures.over))
+    (rw c.of-opcode.ensures at c.in-Ok-None.ensures.spoken)
+    (rw (c.in-Ok-None.ensures.state, c.left_by-rest.ensures, c.of-opcode.ensures) at c.course.ensures.spoken))
 
 pub returns-in-Err-clause-spoken : goal.returns-in-Err-clause-spoken
 returns-in-Err-clause-spoken g t c =
@@ -27,4 +27,4 @@ returns-in-Err-clause-spoken g t c =
     let first = op db noun opcode c.args.parameters.now c.args.state.now in
     let next = course db noun (map opcode_of others) (drop (takes db c.args.state.now opcode) c.args.parameters.now) in
     rw (course-first db noun c.args.opcodes.now c.args.parameters.now c.args.state.now c.in-len1-up.len_at_least)
-    (told_stop c.in-Err.fault first.value.over first next c.in-Err.ensures.spoken)
+    (told_stop c.in-Err.fault first.value.over first next (rw c.of-opcode.ensures at c.in-Err.ensures.spoken))
