@@ -131,10 +131,10 @@ class Maker:
         return d
 
 
-class Games:
-    """Random small games with random lines and draws, played."""
+class Made:
+    """So many cases of a family, each made from the seed and its own number alone."""
 
-    name = "games"
+    name = None
 
     def __init__(self, seed, count):
         self.seed, self.count = seed, count
@@ -143,9 +143,18 @@ class Games:
         return self.count
 
     def case(self, i):
-        r = random.Random("games %d %d" % (self.seed, i))
+        """The words, files and standard input of a case."""
+        r = random.Random("%s %d %d" % (self.name, self.seed, i))
         m = Maker(r)
-        d = m.database()
+        return self.played(r, m, m.database(), i)
+
+
+class Games(Made):
+    """Random small games with random lines and draws, played."""
+
+    name = "games"
+
+    def played(self, r, m, d, i):
         d.actions = [self.line(m, d) for _ in range(r.choice((1, 3, 8, 20, 40)))]
         stdin = b"".join(self.typed(m, d) for _ in range(r.randint(0, 25)))
         if r.random() < 0.1:
@@ -205,7 +214,7 @@ class Games:
         return b"".join(t + r.choice((b" ", b"\n", b"\t", b"\r\n", b"\x0b\x0c ")) for t in texts)
 
 
-class Lines:
+class Lines(Made):
     """Games of many lines, one command each: conditions and opcodes in every state.
 
     Behind each command an automatic group tells the counter, the flags, the backup counters
@@ -216,16 +225,7 @@ class Lines:
     TRIED = 60
     COMMANDS = 110
 
-    def __init__(self, seed, count):
-        self.seed, self.count = seed, count
-
-    def __len__(self):
-        return self.count
-
-    def case(self, i):
-        r = random.Random("lines %d %d" % (self.seed, i))
-        m = Maker(r)
-        d = m.database()
+    def played(self, r, m, d, i):
         n = self.TRIED + 20
         d.words = [(self.spelled(b"V", k), DIRECTIONS[k - 1] if 1 <= k <= 6 else self.spelled(b"X", k))
                    for k in range(n)]
