@@ -116,6 +116,7 @@ fn refused_get_leaves_its_parameter(rt: HostRuntime) -> Result<(), Fail> {
     let alloc = rt.alloc();
     let db = game(alloc, [0, 20, 0, 0, 0], [150 * 52 + 59, 0])?;
     let mut state = State::start(&db);
+    state.redraw = false;
     let mut console = console(alloc)?;
     assert_eq!(rt;
         perform(&db, &mut state, 0, b"", &mut console),
@@ -123,5 +124,6 @@ fn refused_get_leaves_its_parameter(rt: HostRuntime) -> Result<(), Fail> {
     );
     assert_eq!(rt; console.said(), b"I've too much to carry! ".as_slice());
     assert_eq!(rt; state.places.as_slice(), [0, 255].as_slice());
+    assert!(rt; state.redraw);
     Ok(())
 }

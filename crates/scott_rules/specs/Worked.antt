@@ -1,12 +1,12 @@
 -- Worked plays: what the rules give on small games.
 use Prim.Native.String.{String}
-use Rattle.std.specs.Prelude.{ℕ, ◌≡◌, false, List, [], ◌∷◌, ◌++◌, flat_map, codes, pos, negsuc, Some, None}
+use Rattle.std.specs.Prelude.{ℕ, ◌≡◌, true, false, List, [], ◌∷◌, ◌++◌, flat_map, codes, pos, negsuc, Some, None}
 use Rattle.scott_types.specs.declared.commands.Column.TheVariants.{Verbs}
 use Rattle.scott_types.specs.declared.commands.Heard.TheVariants.{Unknown, Command}
 use Rattle.scott_types.specs.declared.endings.Ran.TheVariants.{Not, Passed}
 use Rattle.scott_types.specs.declared.endings.Position.{Position}
 use Rattle.scott_types.specs.declared.endings.Position.TheVariants.{Line, Draw, Over}
-use Rattle.scott_types.specs.State.{start, place_of}
+use Rattle.scott_types.specs.State.{start, place_of, flag_of, out_flag}
 use Rattle.scott_rules.specs.Told.{Told, Step, Took, Drew, Tried, says}
 use Rattle.scott_rules.specs.Words.{which}
 use Rattle.scott_rules.specs.Commands.{heard}
@@ -163,6 +163,7 @@ pub record LightRunsOut : Type 0 where
       ∷ typed "look" ∷ not_understood ∷ text "Your light has run out. " ∷ ask ∷ typed "look" ∷ not_understood ∷ ask ∷ [])
       Line [] []
   pub light : (play (lamp_for 2) (typing ("look" ∷ "look" ∷ "look" ∷ "look" ∷ [])) []).value.state.light ≡ negsuc 0
+  pub flag : flag_of (play (lamp_for 2) (typing ("look" ∷ "look" ∷ "look" ∷ "look" ∷ [])) []).value.state out_flag ≡ true
 
 abbrev pub LightGrowsDim : Type 0
 LightGrowsDim =

@@ -22,6 +22,7 @@ fn check<S: Shelf, C: Console>(alloc: Global, game: &str, shelf: &mut S, console
     ensures files_stay { S.files shelf.new ≡ S.files shelf.old }
     ensures shelf_later { S.faults shelf.old ≤ S.faults shelf.new }
     ensures console_later { C.faults console.old ≤ C.faults console.new }
+    ensures lines_stay { C.left console.new ≡ C.left console.old }
 {
     match report_on(alloc, game, shelf) {
         Ok(text) => concluded(console.say(&text), 0),
@@ -36,6 +37,7 @@ fn play_with<C: Console>(alloc: Global, db: &Db, mut draws: Draws, console: &mut
         × IfSome (C.left console.old) (λ lines. Concludes (record { before = C.history console.old; after = C.history console.new })
         (Rose (C.faults console.old) (C.faults console.new)) 0 (events_of (playing db.now draws.left) lines) result)) }
     ensures later { C.faults console.old ≤ C.faults console.new }
+    ensures kept { (result ≡ 0) ⊎ (result ≡ 3) ⊎ (C.left console.new ≡ C.left console.old) }
 {
     match Session::open(alloc, db) {
         Ok(mut session) => match session.play(&mut draws, console) {
@@ -60,6 +62,7 @@ fn play<S: Shelf, C: Console>(
     ensures files_stay { S.files shelf.new ≡ S.files shelf.old }
     ensures shelf_later { S.faults shelf.old ≤ S.faults shelf.new }
     ensures console_later { C.faults console.old ≤ C.faults console.new }
+    ensures kept { (result ≡ 0) ⊎ (result ≡ 3) ⊎ (C.left console.new ≡ C.left console.old) }
 {
     match game_with_draws(alloc, game, chance, shelf) {
         Ok((db, draws)) => play_with(alloc, &db, draws, console),
@@ -80,6 +83,7 @@ pub fn obey<S: Shelf, C: Console>(
     ensures files_stay { S.files shelf.new ≡ S.files shelf.old }
     ensures shelf_later { S.faults shelf.old ≤ S.faults shelf.new }
     ensures console_later { C.faults console.old ≤ C.faults console.new }
+    ensures kept { (result ≡ 0) ⊎ (result ≡ 3) ⊎ (C.left console.new ≡ C.left console.old) }
 {
     match request_in(words) {
         Some(Request::Check(game)) => check(alloc, game, shelf, console),

@@ -42,6 +42,9 @@ pub fn scott<S: Shelf, C: Console>(
     // 9 comes only for a request, and says nothing.
     ensures memory { result ≡ 9 → IsSome (request_of (map string_bytes words.now)) × (C.history console.new ≡ C.history console.old) }
 
+    // A refusal takes no line: only what is done, or fails at the console, may take some.
+    ensures kept { (result ≡ 0) ⊎ (result ≡ 3) ⊎ (C.left console.new ≡ C.left console.old) }
+
     // 4, 5 and 11 come only where the files that are told have their cause.
     ensures no_database { result ≡ 4 → IfSome (S.files shelf.old) (λ files. GameHasFault files (request_of (map string_bytes words.now))) }
     ensures no_draws { result ≡ 5 → IfSome (S.files shelf.old) (λ files. DrawsHaveFault files (request_of (map string_bytes words.now))) }

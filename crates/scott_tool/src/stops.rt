@@ -126,6 +126,7 @@ impl<'a> Stop<'a> {
     pub fn end<C: Console>(self, console: &mut C) -> u8
         ensures ended { EndsFor (record { before = C.history console.old; after = C.history console.new })
             (Rose (C.faults console.old) (C.faults console.new)) (cause_of self.entry) result }
+        ensures lines_stay { C.left console.new ≡ C.left console.old }
         ensures later { C.faults console.old ≤ C.faults console.new }
     {
         match self {

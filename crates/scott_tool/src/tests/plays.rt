@@ -199,8 +199,13 @@ fn all_is_taken_until_the_game_ends(rt: HostRuntime) -> Result<(), Fail> {
 fn wide_games_are_played(rt: HostRuntime) -> Result<(), Fail> {
     let bright = Game { light: 40_000, ..T };
     let wide = Game { rooms: 255, ..T };
+    let given = Given {
+        lines: &[b"n", b"go south"],
+        ..NOTHING
+    };
     for game in [bright, wide] {
-        expect_play(&rt, game, "play t.dat", NOTHING, &[HALL, ASK])?;
+        let said = [HALL, ASK, MOVED, HILL, ASK, MOVED, HALL, ASK];
+        expect_play(&rt, game, "play t.dat", given, &said)?;
     }
     Ok(())
 }
