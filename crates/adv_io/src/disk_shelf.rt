@@ -2,7 +2,9 @@
 //!
 //! Trusted here and only tested: that a path names one file, that a file has the bytes that were
 //! written last, and that the runtime's calls do what they say. No clause speaks of a file's bytes.
-ghost use Rattle.std.specs.Prelude.{◌≡◌, ◌≤◌, ◌+◌, length, None, IfOk, IfErr, OnOk};
+ghost use Rattle.std.specs.Prelude.{◌≡◌, ◌≤◌, ◌+◌, ◌⊎◌, length, None, IfOk, IfErr, OnOk};
+ghost use Rattle.adv_io.specs.declared.faults.ShelfFault.TheVariants.{Memory, Failed};
+ghost use Rattle.adv_io.specs.Faults.{raised};
 ghost use Rattle.adv_io.specs.Shelf.{IsFile, with_file, RefusesLoad, RefusesStore, TellsLength, count_after};
 
 use crate::faults::ShelfFault;
@@ -43,6 +45,18 @@ impl<'a, R: Files> DiskShelf<'a, R> {
     {
         DiskShelf { rt, faults: 0 }
     }
+
+    // What a failure of the system is for a shelf: it counts as a fault, but for want of memory.
+    fn failed(&mut self, fault: &io::Error) -> ShelfFault
+        ensures counted { ((result ≡ Memory) × (self.new ≡ self.old)) ⊎ ((result ≡ Failed) × (self.new ≡ raised self.old)) }
+        ensures never_falls { self.old ≤ self.new }
+    {
+        if fault.kind() == ErrorKind::OutOfMemory {
+            return ShelfFault::Memory;
+        }
+        self.faults = self.faults.saturating_add(1);
+        ShelfFault::Failed
+    }
 }
 
 impl<'a, R: Files> Shelf for DiskShelf<'a, R> {
@@ -71,13 +85,7 @@ impl<'a, R: Files> Shelf for DiskShelf<'a, R> {
                     Ok(bytes)
                 }
             }
-            Err(fault) => {
-                if fault.kind() == ErrorKind::OutOfMemory {
-                    return Err(ShelfFault::Memory);
-                }
-                self.faults = self.faults.saturating_add(1);
-                Err(ShelfFault::Failed)
-            }
+            Err(fault) => Err(self.failed(&fault)),
         }
     }
 
@@ -93,10 +101,7 @@ impl<'a, R: Files> Shelf for DiskShelf<'a, R> {
         let _ = alloc;
         match write_file(self.rt, name, bytes) {
             Ok(()) => Ok(()),
-            Err(_) => {
-                self.faults = self.faults.saturating_add(1);
-                Err(ShelfFault::Failed)
-            }
+            Err(fault) => Err(self.failed(&fault)),
         }
     }
 }
