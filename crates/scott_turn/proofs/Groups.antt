@@ -1,5 +1,5 @@
 -- Groups and tails by the numbers of their lines.
-use Rattle.std.proofs.Common.{◌≡◌, ◌∙◌, ℕ, ◌+◌, ◌≤◌, ◌<◌, List, [], ◌∷◌, Bool, true, false, cond, not, length, drop, refl, sym, ap, arith, add-one, drop-cons}
+use Rattle.std.proofs.Common.{◌≡◌, ◌∙◌, ℕ, ◌+◌, ◌≤◌, ◌<◌, List, [], Option, None, Some, ◌∷◌, Bool, true, false, cond, not, length, drop, refl, sym, ap, arith, add-one, drop-cons}
 use Rattle.std.proofs.lemmas.List.{drop_all}
 use Rattle.std.specs.Prelude.{◌==◌, ◌&&◌, filter}
 use Rattle.scott_types.specs.declared.parts.Action.{Action}
@@ -7,7 +7,7 @@ use Rattle.scott_types.specs.Database.{Database}
 use Rattle.scott_types.specs.Action.{verb_of}
 use Rattle.scott_rules.specs.Lines.{action_at}
 use Rattle.scott_rules.specs.Groups.{Group, tail_of, groups_of, groups_from}
-use Rattle.scott_turn.specs.Heads.{tail_from, group_at, has_verb, groups_for, is_head_of, TailGoesOn}
+use Rattle.scott_turn.specs.Heads.{tail_from, group_at, has_verb, groups_for, is_head_of, ComesNext, TailGoesOn, IsFirst, IsHead, line_of}
 
 no_line : Action
 no_line = record { vocab = 0; conds = []; pairs = [] }
@@ -61,3 +61,24 @@ groups_for-end db verb line past = ap (λ lines. filter (has_verb verb) (groups_
 -- a head of a verb has it
 pub verb_of_head : (verb : ℕ) (a : Action) → is_head_of verb a ≡ true → verb_of a.vocab ≡ verb
 verb_of_head verb a test = grind (arith, test)
+
+-- ---- a walk over the heads of a verb
+
+-- a head where a walk stands comes next there
+pub comes_here : (db : Database) (verb head : ℕ) → IsHead db verb (Some head) → ComesNext db verb head head
+comes_here db verb head at = record {
+  behind = omega arith;
+  there = at.0;
+  is_head = at.1;
+  first = groups_for-head db verb head (action_at db head) at.0 refl at.1;
+}
+
+-- from where a head was looked for, the groups are those from where it was found
+pub groups_for-found : (db : Database) (verb line : ℕ) (found : Option ℕ) → IsFirst db verb line found → groups_for db verb line ≡ groups_for db verb (line_of db found)
+groups_for-found db verb line None none = none ∙ sym (groups_for-end db verb (length db.actions) (omega arith))
+groups_for-found db verb line (Some head) comes = comes.first ∙ sym (groups_for-head db verb head (action_at db head) comes.there refl comes.is_head)
+
+-- what was found is a head of the verb
+pub head_found : (db : Database) (verb line : ℕ) (found : Option ℕ) → IsFirst db verb line found → IsHead db verb found
+head_found db verb line None none = tt
+head_found db verb line (Some head) comes = (comes.there, comes.is_head)

@@ -18,6 +18,7 @@ use Rattle.scott_rules.specs.Search.{SearchOutcome, is_for_noun, at_least_matche
 use Rattle.scott_turn.specs.Heads.{group_at, has_verb, groups_for, ComesNext}
 use Rattle.scott_turn.specs.Turns.{halt_of, entered, auto_turn, by_halt, goes_through, found_of, search_turn, by_turn, at_least, with_before, ends_search}
 use Rattle.scott_turn.proofs.Going.{after-after}
+use Rattle.scott_turn.proofs.Groups.{verb_of_head}
 
 -- ---- the automatic step walks over the groups of verb 0 alone
 
@@ -86,7 +87,7 @@ module _ (db : Database) (line head : ℕ) (s : State) (draws : List ℕ) (comes
   automatic-turn : automatic db (groups_for db 0 line) s draws ≡ by_halt (auto_turn db (group_at db head) s draws).value.halt (auto_turn db (group_at db head) s draws) (automatic db (groups_for db 0 (head + 1)))
   automatic-turn =
       ap (λ gs. automatic db gs s draws) comes.first
-      ∙ ap (λ b. auto_group b db (group_at db head) s draws (automatic db (groups_for db 0 (head + 1)))) (eq-eqb (verb_of (action_at db head).vocab) 0 comes.has_verb)
+      ∙ ap (λ b. auto_group b db (group_at db head) s draws (automatic db (groups_for db 0 (head + 1)))) (eq-eqb (verb_of (action_at db head).vocab) 0 (verb_of_head 0 (action_at db head) comes.is_head))
       ∙ auto_drawn-turn db (group_at db head) s draws (automatic db (groups_for db 0 (head + 1)))
 
   -- behind a turn where the step goes on come the other groups
@@ -224,7 +225,7 @@ module _ (db : Database) (typed : List ℕ) (verb : ℕ) (noun : Option ℕ) (li
       ≡ by_turn (search_turn (is_for_noun (noun_at db head) noun) db typed (group_at db head) s).value.found (search_turn (is_for_noun (noun_at db head) noun) db typed (group_at db head) s) (searched db typed verb noun (groups_for db verb (head + 1)))
   searched-turn =
       ap (λ gs. searched db typed verb noun gs s) comes.first
-      ∙ ap (λ b. search_group (b && is_for_noun (noun_at db head) noun) db typed (group_at db head) s (searched db typed verb noun (groups_for db verb (head + 1)))) (eq-eqb (verb_of (action_at db head).vocab) verb comes.has_verb)
+      ∙ ap (λ b. search_group (b && is_for_noun (noun_at db head) noun) db typed (group_at db head) s (searched db typed verb noun (groups_for db verb (head + 1)))) (eq-eqb (verb_of (action_at db head).vocab) verb (verb_of_head verb (action_at db head) comes.is_head))
       ∙ search_group-turn (is_for_noun (noun_at db head) noun) db typed (group_at db head) s (searched db typed verb noun (groups_for db verb (head + 1)))
 
   -- behind a turn that doesn't end the search come the other groups

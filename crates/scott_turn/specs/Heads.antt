@@ -1,5 +1,5 @@
 -- Heads and tails, found by the numbers of their lines.
-use Rattle.std.specs.Prelude.{◌≡◌, ℕ, ◌+◌, ◌<◌, ◌≤◌, ◌==◌, ◌&&◌, Bool, true, false, not, List, [], ◌∷◌, length, drop, filter}
+use Rattle.std.specs.Prelude.{◌≡◌, ◌≢◌, ℕ, ◌+◌, ◌<◌, ◌≤◌, ◌==◌, ◌&&◌, Bool, true, false, not, List, [], ◌∷◌, length, drop, filter, slice_index_or, Option, None, Some, MatchOption}
 use Rattle.scott_types.specs.declared.parts.Action.{Action}
 use Rattle.scott_types.specs.Database.{Database}
 use Rattle.scott_types.specs.Action.{verb_of}
@@ -25,14 +25,47 @@ groups_for db verb line = filter (has_verb verb) (groups_from db line)
 abbrev pub is_head_of : ℕ → Action → Bool
 is_head_of verb a = not (a.vocab == 0) && verb_of a.vocab == verb
 
--- a head is there at the line or behind it, has the verb, and its group is the first of those
+-- a head of the verb is there at the line or behind it, and its group is the first of those
 pub record ComesNext (db : Database) (verb line head : ℕ) : Type 0 where
   pub behind : line ≤ head
   pub there : head < length db.actions
-  pub has_verb : verb_of (action_at db head).vocab ≡ verb
+  pub is_head : is_head_of verb (action_at db head) ≡ true
   pub first : groups_for db verb line ≡ group_at db head ∷ groups_for db verb (head + 1)
 
 -- a tail goes on with a line that is there, or it ends before it
 abbrev pub TailGoesOn : Database → ℕ → Bool → Type 0
 TailGoesOn db line true = (line < length db.actions) × (tail_from db line ≡ line ∷ tail_from db (line + 1))
 TailGoesOn db line false = tail_from db line ≡ []
+
+-- ---- an index of the heads
+
+-- a head that was found is the first of the verb at a line or behind it; none is there where none was found
+abbrev pub IsFirst : Database → ℕ → ℕ → Option ℕ → Type 0
+IsFirst db verb line found = MatchOption found (groups_for db verb line ≡ []) (λ head. ComesNext db verb line head)
+
+-- the first heads of all verbs at a line or behind it
+abbrev pub HasFirsts : Database → ℕ → (ℕ → Option ℕ) → Type 0
+HasFirsts db line firsts = (verb : ℕ) → IsFirst db verb line (firsts verb)
+
+-- where a line is a head, what was found is the next head of its verb behind it
+abbrev pub IsBehind : Database → ℕ → Option ℕ → Type 0
+IsBehind db line found = (action_at db line).vocab ≢ 0 → IsFirst db (verb_of (action_at db line).vocab) (line + 1) found
+
+-- an index of the lines from one on: the first heads of all verbs, and behind each head the next of its verb
+pub record IsIndexFrom (db : Database) (line : ℕ) (firsts : ℕ → Option ℕ) (nexts : List (Option ℕ)) : Type 0 where
+  pub whole : length nexts ≡ length db.actions
+  pub has_firsts : HasFirsts db line firsts
+  pub has_nexts : (head : ℕ) → line ≤ head → head < length db.actions → IsBehind db head (slice_index_or nexts head None)
+
+abbrev pub IsIndex : Database → (ℕ → Option ℕ) → List (Option ℕ) → Type 0
+IsIndex db firsts nexts = IsIndexFrom db 0 firsts nexts
+
+-- where a walk over the heads of a verb stands: at a head, or behind the last line
+abbrev pub line_of : Database → Option ℕ → ℕ
+line_of db None = length db.actions
+line_of db (Some head) = head
+
+-- a head, if there is one, is there and has the verb
+abbrev pub IsHead : Database → ℕ → Option ℕ → Type 0
+IsHead db verb None = Unit
+IsHead db verb (Some head) = (head < length db.actions) × (is_head_of verb (action_at db head) ≡ true)

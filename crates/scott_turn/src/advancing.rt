@@ -11,6 +11,7 @@ ghost use Rattle.scott_types.specs.Phrase.{text_of};
 ghost use Rattle.scott_turn.specs.Seen.{seen};
 
 use crate::automatic::automatic;
+use crate::games::Game;
 use crate::saying::say_any;
 use adv_draws::Draws;
 use adv_io::{Console, ConsoleFault};
@@ -84,44 +85,44 @@ fn go_to_prompt<C: Console>(
 
 // The automatic step from a line on, and what follows it.
 fn advance_from<C: Console>(
-    db: &Db,
+    game: &Game,
     state: &mut State,
     from: u16,
     draws: &mut Draws,
     console: &mut C,
 ) -> Result<Position, ConsoleFault>
-    requires { Fits db.now state.old }
+    requires { Fits game.now state.old }
     ensures spoken { Speaks C.history C.left C.bound C.faults console.old console.new result
-        (seen (to_prompt db.now (automatic db.now (groups_from db.now from) state.old draws.old.left)).events) }
+        (seen (to_prompt game.now (automatic game.now (groups_from game.now from) state.old draws.old.left)).events) }
     ensures left { IfOk result
-        (λ position. (to_prompt db.now (automatic db.now (groups_from db.now from) state.old draws.old.left)).value
+        (λ position. (to_prompt game.now (automatic game.now (groups_from game.now from) state.old draws.old.left)).value
         ≡ record { position = position; state = state.new; draws = draws.new.left }) }
     ensures taken { draws.new.taken + length draws.new.left ≡ draws.old.taken + length draws.old.left }
-    ensures fits { Fits db.now state.new }
+    ensures fits { Fits game.now state.new }
 {
-    match automatic(db, state, from, draws, console) {
-        Ok(halt) => go_to_prompt(db, state, halt, console),
+    match automatic(game, state, from, draws, console) {
+        Ok(halt) => go_to_prompt(game.db(), state, halt, console),
         Err(fault) => Err(fault),
     }
 }
 
 // A round begins.
 fn begin<C: Console>(
-    db: &Db,
+    game: &Game,
     state: &mut State,
     draws: &mut Draws,
     console: &mut C,
 ) -> Result<Position, ConsoleFault>
-    requires { Fits db.now state.old }
+    requires { Fits game.now state.old }
     ensures spoken { Speaks C.history C.left C.bound C.faults console.old console.new result
-        (seen (advance db.now Position.Fresh state.old draws.old.left).events) }
-    ensures left { IfOk result (λ position. (advance db.now Position.Fresh state.old draws.old.left).value
+        (seen (advance game.now Position.Fresh state.old draws.old.left).events) }
+    ensures left { IfOk result (λ position. (advance game.now Position.Fresh state.old draws.old.left).value
         ≡ record { position = position; state = state.new; draws = draws.new.left }) }
     ensures taken { draws.new.taken + length draws.new.left ≡ draws.old.taken + length draws.old.left }
-    ensures fits { Fits db.now state.new }
+    ensures fits { Fits game.now state.new }
 {
-    match look_if_due(db, state, console) {
-        Ok(()) => advance_from(db, state, 0, draws, console),
+    match look_if_due(game.db(), state, console) {
+        Ok(()) => advance_from(game, state, 0, draws, console),
         Err(fault) => Err(fault),
     }
 }
@@ -131,23 +132,23 @@ fn begin<C: Console>(
 /// The console's fault alone is a refusal; the state fits then too. docs/TURN.md, "The round", has the
 /// rule.
 pub fn advance<C: Console>(
-    db: &Db,
+    game: &Game,
     state: &mut State,
     position: Position,
     draws: &mut Draws,
     console: &mut C,
 ) -> Result<Position, ConsoleFault>
-    requires { Fits db.now state.old }
+    requires { Fits game.now state.old }
     ensures spoken { Speaks C.history C.left C.bound C.faults console.old console.new result
-        (seen (advance db.now position state.old draws.old.left).events) }
-    ensures left { IfOk result (λ reached. (advance db.now position state.old draws.old.left).value
+        (seen (advance game.now position state.old draws.old.left).events) }
+    ensures left { IfOk result (λ reached. (advance game.now position state.old draws.old.left).value
         ≡ record { position = reached; state = state.new; draws = draws.new.left }) }
     ensures taken { draws.new.taken + length draws.new.left ≡ draws.old.taken + length draws.old.left }
-    ensures fits { Fits db.now state.new }
+    ensures fits { Fits game.now state.new }
 {
     match position {
-        Position::Fresh => begin(db, state, draws, console),
-        Position::Draw(head) => advance_from(db, state, head, draws, console),
+        Position::Fresh => begin(game, state, draws, console),
+        Position::Draw(head) => advance_from(game, state, head, draws, console),
         Position::Line => Ok(Position::Line),
         Position::Over(ending) => Ok(Position::Over(ending)),
     }

@@ -10,6 +10,7 @@ ghost use Rattle.scott_rules.specs.Rounds.{turn_ended, command_done, obeyed, ask
 ghost use Rattle.scott_vocab.specs.Heard.{IsEntry};
 ghost use Rattle.scott_turn.specs.Seen.{seen};
 
+use crate::games::Game;
 use crate::obeying::obey;
 use crate::searching::Command;
 use adv_io::{Console, ConsoleFault, Line};
@@ -43,23 +44,23 @@ fn end_turn<C: Console>(
 
 // Does a command, and ends the turn.
 fn take_turn<C: Console>(
-    db: &Db,
+    game: &Game,
     state: &mut State,
     command: Command,
     typed: &[u8],
     console: &mut C,
 ) -> Result<Position, ConsoleFault>
-    requires fits { Fits db.now state.old }
-    requires there { IsEntry db.now command.noun }
+    requires fits { Fits game.now state.old }
+    requires there { IsEntry game.now command.noun }
     ensures spoken { Speaks C.history C.left C.bound C.faults console.old console.new result
-        (seen (command_done (obeyed db.now typed.now command.verb command.noun state.old)).events) }
+        (seen (command_done (obeyed game.now typed.now command.verb command.noun state.old)).events) }
     ensures left { IfOk result
-        (λ position. (command_done (obeyed db.now typed.now command.verb command.noun state.old)).value
+        (λ position. (command_done (obeyed game.now typed.now command.verb command.noun state.old)).value
         ≡ record { position = position; state = state.new }) }
-    ensures fits { Fits db.now state.new }
+    ensures fits { Fits game.now state.new }
 {
-    match obey(db, state, command, typed, console) {
-        Ok(over) => end_turn(db, state, over, console),
+    match obey(game, state, command, typed, console) {
+        Ok(over) => end_turn(game.db(), state, over, console),
         Err(fault) => Err(fault),
     }
 }
@@ -100,24 +101,30 @@ fn refuse_word<C: Console>(word: &[u8], console: &mut C) -> Result<Position, Con
 /// rule.
 #[tactic(auto, using(crate::proofs::Seeing::seen_says))]
 pub fn answer<C: Console>(
-    db: &Db,
+    game: &Game,
     state: &mut State,
     line: &Line,
     console: &mut C,
 ) -> Result<Position, ConsoleFault>
-    requires { Fits db.now state.old }
+    requires { Fits game.now state.old }
     ensures spoken { Speaks C.history C.left C.bound C.faults console.old console.new result
-        (seen (by_heard (heard db.now line.now) db.now line.now state.old).events) }
+        (seen (by_heard (heard game.now line.now) game.now line.now state.old).events) }
     ensures left { IfOk result
-        (λ position. (by_heard (heard db.now line.now) db.now line.now state.old).value
+        (λ position. (by_heard (heard game.now line.now) game.now line.now state.old).value
         ≡ record { position = position; state = state.new }) }
-    ensures fits { Fits db.now state.new }
+    ensures fits { Fits game.now state.new }
 {
-    match command(db, line) {
+    match command(game.db(), line) {
         Heard::Blank => ask_again(console),
         Heard::Unknown(start, length) => refuse_word(word_at(line, start, length), console),
         Heard::Command(verb, noun) => {
-            take_turn(db, state, Command { verb, noun }, typed_noun(line), console)
+            take_turn(
+                game,
+                state,
+                Command { verb, noun },
+                typed_noun(line),
+                console,
+            )
         }
     }
 }

@@ -9,7 +9,7 @@ ghost use Rattle.scott_turn.specs.Seen.{seen};
 ghost use Rattle.scott_turn.specs.Heads.{group_at};
 ghost use Rattle.scott_turn.specs.Turns.{halt_of, entered, auto_turn, goes_through};
 
-use crate::heads::next_head;
+use crate::games::Game;
 use crate::trying::try_group;
 use adv_draws::Draws;
 use adv_io::{Console, ConsoleFault};
@@ -68,27 +68,27 @@ fn enter<C: Console>(
 
 // Takes the draw of a head's group, and tries the group where that lets it in.
 fn take_turn<C: Console>(
-    db: &Db,
+    game: &Game,
     state: &mut State,
     head: u16,
     draws: &mut Draws,
     console: &mut C,
 ) -> Result<Halt, ConsoleFault>
-    requires fits { Fits db.now state.old }
-    requires there { head < length db.now.actions }
+    requires fits { Fits game.now state.old }
+    requires there { head < length game.now.actions }
     ensures spoken { Speaks C.history C.left C.bound C.faults console.old console.new result
-        (seen (auto_turn db.now (group_at db.now head) state.old draws.old.left).events) }
+        (seen (auto_turn game.now (group_at game.now head) state.old draws.old.left).events) }
     ensures state { OnOk result
-        (state.new ≡ (auto_turn db.now (group_at db.now head) state.old draws.old.left).value.state) }
+        (state.new ≡ (auto_turn game.now (group_at game.now head) state.old draws.old.left).value.state) }
     ensures halt { IfOk result
-        (λ halt. halt ≡ (auto_turn db.now (group_at db.now head) state.old draws.old.left).value.halt) }
-    ensures draws { draws.new.left ≡ (auto_turn db.now (group_at db.now head) state.old draws.old.left).value.draws }
+        (λ halt. halt ≡ (auto_turn game.now (group_at game.now head) state.old draws.old.left).value.halt) }
+    ensures draws { draws.new.left ≡ (auto_turn game.now (group_at game.now head) state.old draws.old.left).value.draws }
     ensures taken { draws.new.taken + length draws.new.left ≡ draws.old.taken + length draws.old.left }
-    ensures fits { Fits db.now state.new }
+    ensures fits { Fits game.now state.new }
 {
     match draws.next() {
         None => Ok(Halt::Waits(head)),
-        Some(draw) => enter(db, state, head, draw, console),
+        Some(draw) => enter(game.db(), state, head, draw, console),
     }
 }
 
@@ -108,28 +108,27 @@ fn goes_on(halt: Halt) -> bool
 ///
 /// The console's fault alone is a refusal; the state fits then too. docs/TURN.md, "Groups", has the rule.
 pub fn automatic<C: Console>(
-    db: &Db,
+    game: &Game,
     state: &mut State,
     from: u16,
     draws: &mut Draws,
     console: &mut C,
 ) -> Result<Halt, ConsoleFault>
-    requires { Fits db.now state.old }
+    requires { Fits game.now state.old }
     ensures spoken { Speaks C.history C.left C.bound C.faults console.old console.new result
-        (seen (automatic db.now (groups_from db.now from) state.old draws.old.left).events) }
-    ensures left { IfOk result (λ halt. (automatic db.now (groups_from db.now from) state.old draws.old.left).value
+        (seen (automatic game.now (groups_from game.now from) state.old draws.old.left).events) }
+    ensures left { IfOk result (λ halt. (automatic game.now (groups_from game.now from) state.old draws.old.left).value
         ≡ record { state = state.new; draws = draws.new.left; halt = halt }) }
     ensures taken { draws.new.taken + length draws.new.left ≡ draws.old.taken + length draws.old.left }
-    ensures fits { Fits db.now state.new }
+    ensures fits { Fits game.now state.new }
 {
-    let _lines = db.actions();
-    let mut line = from;
-    while let Some(head) = next_head(db, AUTOMATIC, line) {
-        let halt = take_turn(db, state, head, draws, console)?;
+    let mut next = game.first_head(AUTOMATIC, from);
+    while let Some(head) = next {
+        let halt = take_turn(game, state, head, draws, console)?;
         if !goes_on(halt) {
             return Ok(halt);
         }
-        line = head + 1;
+        next = game.head_behind(head);
     }
     Ok(Halt::Through)
 }

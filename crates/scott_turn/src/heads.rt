@@ -1,4 +1,4 @@
-//! Which action lines are heads, and how far their tails go: the one place where the lines are walked.
+//! Which action lines are heads, and how far their tails go, line by line.
 ghost use Rattle.std.specs.Prelude.{◌≡◌, [], MatchOption};
 ghost use Rattle.scott_turn.specs.Heads.{groups_for, is_head_of, ComesNext, TailGoesOn};
 

@@ -9,57 +9,58 @@ ghost use Rattle.scott_turn.specs.Handed.{given, said, behind_line};
 
 use crate::advancing::advance;
 use crate::answering::answer;
+use crate::games::Game;
 use crate::rounds::is_prompt;
 use adv_draws::Draws;
 use adv_io::{Console, ConsoleFault, Line};
 use scott_rules::laws::play_spends;
-use scott_types::{Db, Position, State};
+use scott_types::{Position, State};
 
 // Answers a line that was handed in at the prompt, and goes on to the next prompt.
 fn answer_and_advance<C: Console>(
-    db: &Db,
+    game: &Game,
     state: &mut State,
     draws: &mut Draws,
     line: &Line,
     console: &mut C,
 ) -> Result<Position, ConsoleFault>
-    requires { Fits db.now state.old }
+    requires { Fits game.now state.old }
     ensures spoken { Speaks C.history C.left C.bound C.faults console.old console.new result
-        (seen (behind_line true db.now line.now Position.Line state.old draws.old.left).events) }
+        (seen (behind_line true game.now line.now Position.Line state.old draws.old.left).events) }
     ensures left { IfOk result
-        (λ reached. (behind_line true db.now line.now Position.Line state.old draws.old.left).value
+        (λ reached. (behind_line true game.now line.now Position.Line state.old draws.old.left).value
         ≡ record { position = reached; state = state.new; draws = draws.new.left }) }
     ensures taken { draws.new.taken + length draws.new.left ≡ draws.old.taken + length draws.old.left }
-    ensures fits { Fits db.now state.new }
+    ensures fits { Fits game.now state.new }
 {
-    match answer(db, state, line, console) {
-        Ok(position) => advance(db, state, position, draws, console),
+    match answer(game, state, line, console) {
+        Ok(position) => advance(game, state, position, draws, console),
         Err(fault) => Err(fault),
     }
 }
 
 // The same where the play stands behind a prompt; elsewhere the line is dropped.
 fn hand_in<C: Console>(
-    db: &Db,
+    game: &Game,
     state: &mut State,
     position: Position,
     draws: &mut Draws,
     line: &Line,
     console: &mut C,
 ) -> Result<Position, ConsoleFault>
-    requires { Fits db.now state.old }
+    requires { Fits game.now state.old }
     ensures spoken { let b = is_prompt position in
         Speaks C.history C.left C.bound C.faults console.old console.new result
-        (seen (behind_line b db.now line.now position state.old draws.old.left).events) }
+        (seen (behind_line b game.now line.now position state.old draws.old.left).events) }
     ensures left { let b = is_prompt position in
         IfOk result
-        (λ reached. (behind_line b db.now line.now position state.old draws.old.left).value
+        (λ reached. (behind_line b game.now line.now position state.old draws.old.left).value
         ≡ record { position = reached; state = state.new; draws = draws.new.left }) }
     ensures taken { draws.new.taken + length draws.new.left ≡ draws.old.taken + length draws.old.left }
-    ensures fits { Fits db.now state.new }
+    ensures fits { Fits game.now state.new }
 {
     if is_prompt(position) {
-        answer_and_advance(db, state, draws, line, console)
+        answer_and_advance(game, state, draws, line, console)
     } else {
         Ok(position)
     }
@@ -71,26 +72,26 @@ fn hand_in<C: Console>(
 ///
 /// The console's fault alone is a refusal; the state fits then too. docs/TURN.md, "Play", has the rule.
 pub fn hear_on<C: Console>(
-    db: &Db,
+    game: &Game,
     state: &mut State,
     position: Position,
     draws: &mut Draws,
     line: Option<&Line>,
     console: &mut C,
 ) -> Result<Position, ConsoleFault>
-    requires { Fits db.now state.old }
+    requires { Fits game.now state.old }
     ensures spoken { Speaks C.history C.left C.bound C.faults console.old console.new result
-        (said (go db.now position state.old (given line.entry) draws.old.left).events) }
-    ensures left { let t = go db.now position state.old (given line.entry) draws.old.left in
+        (said (go game.now position state.old (given line.entry) draws.old.left).events) }
+    ensures left { let t = go game.now position state.old (given line.entry) draws.old.left in
         IfOk result (λ reached. t.value
         ≡ record { position = reached; state = state.new; lines = t.value.lines; draws = draws.new.left }) }
     ensures taken { draws.new.taken + length draws.new.left ≡ draws.old.taken + length draws.old.left }
-    ensures fits { Fits db.now state.new }
+    ensures fits { Fits game.now state.new }
 {
     play_spends();
-    let reached = advance(db, state, position, draws, console)?;
+    let reached = advance(game, state, position, draws, console)?;
     match line {
         None => Ok(reached),
-        Some(line) => hand_in(db, state, reached, draws, line, console),
+        Some(line) => hand_in(game, state, reached, draws, line, console),
     }
 }

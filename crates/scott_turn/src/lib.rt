@@ -3,6 +3,7 @@
 
 // Groups of action lines.
 mod automatic;
+mod games;
 mod heads;
 mod searching;
 mod trying;

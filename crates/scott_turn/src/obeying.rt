@@ -8,12 +8,13 @@ ghost use Rattle.scott_vocab.specs.Heard.{IsEntry};
 ghost use Rattle.scott_turn.specs.Seen.{seen};
 
 use crate::choosing::transfer_one;
+use crate::games::Game;
 use crate::saying::say_only;
 use crate::searching::{Command, search};
 use crate::sweeping::{DROP, GET, transfer_all};
 use crate::walking::walk;
 use adv_io::{Console, ConsoleFault};
-use scott_types::{Db, Found, Phrase, State, Transfer};
+use scott_types::{Found, Phrase, State, Transfer};
 use scott_vocab::{GO, is_direction};
 
 // Whether all is meant.
@@ -25,25 +26,25 @@ fn is_all(typed: &[u8]) -> bool
 
 // Gets or drops, all or one.
 fn transfer<C: Console>(
-    db: &Db,
+    game: &Game,
     state: &mut State,
     transfer: Transfer,
     noun: Option<u16>,
     typed: &[u8],
     console: &mut C,
 ) -> Result<Option<u8>, ConsoleFault>
-    requires fits { Fits db.now state.old }
-    requires there { IsEntry db.now noun }
+    requires fits { Fits game.now state.old }
+    requires there { IsEntry game.now noun }
     ensures spoken { Speaks C.history C.left C.bound C.faults console.old console.new result
-        (seen (got_or_dropped transfer db.now typed.now noun state.old).events) }
-    ensures left { IfOk result (λ over. (got_or_dropped transfer db.now typed.now noun state.old).value
+        (seen (got_or_dropped transfer game.now typed.now noun state.old).events) }
+    ensures left { IfOk result (λ over. (got_or_dropped transfer game.now typed.now noun state.old).value
         ≡ record { state = state.new; over = over }) }
-    ensures fits { Fits db.now state.new }
+    ensures fits { Fits game.now state.new }
 {
     if is_all(typed) {
-        transfer_all(db, state, transfer, typed, console)
+        transfer_all(game, state, transfer, typed, console)
     } else {
-        transfer_one(db, state, transfer, noun, console)
+        transfer_one(game.db(), state, transfer, noun, console)
     }
 }
 
@@ -59,26 +60,26 @@ fn not_done(found: Found) -> &'static [u8]
 
 // A command for which no head passed: get and drop have an effect of their own, and others are refused.
 fn do_unmatched<C: Console>(
-    db: &Db,
+    game: &Game,
     state: &mut State,
     command: Command,
     typed: &[u8],
     found: Found,
     console: &mut C,
 ) -> Result<Option<u8>, ConsoleFault>
-    requires fits { Fits db.now state.old }
-    requires there { IsEntry db.now command.noun }
+    requires fits { Fits game.now state.old }
+    requires there { IsEntry game.now command.noun }
     ensures spoken { Speaks C.history C.left C.bound C.faults console.old console.new result
-        (seen (unmatched db.now typed.now command.verb command.noun found state.old).events) }
+        (seen (unmatched game.now typed.now command.verb command.noun found state.old).events) }
     ensures left { IfOk result
-        (λ over. (unmatched db.now typed.now command.verb command.noun found state.old).value
+        (λ over. (unmatched game.now typed.now command.verb command.noun found state.old).value
         ≡ record { state = state.new; over = over }) }
-    ensures fits { Fits db.now state.new }
+    ensures fits { Fits game.now state.new }
 {
     if command.verb == GET {
-        transfer(db, state, Transfer::PickUp, command.noun, typed, console)
+        transfer(game, state, Transfer::PickUp, command.noun, typed, console)
     } else if command.verb == DROP {
-        transfer(db, state, Transfer::PutDown, command.noun, typed, console)
+        transfer(game, state, Transfer::PutDown, command.noun, typed, console)
     } else {
         say_only(not_done(found), console)
     }
@@ -86,80 +87,80 @@ fn do_unmatched<C: Console>(
 
 // What is done behind the search for a command.
 fn go_on_behind<C: Console>(
-    db: &Db,
+    game: &Game,
     state: &mut State,
     command: Command,
     typed: &[u8],
     found: Found,
     console: &mut C,
 ) -> Result<Option<u8>, ConsoleFault>
-    requires fits { Fits db.now state.old }
-    requires there { IsEntry db.now command.noun }
+    requires fits { Fits game.now state.old }
+    requires there { IsEntry game.now command.noun }
     ensures spoken { Speaks C.history C.left C.bound C.faults console.old console.new result
-        (seen (by_found found db.now typed.now command.verb command.noun state.old).events) }
+        (seen (by_found found game.now typed.now command.verb command.noun state.old).events) }
     ensures left { IfOk result
-        (λ over. (by_found found db.now typed.now command.verb command.noun state.old).value
+        (λ over. (by_found found game.now typed.now command.verb command.noun state.old).value
         ≡ record { state = state.new; over = over }) }
-    ensures fits { Fits db.now state.new }
+    ensures fits { Fits game.now state.new }
 {
     match found {
         Found::Over(ending) => Ok(Some(ending)),
         Found::Done => Ok(None),
-        Found::Matched => do_unmatched(db, state, command, typed, Found::Matched, console),
-        Found::NoMatch => do_unmatched(db, state, command, typed, Found::NoMatch, console),
+        Found::Matched => do_unmatched(game, state, command, typed, Found::Matched, console),
+        Found::NoMatch => do_unmatched(game, state, command, typed, Found::NoMatch, console),
     }
 }
 
 // A command that is searched for among the lines.
 fn do_by_lines<C: Console>(
-    db: &Db,
+    game: &Game,
     state: &mut State,
     command: Command,
     typed: &[u8],
     console: &mut C,
 ) -> Result<Option<u8>, ConsoleFault>
-    requires fits { Fits db.now state.old }
-    requires there { IsEntry db.now command.noun }
+    requires fits { Fits game.now state.old }
+    requires there { IsEntry game.now command.noun }
     ensures spoken { Speaks C.history C.left C.bound C.faults console.old console.new result
-        (seen (by_lines db.now typed.now command.verb command.noun state.old).events) }
+        (seen (by_lines game.now typed.now command.verb command.noun state.old).events) }
     ensures left { IfOk result
-        (λ over. (by_lines db.now typed.now command.verb command.noun state.old).value
+        (λ over. (by_lines game.now typed.now command.verb command.noun state.old).value
         ≡ record { state = state.new; over = over }) }
-    ensures fits { Fits db.now state.new }
+    ensures fits { Fits game.now state.new }
 {
-    match search(db, state, command, typed, console) {
-        Ok(found) => go_on_behind(db, state, command, typed, found, console),
+    match search(game, state, command, typed, console) {
+        Ok(found) => go_on_behind(game, state, command, typed, found, console),
         Err(fault) => Err(fault),
     }
 }
 
 // Going: it asks for a direction, and goes there. With another noun it is a verb like any.
 fn do_going<C: Console>(
-    db: &Db,
+    game: &Game,
     state: &mut State,
     noun: Option<u16>,
     typed: &[u8],
     console: &mut C,
 ) -> Result<Option<u8>, ConsoleFault>
-    requires fits { Fits db.now state.old }
-    requires there { IsEntry db.now noun }
+    requires fits { Fits game.now state.old }
+    requires there { IsEntry game.now noun }
     ensures spoken { Speaks C.history C.left C.bound C.faults console.old console.new result
-        (seen (going db.now typed.now noun state.old).events) }
-    ensures left { IfOk result (λ over. (going db.now typed.now noun state.old).value
+        (seen (going game.now typed.now noun state.old).events) }
+    ensures left { IfOk result (λ over. (going game.now typed.now noun state.old).value
         ≡ record { state = state.new; over = over }) }
-    ensures fits { Fits db.now state.new }
+    ensures fits { Fits game.now state.new }
 {
     match noun {
         None => say_only(Phrase::NeedDirection.text(), console),
         Some(noun) => {
             if is_direction(noun) {
-                walk(db, state, noun, console)
+                walk(game.db(), state, noun, console)
             } else {
                 let command = Command {
                     verb: GO,
                     noun: Some(noun),
                 };
-                do_by_lines(db, state, command, typed, console)
+                do_by_lines(game, state, command, typed, console)
             }
         }
     }
@@ -169,23 +170,23 @@ fn do_going<C: Console>(
 ///
 /// The console's fault alone is a refusal; the state fits then too. docs/TURN.md, "Commands", has the rule.
 pub fn obey<C: Console>(
-    db: &Db,
+    game: &Game,
     state: &mut State,
     command: Command,
     typed: &[u8],
     console: &mut C,
 ) -> Result<Option<u8>, ConsoleFault>
-    requires fits { Fits db.now state.old }
-    requires there { IsEntry db.now command.noun }
+    requires fits { Fits game.now state.old }
+    requires there { IsEntry game.now command.noun }
     ensures spoken { Speaks C.history C.left C.bound C.faults console.old console.new result
-        (seen (obeyed db.now typed.now command.verb command.noun state.old).events) }
-    ensures left { IfOk result (λ over. (obeyed db.now typed.now command.verb command.noun state.old).value
+        (seen (obeyed game.now typed.now command.verb command.noun state.old).events) }
+    ensures left { IfOk result (λ over. (obeyed game.now typed.now command.verb command.noun state.old).value
         ≡ record { state = state.new; over = over }) }
-    ensures fits { Fits db.now state.new }
+    ensures fits { Fits game.now state.new }
 {
     if command.verb == GO {
-        do_going(db, state, command.noun, typed, console)
+        do_going(game, state, command.noun, typed, console)
     } else {
-        do_by_lines(db, state, command, typed, console)
+        do_by_lines(game, state, command, typed, console)
     }
 }

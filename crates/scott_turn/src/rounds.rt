@@ -8,10 +8,11 @@ ghost use Rattle.scott_turn.specs.Rounds.{is_prompt, AnswersNext, GoesRound, Pla
 
 use crate::advancing::advance;
 use crate::answering::answer;
+use crate::games::Game;
 use adv_draws::Draws;
 use adv_io::{Console, ConsoleFault, Line, Taken};
 use scott_rules::laws::{advance_ends_well, answer_ends_well};
-use scott_types::{Db, Position, State};
+use scott_types::{Position, State};
 
 /// Where a round left the play, and whether it stopped there.
 #[derive(Clone, Copy)]
@@ -32,24 +33,24 @@ pub fn is_prompt(position: Position) -> bool
 
 // Takes the next line and answers it, and tells where the play stands then; or finds that no line is left.
 fn answer_next<C: Console>(
-    db: &Db,
+    game: &Game,
     state: &mut State,
     line: &mut Line,
     console: &mut C,
 ) -> Result<Option<Position>, ConsoleFault>
-    requires { Fits db.now state.old }
+    requires { Fits game.now state.old }
     ensures told { IfSome (C.left console.old) (λ lines.
-        AnswersNext C.history C.left console.old console.new db.now lines result state.old state.new) }
+        AnswersNext C.history C.left console.old console.new game.now lines result state.old state.new) }
     ensures falls { IfOk result (λ answered. IfSome answered (λ _. C.bound console.new < C.bound console.old)) }
     ensures bounded { C.bound console.new ≤ C.bound console.old }
     ensures cause { HasCause (C.faults console.old) (C.faults console.new) result }
-    ensures fits { Fits db.now state.new }
+    ensures fits { Fits game.now state.new }
     ensures ends { IfOk result (λ answered. IfSome answered EndsWell) }
 {
     answer_ends_well();
     match console.take(line) {
         Ok(Taken::End) => Ok(None),
-        Ok(Taken::Got) => match answer(db, state, line, console) {
+        Ok(Taken::Got) => match answer(game, state, line, console) {
             Ok(position) => Ok(Some(position)),
             Err(fault) => Err(fault),
         },
@@ -59,34 +60,34 @@ fn answer_next<C: Console>(
 
 // Everything up to the prompt, and the answer to the next line.
 fn go_round<C: Console>(
-    db: &Db,
+    game: &Game,
     state: &mut State,
     position: Position,
     draws: &mut Draws,
     line: &mut Line,
     console: &mut C,
 ) -> Result<Round, ConsoleFault>
-    requires fits { Fits db.now state.old }
+    requires fits { Fits game.now state.old }
     requires ends { EndsWell position }
     ensures told { IfSome (C.left console.old) (λ lines.
-        GoesRound C.history C.left console.old console.new result (go db.now position state.old lines draws.old.left)
-        db.now state.new draws.new.left) }
+        GoesRound C.history C.left console.old console.new result (go game.now position state.old lines draws.old.left)
+        game.now state.new draws.new.left) }
     ensures falls { IfOk result (λ round. round.stopped ≡ false → C.bound console.new < C.bound console.old) }
     ensures bounded { C.bound console.new ≤ C.bound console.old }
     ensures cause { HasCause (C.faults console.old) (C.faults console.new) result }
     ensures taken { draws.new.taken + length draws.new.left ≡ draws.old.taken + length draws.old.left }
-    ensures fits { Fits db.now state.new }
+    ensures fits { Fits game.now state.new }
     ensures ends { IfOk result (λ round. EndsWell round.position) }
 {
     advance_ends_well();
-    let reached = advance(db, state, position, draws, console)?;
+    let reached = advance(game, state, position, draws, console)?;
     if !is_prompt(reached) {
         return Ok(Round {
             position: reached,
             stopped: true,
         });
     }
-    match answer_next(db, state, line, console) {
+    match answer_next(game, state, line, console) {
         Ok(None) => Ok(Round {
             position: reached,
             stopped: true,
@@ -104,27 +105,27 @@ fn go_round<C: Console>(
 ///
 /// The console's fault alone is a refusal; the state fits then too. docs/TURN.md, "Play", has the rule.
 pub fn play_on<C: Console>(
-    db: &Db,
+    game: &Game,
     state: &mut State,
     position: Position,
     draws: &mut Draws,
     console: &mut C,
 ) -> Result<Position, ConsoleFault>
-    requires fits { Fits db.now state.old }
+    requires fits { Fits game.now state.old }
     requires ends { EndsWell position }
     ensures told { IfSome (C.left console.old) (λ lines.
-        PlaysOut C.history C.left console.old console.new result (go db.now position state.old lines draws.old.left)
+        PlaysOut C.history C.left console.old console.new result (go game.now position state.old lines draws.old.left)
         state.new draws.new.left) }
     ensures bounded { C.bound console.new ≤ C.bound console.old }
     ensures cause { HasCause (C.faults console.old) (C.faults console.new) result }
     ensures taken { draws.new.taken + length draws.new.left ≡ draws.old.taken + length draws.old.left }
-    ensures fits { Fits db.now state.new }
+    ensures fits { Fits game.now state.new }
     ensures ends { IfOk result EndsWell }
 {
     let mut line = Line::of(&[]);
     let mut position = position;
     loop {
-        let round = go_round(db, state, position, draws, &mut line, console)?;
+        let round = go_round(game, state, position, draws, &mut line, console)?;
         if round.stopped {
             return Ok(round.position);
         }

@@ -10,7 +10,7 @@ ghost use Rattle.scott_turn.specs.Seen.{seen};
 ghost use Rattle.scott_turn.specs.Heads.{group_at};
 ghost use Rattle.scott_turn.specs.Turns.{found_of, search_turn, ends_search, at_least};
 
-use crate::heads::next_head;
+use crate::games::Game;
 use crate::trying::try_group;
 use adv_io::{Console, ConsoleFault};
 use scott_types::{Db, Found, Ran, State};
@@ -54,26 +54,26 @@ fn found_of(ran: Ran) -> Found
 
 // Tries the group of a head where it is for the noun.
 fn take_turn<C: Console>(
-    db: &Db,
+    game: &Game,
     state: &mut State,
     head: u16,
     noun: Option<u16>,
     typed: &[u8],
     console: &mut C,
 ) -> Result<Found, ConsoleFault>
-    requires fits { Fits db.now state.old }
-    requires there { head < length db.now.actions }
-    ensures spoken { let b = is_for_noun (noun_of (action_at db.now head).vocab) noun in
+    requires fits { Fits game.now state.old }
+    requires there { head < length game.now.actions }
+    ensures spoken { let b = is_for_noun (noun_of (action_at game.now head).vocab) noun in
         Speaks C.history C.left C.bound C.faults console.old console.new result
-        (seen (search_turn b db.now typed.now (group_at db.now head) state.old).events) }
-    ensures state { let b = is_for_noun (noun_of (action_at db.now head).vocab) noun in
-        OnOk result (state.new ≡ (search_turn b db.now typed.now (group_at db.now head) state.old).value.state) }
-    ensures found { let b = is_for_noun (noun_of (action_at db.now head).vocab) noun in
-        IfOk result (λ found. found ≡ (search_turn b db.now typed.now (group_at db.now head) state.old).value.found) }
-    ensures fits { Fits db.now state.new }
+        (seen (search_turn b game.now typed.now (group_at game.now head) state.old).events) }
+    ensures state { let b = is_for_noun (noun_of (action_at game.now head).vocab) noun in
+        OnOk result (state.new ≡ (search_turn b game.now typed.now (group_at game.now head) state.old).value.state) }
+    ensures found { let b = is_for_noun (noun_of (action_at game.now head).vocab) noun in
+        IfOk result (λ found. found ≡ (search_turn b game.now typed.now (group_at game.now head) state.old).value.found) }
+    ensures fits { Fits game.now state.new }
 {
-    if is_meant(db, head, noun) {
-        match try_group(db, state, head, typed, console) {
+    if is_meant(game.db(), head, noun) {
+        match try_group(game.db(), state, head, typed, console) {
             Ok(ran) => Ok(found_of(ran)),
             Err(fault) => Err(fault),
         }
@@ -108,30 +108,29 @@ fn at_least(found: Found, before: Found) -> Found
 ///
 /// The console's fault alone is a refusal; the state fits then too. docs/TURN.md, "Groups", has the rule.
 pub fn search<C: Console>(
-    db: &Db,
+    game: &Game,
     state: &mut State,
     command: Command,
     typed: &[u8],
     console: &mut C,
 ) -> Result<Found, ConsoleFault>
-    requires { Fits db.now state.old }
+    requires { Fits game.now state.old }
     ensures spoken { Speaks C.history C.left C.bound C.faults console.old console.new result
-        (seen (searched db.now typed.now command.verb command.noun (groups db.now) state.old).events) }
+        (seen (searched game.now typed.now command.verb command.noun (groups game.now) state.old).events) }
     ensures left { IfOk result
-        (λ found. (searched db.now typed.now command.verb command.noun (groups db.now) state.old).value
+        (λ found. (searched game.now typed.now command.verb command.noun (groups game.now) state.old).value
         ≡ record { state = state.new; found = found }) }
-    ensures fits { Fits db.now state.new }
+    ensures fits { Fits game.now state.new }
 {
-    let _lines = db.actions();
     let mut before = Found::NoMatch;
-    let mut line = 0;
-    while let Some(head) = next_head(db, command.verb, line) {
-        let found = take_turn(db, state, head, command.noun, typed, console)?;
+    let mut next = game.first_head(command.verb, 0);
+    while let Some(head) = next {
+        let found = take_turn(game, state, head, command.noun, typed, console)?;
         if ends_search(found) {
             return Ok(found);
         }
         before = at_least(found, before);
-        line = head + 1;
+        next = game.head_behind(head);
     }
     Ok(before)
 }

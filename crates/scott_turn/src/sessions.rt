@@ -8,6 +8,7 @@ ghost use Rattle.scott_rules.specs.Play.{go, ending_of};
 ghost use Rattle.scott_turn.specs.Handed.{given, said};
 ghost use Rattle.scott_turn.specs.Played.{Leaves, Plays, GoesOn, EndingIsKnown};
 
+use crate::games::Game;
 use crate::hearing::hear_on;
 use crate::rounds::play_on;
 use adv_draws::Draws;
@@ -23,7 +24,7 @@ use std::marker::Model;
 /// the session.
 #[derive(Drop)]
 pub struct Session<'a> {
-    db: &'a Db,
+    game: Game<'a>,
     position: Position,
     state: State,
     broken: bool,
@@ -36,9 +37,9 @@ impl<'a> Model for Session<'a> {
 
     ghost Value = { Sitting };
 
-    ghost view = { λ s. record { game = s.db.now; position = s.position; state = s.state; broken = s.broken } };
+    ghost view = { λ s. record { game = s.game; position = s.position; state = s.state; broken = s.broken } };
 
-    ghost invariant = { λ s. Fits s.db.now s.state × EndsWell s.position };
+    ghost invariant = { λ s. Fits s.game s.state × EndsWell s.position };
 }
 
 // Why a play that stands at a position stopped.
@@ -55,14 +56,15 @@ fn ending_of(position: Position) -> Ending
 
 impl<'a> Session<'a> {
     /// A session at the beginning of a game. Once it is open it takes no memory.
-    pub fn open(_alloc: Global, db: &'a Db) -> Result<Session<'a>, Memory>
+    pub fn open(alloc: Global, db: &'a Db) -> Result<Session<'a>, Memory>
         ensures game { IfOk result (λ session. session.game ≡ db.now) }
         ensures position { IfOk result (λ session. session.position ≡ Position.Fresh) }
         ensures state { IfOk result (λ session. session.state ≡ start db.now) }
         ensures whole { IfOk result (λ session. session.broken ≡ false) }
     {
+        let game = Game::of(alloc, db)?;
         Ok(Session {
-            db,
+            game,
             position: Position::Fresh,
             state: State::start(db),
             broken: false,
@@ -93,7 +95,7 @@ impl<'a> Session<'a> {
     {
         play_spends();
         play_splits();
-        match play_on(self.db, &mut self.state, self.position, draws, console) {
+        match play_on(&self.game, &mut self.state, self.position, draws, console) {
             Ok(position) => {
                 self.position = position;
                 Ok(ending_of(position))
@@ -129,7 +131,7 @@ impl<'a> Session<'a> {
         play_spends();
         endings_are_three();
         match hear_on(
-            self.db,
+            &self.game,
             &mut self.state,
             self.position,
             draws,

@@ -11,6 +11,7 @@ ghost use Rattle.scott_rules.specs.Transfer.{verb_for, is_met, is_refused, none_
 ghost use Rattle.scott_turn.specs.Seen.{seen};
 ghost use Rattle.scott_turn.specs.Meetings.{item_at, moved_or_not, ending_in, item_lines, behind_lines, meeting, ends_sweep, over_in, is_met_by};
 
+use crate::games::Game;
 use crate::saying::{say_any, say_only};
 use crate::searching::{Command, search};
 use crate::transferring::{is_at_hand, is_refused, transfer_item};
@@ -86,22 +87,28 @@ fn ending_in(found: Found) -> Option<u8>
 // Searches the lines for an item, with the command's verb and the item's own noun. Only an ending of theirs
 // counts.
 fn try_lines<C: Console>(
-    db: &Db,
+    game: &Game,
     state: &mut State,
     transfer: Transfer,
     i: u8,
     typed: &[u8],
     console: &mut C,
 ) -> Result<Option<u8>, ConsoleFault>
-    requires fits { Fits db.now state.old }
-    requires there { i < length db.now.items }
+    requires fits { Fits game.now state.old }
+    requires there { i < length game.now.items }
     ensures spoken { Speaks C.history C.left C.bound C.faults console.old console.new result
-        (seen (item_lines transfer db.now typed.now (item_at db.now i) state.old).events) }
-    ensures left { IfOk result (λ over. (item_lines transfer db.now typed.now (item_at db.now i) state.old).value
+        (seen (item_lines transfer game.now typed.now (item_at game.now i) state.old).events) }
+    ensures left { IfOk result (λ over. (item_lines transfer game.now typed.now (item_at game.now i) state.old).value
         ≡ record { state = state.new; over = over }) }
-    ensures fits { Fits db.now state.new }
+    ensures fits { Fits game.now state.new }
 {
-    match search(db, state, command_for(db, transfer, i), typed, console) {
+    match search(
+        game,
+        state,
+        command_for(game.db(), transfer, i),
+        typed,
+        console,
+    ) {
         Ok(found) => Ok(ending_in(found)),
         Err(fault) => Err(fault),
     }
@@ -188,50 +195,50 @@ fn go_on_behind<C: Console>(
 
 // The turn of an item that is met: its lines are searched first.
 fn meet<C: Console>(
-    db: &Db,
+    game: &Game,
     state: &mut State,
     transfer: Transfer,
     i: u8,
     typed: &[u8],
     console: &mut C,
 ) -> Result<Meeting, ConsoleFault>
-    requires fits { Fits db.now state.old }
-    requires there { i < length db.now.items }
+    requires fits { Fits game.now state.old }
+    requires there { i < length game.now.items }
     ensures spoken { Speaks C.history C.left C.bound C.faults console.old console.new result
-        (seen (meeting true transfer db.now typed.now i (item_at db.now i) state.old).events) }
+        (seen (meeting true transfer game.now typed.now i (item_at game.now i) state.old).events) }
     ensures left { IfOk result
-        (λ found. (meeting true transfer db.now typed.now i (item_at db.now i) state.old).value
+        (λ found. (meeting true transfer game.now typed.now i (item_at game.now i) state.old).value
         ≡ record { state = state.new; meeting = found }) }
-    ensures fits { Fits db.now state.new }
+    ensures fits { Fits game.now state.new }
 {
-    match try_lines(db, state, transfer, i, typed, console) {
-        Ok(over) => go_on_behind(db, state, transfer, i, over, console),
+    match try_lines(game, state, transfer, i, typed, console) {
+        Ok(over) => go_on_behind(game.db(), state, transfer, i, over, console),
         Err(fault) => Err(fault),
     }
 }
 
 // An item's turn, whether or not it is met.
 fn take_turn<C: Console>(
-    db: &Db,
+    game: &Game,
     state: &mut State,
     transfer: Transfer,
     i: u8,
     typed: &[u8],
     console: &mut C,
 ) -> Result<Meeting, ConsoleFault>
-    requires fits { Fits db.now state.old }
-    requires there { i < length db.now.items }
-    ensures spoken { let met = is_met transfer i (item_at db.now i) state.old in
+    requires fits { Fits game.now state.old }
+    requires there { i < length game.now.items }
+    ensures spoken { let met = is_met transfer i (item_at game.now i) state.old in
         Speaks C.history C.left C.bound C.faults console.old console.new result
-        (seen (meeting met transfer db.now typed.now i (item_at db.now i) state.old).events) }
-    ensures left { let met = is_met transfer i (item_at db.now i) state.old in
-        IfOk result (λ found. (meeting met transfer db.now typed.now i (item_at db.now i) state.old).value
+        (seen (meeting met transfer game.now typed.now i (item_at game.now i) state.old).events) }
+    ensures left { let met = is_met transfer i (item_at game.now i) state.old in
+        IfOk result (λ found. (meeting met transfer game.now typed.now i (item_at game.now i) state.old).value
         ≡ record { state = state.new; meeting = found }) }
-    ensures fits { Fits db.now state.new }
+    ensures fits { Fits game.now state.new }
 {
-    let item = &db.items()[i as usize];
+    let item = &game.db().items()[i as usize];
     if is_met(state, transfer, i, item) {
-        meet(db, state, transfer, i, typed, console)
+        meet(game, state, transfer, i, typed, console)
     } else {
         Ok(Meeting::Passed)
     }
@@ -269,22 +276,22 @@ fn is_met_by(meeting: Meeting, before: bool) -> bool
 
 // The walk over the items, in order, until the command ends.
 fn sweep<C: Console>(
-    db: &Db,
+    game: &Game,
     state: &mut State,
     transfer: Transfer,
     typed: &[u8],
     console: &mut C,
 ) -> Result<Swept, ConsoleFault>
-    requires { Fits db.now state.old }
+    requires { Fits game.now state.old }
     ensures spoken { Speaks C.history C.left C.bound C.faults console.old console.new result
-        (seen (sweep transfer db.now typed.now 0 db.now.items state.old).events) }
-    ensures left { IfOk result (λ swept. (sweep transfer db.now typed.now 0 db.now.items state.old).value
+        (seen (sweep transfer game.now typed.now 0 game.now.items state.old).events) }
+    ensures left { IfOk result (λ swept. (sweep transfer game.now typed.now 0 game.now.items state.old).value
         ≡ record { state = state.new; over = swept.over; met = swept.met }) }
-    ensures fits { Fits db.now state.new }
+    ensures fits { Fits game.now state.new }
 {
     let mut met = false;
-    for i in 0..db.items().len() {
-        let meeting = take_turn(db, state, transfer, i as u8, typed, console)?;
+    for i in 0..game.db().items().len() {
+        let meeting = take_turn(game, state, transfer, i as u8, typed, console)?;
         if ends_sweep(meeting) {
             return Ok(Swept {
                 over: over_in(meeting),
@@ -325,20 +332,20 @@ fn text_behind(swept: Swept, transfer: Transfer) -> &'static [u8]
 
 // The walk over the items, and what is said behind it.
 fn sweep_all<C: Console>(
-    db: &Db,
+    game: &Game,
     state: &mut State,
     transfer: Transfer,
     typed: &[u8],
     console: &mut C,
 ) -> Result<Option<u8>, ConsoleFault>
-    requires { Fits db.now state.old }
+    requires { Fits game.now state.old }
     ensures spoken { Speaks C.history C.left C.bound C.faults console.old console.new result
-        (seen (all_from false transfer db.now typed.now state.old).events) }
-    ensures left { IfOk result (λ over. (all_from false transfer db.now typed.now state.old).value
+        (seen (all_from false transfer game.now typed.now state.old).events) }
+    ensures left { IfOk result (λ over. (all_from false transfer game.now typed.now state.old).value
         ≡ record { state = state.new; over = over }) }
-    ensures fits { Fits db.now state.new }
+    ensures fits { Fits game.now state.new }
 {
-    match sweep(db, state, transfer, typed, console) {
+    match sweep(game, state, transfer, typed, console) {
         Ok(swept) => match say_any(text_behind(swept, transfer), console) {
             Ok(()) => Ok(swept.over),
             Err(fault) => Err(fault),
@@ -352,22 +359,22 @@ fn sweep_all<C: Console>(
 /// The console's fault alone is a refusal; the state fits then too. docs/TURN.md, "Get and drop", has the
 /// rule.
 pub fn transfer_all<C: Console>(
-    db: &Db,
+    game: &Game,
     state: &mut State,
     transfer: Transfer,
     typed: &[u8],
     console: &mut C,
 ) -> Result<Option<u8>, ConsoleFault>
-    requires { Fits db.now state.old }
+    requires { Fits game.now state.old }
     ensures spoken { Speaks C.history C.left C.bound C.faults console.old console.new result
-        (seen (all_transferred transfer db.now typed.now state.old).events) }
-    ensures left { IfOk result (λ over. (all_transferred transfer db.now typed.now state.old).value
+        (seen (all_transferred transfer game.now typed.now state.old).events) }
+    ensures left { IfOk result (λ over. (all_transferred transfer game.now typed.now state.old).value
         ≡ record { state = state.new; over = over }) }
-    ensures fits { Fits db.now state.new }
+    ensures fits { Fits game.now state.new }
 {
     if is_too_dark(state, transfer) {
         say_only(Phrase::DarkGet.text(), console)
     } else {
-        sweep_all(db, state, transfer, typed, console)
+        sweep_all(game, state, transfer, typed, console)
     }
 }

@@ -10,22 +10,22 @@ use Rattle.scott_turn.proofs.hearing.hear_on.Goals as goal
 pub returns-in_err-reached-clause-spoken : goal.returns-in_err-reached-clause-spoken
 returns-in_err-reached-clause-spoken g c =
     let p = err_from_is_err_and c.from_residual.result c.from_residual.ensures.1 in
-    let up = (advance c.args.db.now c.args.position c.args.state.now c.args.draws.now.left).events in
-    let front = said-front c.play_spends.ensures c.args.db.now c.args.position c.args.state.now c.args.draws.now.left c.args.line in
+    let up = (advance c.args.game.now c.args.position c.args.state.now c.args.draws.now.left).events in
+    let front = said-front c.play_spends.ensures c.args.game.now c.args.position c.args.state.now c.args.draws.now.left c.args.line in
     rw (p.1, front.1) (steps_stop p.0 up front.0 c.in_err-reached.ensures.spoken)
 
 pub returns-in-None-clause-spoken : goal.returns-in-None-clause-spoken
 returns-in-None-clause-spoken g c =
-    rw (c.in-None.is, ← said-none c.play_spends.ensures c.args.db.now c.args.position c.args.state.now c.args.draws.now.left)
+    rw (c.in-None.is, ← said-none c.play_spends.ensures c.args.game.now c.args.position c.args.state.now c.args.draws.now.left)
     (as_ok _ c.in_ok-reached.ensures.spoken)
 
 pub returns-in-None-clause-left : goal.returns-in-None-clause-left
 returns-in-None-clause-left g c =
-    rw c.in-None.is (left-none c.args.db.now c.args.position c.in_ok-reached.reached c.args.state.now c.advance.new.state c.args.draws.now.left c.advance.new.draws.left c.in_ok-reached.ensures.left)
+    rw c.in-None.is (left-none c.args.game.now c.args.position c.in_ok-reached.reached c.args.state.now c.advance.new.state c.args.draws.now.left c.advance.new.draws.left c.in_ok-reached.ensures.left)
 
 pub returns-in-Some : goal.returns-in-Some
 returns-in-Some g c =
-    let db = c.args.db.now in
+    let db = c.args.game.now in
     let t = advance db c.args.position c.args.state.now c.args.draws.now.left in
     let line = c.in-Some.line.now in
     let reached : c.in_ok-reached.reached ≡ t.value.position = sym (ap (λ v. v.position) c.in_ok-reached.ensures.left) in

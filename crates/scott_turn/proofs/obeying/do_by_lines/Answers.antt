@@ -7,7 +7,7 @@ use Rattle.scott_turn.proofs.obeying.do_by_lines.Goals as goal
 
 pub returns-in-Ok-clause-spoken : goal.returns-in-Ok-clause-spoken
 returns-in-Ok-clause-spoken g c =
-    let db = c.args.db.now in
+    let db = c.args.game.now in
     let verb = c.args.command.verb in
     let noun = c.args.command.noun in
     let t = searched db c.args.typed.now verb noun (groups db) c.args.state.now in
@@ -18,7 +18,7 @@ returns-in-Ok-clause-spoken g c =
 
 pub returns-in-Err-clause-spoken : goal.returns-in-Err-clause-spoken
 returns-in-Err-clause-spoken g c =
-    let db = c.args.db.now in
+    let db = c.args.game.now in
     let verb = c.args.command.verb in
     let noun = c.args.command.noun in
     let t = searched db c.args.typed.now verb noun (groups db) c.args.state.now in

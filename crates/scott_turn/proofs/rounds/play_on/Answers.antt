@@ -10,14 +10,14 @@ returns-in_err-round-clause-told g c =
     let p = err_from_is_err_and c.from_residual.result c.from_residual.ensures.1 in
     rw (p.1)
     (ahead_fail console.history console.left c.args.console.now c.loop-round.console c.go_round.new.console
-    (λ lines. go c.args.db.now c.args.position c.args.state.now lines c.args.draws.now.left) c.args.db.now c.loop-round.position c.loop-round.state c.loop-round.draws.left
+    (λ lines. go c.args.game.now c.args.position c.args.state.now lines c.args.draws.now.left) c.args.game.now c.loop-round.position c.loop-round.state c.loop-round.draws.left
     (console.left c.args.console.now) c.in_err-round.field-0.0 p.0 c.go_round.new.state c.go_round.new.draws.left c.loop-round.invariant.ahead c.in_err-round.ensures.told)
 
 pub returns-then-round-clause-told : goal.returns-then-round-clause-told
 returns-then-round-clause-told g c =
     let console = g.C.Console in
     ahead_end console.history console.left c.args.console.now c.loop-round.console c.go_round.new.console
-    (λ lines. go c.args.db.now c.args.position c.args.state.now lines c.args.draws.now.left) c.args.db.now c.loop-round.position c.loop-round.state c.loop-round.draws.left
+    (λ lines. go c.args.game.now c.args.position c.args.state.now lines c.args.draws.now.left) c.args.game.now c.loop-round.position c.loop-round.state c.loop-round.draws.left
     (console.left c.args.console.now) c.in_ok-round.round c.go_round.new.state c.go_round.new.draws.left c.if-round.true c.loop-round.invariant.ahead c.in_ok-round.ensures.told
 
 pub loop-round-preserved : goal.loop-round-preserved
@@ -30,7 +30,7 @@ loop-round-preserved g c =
       bounded = omega (arith, c.loop-round.invariant.bounded, c.go_round.ensures.bounded);
       later = omega (arith, c.loop-round.invariant.later, c.go_round.ensures.cause.later);
       ahead = ahead_step console.history console.left c.args.console.now c.loop-round.console c.go_round.new.console
-          (λ lines. go c.args.db.now c.args.position c.args.state.now lines c.args.draws.now.left) c.args.db.now c.loop-round.position c.loop-round.state c.loop-round.draws.left
+          (λ lines. go c.args.game.now c.args.position c.args.state.now lines c.args.draws.now.left) c.args.game.now c.loop-round.position c.loop-round.state c.loop-round.draws.left
           (console.left c.args.console.now) c.in_ok-round.round c.go_round.new.state c.go_round.new.draws.left c.if-round.false c.loop-round.invariant.ahead c.in_ok-round.ensures.told;
     }
 
@@ -43,5 +43,5 @@ loop-round-init g c =
       taken = refl;
       bounded = omega arith;
       later = omega arith;
-      ahead = ahead_start console.history console.left c.args.console.now (console.left c.args.console.now) c.args.db.now c.args.position c.args.state.now c.args.draws.now.left refl;
+      ahead = ahead_start console.history console.left c.args.console.now (console.left c.args.console.now) c.args.game.now c.args.position c.args.state.now c.args.draws.now.left refl;
     }

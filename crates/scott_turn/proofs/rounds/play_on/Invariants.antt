@@ -10,13 +10,13 @@ abbrev pub invariant-loop-round : goal.invariant-loop-round
 invariant-loop-round g l =
     let console = g.C.Console in
     record {
-      fits : Fits l.db l.state;
+      fits : Fits l.game l.state;
       ends : EndsWell l.position;
       taken : l.draws.taken + length l.draws.left ≡ l.initial.draws.taken + length l.initial.draws.left;
       bounded : console.bound l.console ≤ console.bound l.initial.console;
       later : console.faults l.initial.console ≤ console.faults l.console;
       ahead : IfSome (console.left l.initial.console) (λ lines.
-          Ahead console.history console.left l.initial.console l.console (go l.db l.initial.position l.initial.state lines l.initial.draws.left) l.db l.position l.state l.draws.left);
+          Ahead console.history console.left l.initial.console l.console (go l.game l.initial.position l.initial.state lines l.initial.draws.left) l.game l.position l.state l.draws.left);
     }
 
 -- each round but the last takes a line

@@ -8,9 +8,9 @@ use Rattle.scott_turn.proofs.sweeping.sweep.Goals as goal
 
 pub returns-in_err-meeting-clause-spoken : goal.returns-in_err-meeting-clause-spoken
 returns-in_err-meeting-clause-spoken g c =
-    let db = c.args.db.now in
+    let db = c.args.game.now in
     let i = c.loop-i.i in
-    let there : i < length db.items = omega (arith, ap length c.items-i-end.ensures.value) in
+    let there : i < length db.items = omega (arith, ap length (rw c.db.ensures at c.items-i-end.ensures.value)) in
     let t = turn_of c.args.transfer db c.args.typed.now i c.loop-i.state in
     let p = err_from_is_err_and c.from_residual.result c.from_residual.ensures.1 in
     rw (p.1)
@@ -20,27 +20,27 @@ returns-in_err-meeting-clause-spoken g c =
 
 pub returns-then-ends_sweep-clause-spoken : goal.returns-then-ends_sweep-clause-spoken
 returns-then-ends_sweep-clause-spoken g c =
-    let db = c.args.db.now in
+    let db = c.args.game.now in
     let i = c.loop-i.i in
-    let there : i < length db.items = omega (arith, ap length c.items-i-end.ensures.value) in
+    let there : i < length db.items = omega (arith, ap length (rw c.db.ensures at c.items-i-end.ensures.value)) in
     along_end (turn_of c.args.transfer db c.args.typed.now i c.loop-i.state).events c.loop-i.invariant.along
     (ap (λ w. w.events) (sweep-end c.args.transfer db c.args.typed.now i c.loop-i.state there c.in_ok-meeting.meeting c.loop-i.met c.take_turn.new.state c.in_ok-meeting.ensures.left (sym c.if-ends_sweep.ensures)))
     (as_ok _ c.in_ok-meeting.ensures.spoken)
 
 pub returns-then-ends_sweep-clause-left : goal.returns-then-ends_sweep-clause-left
 returns-then-ends_sweep-clause-left g c =
-    let db = c.args.db.now in
+    let db = c.args.game.now in
     let i = c.loop-i.i in
-    let there : i < length db.items = omega (arith, ap length c.items-i-end.ensures.value) in
+    let there : i < length db.items = omega (arith, ap length (rw c.db.ensures at c.items-i-end.ensures.value)) in
     along_value c.loop-i.invariant.along
     ∙ ap (λ w. w.value) (sweep-end c.args.transfer db c.args.typed.now i c.loop-i.state there c.in_ok-meeting.meeting c.loop-i.met c.take_turn.new.state c.in_ok-meeting.ensures.left (sym c.if-ends_sweep.ensures))
     ∙ rw c.over_in.ensures refl
 
 pub loop-i-preserved : goal.loop-i-preserved
 loop-i-preserved g c =
-    let db = c.args.db.now in
+    let db = c.args.game.now in
     let i = c.loop-i.i in
-    let there : i < length db.items = omega (arith, ap length c.items-i-end.ensures.value) in
+    let there : i < length db.items = omega (arith, ap length (rw c.db.ensures at c.items-i-end.ensures.value)) in
     record {
       few = c.loop-i.invariant.few;
       fits = c.take_turn.ensures.fits;

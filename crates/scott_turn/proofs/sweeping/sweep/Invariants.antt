@@ -10,9 +10,9 @@ abbrev pub invariant-loop-i : goal.invariant-loop-i
 invariant-loop-i g l =
     let console = g.C.Console in
     record {
-      few : length l.db.items ≤ 255;
-      fits : Fits l.db l.state;
+      few : length l.game.items ≤ 255;
+      fits : Fits l.game l.state;
       along : Along console.history console.left console.bound console.faults
-          (sweep l.transfer l.db l.typed 0 l.db.items l.initial.state)
-          (met_before l.met (sweep l.transfer l.db l.typed l.i (drop l.i l.db.items) l.state)) l.initial.console l.console;
+          (sweep l.transfer l.game l.typed 0 l.game.items l.initial.state)
+          (met_before l.met (sweep l.transfer l.game l.typed l.i (drop l.i l.game.items) l.state)) l.initial.console l.console;
     }

@@ -1,0 +1,101 @@
+//! A game with an index of its heads: the first head of each verb, and behind each head the next one of its verb.
+ghost use Rattle.std.specs.Prelude.{◌≡◌, ◌≢◌, ◌+◌, ◌<◌, [], length, IfOk, OnOk, MatchOption, nat_eq};
+ghost use Rattle.indexmap.specs.IndexMap.{get};
+ghost use Rattle.scott_types.specs.Action.{verb_of};
+ghost use Rattle.scott_rules.specs.Lines.{action_at};
+ghost use Rattle.scott_turn.specs.Heads.{groups_for, ComesNext, HasFirsts, IsBehind};
+
+use crate::heads::next_head;
+use adv_io::Memory;
+use indexmap::IndexMap;
+use scott_types::Db;
+use std::alloc::Global;
+use std::marker::Model;
+
+/// A game, and an index of its heads by their verbs.
+///
+/// A clause sees the database alone: the index says nothing that the lines don't say.
+#[derive(Drop)]
+pub struct Game<'a> {
+    db: &'a Db,
+    // For each verb of a head its first head.
+    firsts: IndexMap<u32, u16>,
+    // For each line that is a head the next head of its verb behind it.
+    nexts: Vec<Option<u16>>,
+}
+
+impl<'a> Model for Game<'a> {
+    ghost use Rattle.std.specs.Prelude.{nat_eq};
+    ghost use Rattle.indexmap.specs.IndexMap.{get};
+    ghost use Rattle.scott_types.specs.Database.{Database};
+    ghost use Rattle.scott_turn.specs.Heads.{IsIndex};
+
+    ghost Value = { Database };
+
+    ghost view = { λ g. g.db.now };
+
+    ghost invariant = { λ g. IsIndex g.db.now (get nat_eq g.firsts) g.nexts.items };
+}
+
+// Puts a line in front of those whose first heads are known, and tells the head behind it of its verb.
+fn put_in_front(firsts: &mut IndexMap<u32, u16>, db: &Db, line: u16) -> Result<Option<u16>, Memory>
+    requires there { line < length db.now.actions }
+    requires behind { HasFirsts db.now (line + 1) (get nat_eq firsts.old) }
+    ensures firsts { OnOk result (HasFirsts db.now line (get nat_eq firsts.new)) }
+    ensures next { IfOk result (λ next. IsBehind db.now line next) }
+{
+    let action = &db.actions()[line as usize];
+    if action.vocab == 0 {
+        return Ok(None);
+    }
+    let next = firsts.insert(action.vocab / 150, line)?;
+    Ok(next)
+}
+
+impl<'a> Game<'a> {
+    /// The game of a database. Its lines are read once, the last first.
+    pub fn of(alloc: Global, db: &'a Db) -> Result<Game<'a>, Memory>
+        ensures { IfOk result (λ game. game ≡ db.now) }
+    {
+        let lines = db.actions().len();
+        let mut firsts = IndexMap::new(alloc);
+        let mut nexts: Vec<Option<u16>> = vec![in alloc; None; lines]?;
+        for line in (0..lines).rev() {
+            nexts[line] = put_in_front(&mut firsts, db, line as u16)?;
+        }
+        Ok(Game { db, firsts, nexts })
+    }
+
+    /// The database of the game.
+    pub fn db(&self) -> &'a Db
+        ensures { result.now ≡ self.now }
+    {
+        self.db
+    }
+
+    /// The first head of a verb, at a line or behind it.
+    ///
+    /// From line 0 on the index has it. From any other the lines are walked: that comes only where a play
+    /// goes on that waited for a draw.
+    pub fn first_head(&self, verb: u16, from: u16) -> Option<u16>
+        ensures { MatchOption result
+            (groups_for self.now verb from ≡ []) (λ head. ComesNext self.now verb from head) }
+    {
+        if from == 0 {
+            self.firsts.get(&u32::from(verb)).copied()
+        } else {
+            next_head(self.db, verb, from)
+        }
+    }
+
+    /// The next head of a head's verb, behind it.
+    pub fn head_behind(&self, head: u16) -> Option<u16>
+        requires there { head < length self.now.actions }
+        requires head { (action_at self.now head).vocab ≢ 0 }
+        ensures { let verb = verb_of (action_at self.now head).vocab in
+            MatchOption result
+            (groups_for self.now verb (head + 1) ≡ []) (λ next. ComesNext self.now verb (head + 1) next) }
+    {
+        self.nexts[head as usize]
+    }
+}
