@@ -1,13 +1,22 @@
 //! What an action line does: its conditions, its opcodes, and the line as a whole.
 #![tactic(auto)]
 
-pub mod conditions;
-pub mod counters;
-pub mod deeds;
-pub mod flags;
-pub mod items;
-pub mod lines;
-pub mod messages;
-pub mod rooms;
+mod conditions;
+
+// What an opcode changes: items, the room, flags, counters.
+mod counters;
+mod flags;
+mod items;
+mod rooms;
+
+// What it says, and all that it does.
+mod deeds;
+mod lines;
+mod messages;
+
+pub use conditions::{holds, passes};
+pub use items::is_full;
+pub use lines::perform;
+
 #[cfg(test)]
 mod tests;

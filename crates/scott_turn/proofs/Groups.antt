@@ -9,9 +9,6 @@ use Rattle.scott_rules.specs.Lines.{action_at}
 use Rattle.scott_rules.specs.Groups.{Group, tail_of, groups_of, groups_from}
 use Rattle.scott_turn.specs.Heads.{tail_from, group_at, has_verb, groups_for, is_head_of, ComesNext, TailGoesOn, IsFirst, IsHead, line_of}
 
-no_line : Action
-no_line = record { vocab = 0; conds = []; pairs = [] }
-
 -- the lines from one on begin with it
 lines_from : (db : Database) (line : ℕ) → line < length db.actions → drop line db.actions ≡ action_at db line ∷ drop (line + 1) db.actions
 lines_from db line there = drop-cons db.actions line (record { vocab = 0; conds = []; pairs = [] }) there ∙ ap (λ n. action_at db line ∷ drop n db.actions) (sym (add-one line))

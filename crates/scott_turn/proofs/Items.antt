@@ -17,8 +17,8 @@ use Rattle.scott_rules.specs.Words.{is_empty, is_typed, which}
 use Rattle.scott_rules.specs.Groups.{groups}
 use Rattle.scott_rules.specs.Search.{SearchOutcome, searched}
 use Rattle.scott_rules.specs.Transfer.{verb_for, is_at_hand, item_named, Sweep, is_met, is_refused, after_meeting, sweep_moved, sweep_behind, sweep_item, sweep}
-use Rattle.scott_turn.specs.declared.sweeping.Meeting.{Meeting}
-use Rattle.scott_turn.specs.declared.sweeping.Meeting.TheVariants.{Passed, Moved, Ended}
+use Rattle.scott_turn.specs.declared.meetings.Meeting.{Meeting}
+use Rattle.scott_turn.specs.declared.meetings.Meeting.TheVariants.{Passed, Moved, Ended}
 use Rattle.scott_turn.specs.Meetings.{MeetOutcome, item_at, moved_or_not, ending_in, item_lines, behind_lines, meeting, by_meeting, met_before, is_met_by, ends_sweep, over_in}
 use Rattle.scott_turn.proofs.Going.{after-after}
 

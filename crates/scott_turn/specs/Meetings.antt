@@ -15,8 +15,8 @@ use Rattle.scott_rules.specs.Words.{which}
 use Rattle.scott_rules.specs.Groups.{groups}
 use Rattle.scott_rules.specs.Search.{searched}
 use Rattle.scott_rules.specs.Transfer.{verb_for, transferred, is_refused, Sweep, after_meeting}
-use Rattle.scott_turn.specs.declared.sweeping.Meeting.{Meeting}
-use Rattle.scott_turn.specs.declared.sweeping.Meeting.TheVariants.{Passed, Moved, Ended}
+use Rattle.scott_turn.specs.declared.meetings.Meeting.{Meeting}
+use Rattle.scott_turn.specs.declared.meetings.Meeting.TheVariants.{Passed, Moved, Ended}
 
 -- an item by its number
 abbrev pub item_at : Database → ℕ → Item

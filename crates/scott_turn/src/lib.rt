@@ -10,6 +10,7 @@ mod trying;
 
 // What commands do by themselves: get, drop and go.
 mod choosing;
+mod meetings;
 mod saying;
 mod sweeping;
 mod transferring;

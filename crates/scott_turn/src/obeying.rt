@@ -9,9 +9,10 @@ ghost use Rattle.scott_turn.specs.Seen.{seen};
 
 use crate::choosing::transfer_one;
 use crate::games::Game;
+use crate::meetings::{DROP, GET};
 use crate::saying::say_only;
 use crate::searching::{Command, search};
-use crate::sweeping::{DROP, GET, transfer_all};
+use crate::sweeping::transfer_all;
 use crate::walking::walk;
 use adv_io::{Console, ConsoleFault};
 use scott_types::{Found, Phrase, State, Transfer};

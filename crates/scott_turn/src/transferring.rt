@@ -5,7 +5,7 @@ ghost use Rattle.scott_types.specs.State.{Fits};
 ghost use Rattle.scott_rules.specs.Words.{is_empty};
 ghost use Rattle.scott_rules.specs.Transfer.{is_at_hand, destination, transferred, is_refused};
 
-use scott_actions::items::is_full;
+use scott_actions::is_full;
 use scott_rules::laws::transfer_fits;
 use scott_types::places::CARRIED;
 use scott_types::{Db, State, Transfer};

@@ -9,7 +9,7 @@ ghost use Rattle.scott_turn.specs.Heads.{tail_from, group_at};
 
 use crate::heads::tail_goes_on;
 use adv_io::{Console, ConsoleFault};
-use scott_actions::lines::perform;
+use scott_actions::perform;
 use scott_types::{Db, Ran, State};
 
 // Tries an action line.

@@ -1,6 +1,6 @@
 use Rattle.scott_turn.proofs.Going.{as_ok}
 use Rattle.scott_turn.proofs.Items.{lines-left}
-use Rattle.scott_turn.proofs.sweeping.try_lines.Goals as goal
+use Rattle.scott_turn.proofs.meetings.try_lines.Goals as goal
 
 pub returns-in-Ok-clause-spoken : goal.returns-in-Ok-clause-spoken
 returns-in-Ok-clause-spoken g c =

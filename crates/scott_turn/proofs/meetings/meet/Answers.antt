@@ -1,7 +1,7 @@
 use Rattle.std.proofs.Common.{◌≡◌, sym, ap}
 use Rattle.scott_turn.specs.Meetings.{item_at, item_lines, behind_lines}
 use Rattle.scott_turn.proofs.Going.{steps_then, steps_stop}
-use Rattle.scott_turn.proofs.sweeping.meet.Goals as goal
+use Rattle.scott_turn.proofs.meetings.meet.Goals as goal
 
 pub returns-in-Ok : goal.returns-in-Ok
 returns-in-Ok g c =
