@@ -3,6 +3,7 @@
 
 pub mod faults;
 pub mod laws;
+mod quoted;
 pub mod scan;
 pub mod writing;
 

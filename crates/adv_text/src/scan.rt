@@ -1,11 +1,11 @@
 //! A scan over the bytes of a file.
-ghost use Rattle.std.specs.Prelude.{◌≡◌, ◌≢◌, ◌+◌, List, ℕ, ℤ, IfOk, IfErr, OnErr, OnOk, ◌++◌, ◌∷◌, [], ◌<◌, ◌≤◌, ◌-◌, length, Ok, Err, MatchResult, ◌↔◌, true, false};
-ghost use Rattle.std.specs.List.{prefix_len};
+ghost use Rattle.std.specs.Prelude.{◌≡◌, ◌≢◌, ◌+◌, List, ℕ, ℤ, IfOk, IfErr, OnErr, OnOk, ◌<◌, ◌≤◌, ◌-◌, length, Ok, Err, MatchResult, ◌↔◌, true, false};
 ghost use Rattle.adv_text.specs.Spelling.{is_blank, greatest, signed, Number, Quoted};
-ghost use Rattle.adv_text.specs.Reading.{Spot, spot, SameEnd, past_blanks, past_sign, amount_at, number_at, quoted_at, opening_at, inside_at, is_plain, GoesOn, Stands, IsLong, IsFaultOf, Fault, told, IsText, IsErrOrMemory};
+ghost use Rattle.adv_text.specs.Reading.{Spot, spot, SameEnd, past_blanks, past_sign, amount_at, number_at, quoted_at, opening_at, Stands, IsFaultOf, Fault, told, IsText, IsErrOrMemory};
 ghost use Rattle.adv_text.specs.Laws.{NumberFault, StringFault};
 
 use crate::faults::TextFault;
+use crate::quoted::next_piece;
 use std::alloc::Global;
 use std::marker::Model;
 
@@ -53,98 +53,6 @@ fn signed(negative: bool, amount: u64) -> i32
     } else {
         amount as i32
     }
-}
-
-// Whether a byte of a string is kept as it is.
-fn is_plain(byte: u8) -> bool
-    ensures { result ≡ is_plain byte }
-{
-    byte != b'"' && byte != b'\r' && byte != b'`'
-}
-
-// How many of the first bytes are kept as they are.
-fn plain_length(bytes: &[u8]) -> usize
-    ensures value { result ≡ prefix_len is_plain bytes.now }
-    ensures within { result ≤ length bytes.now }
-{
-    bytes.iter().take_while(|byte| is_plain(**byte)).count()
-}
-
-// Keeps more bytes of the string that was opened at this place.
-fn keep(text: &mut Vec<u8>, bytes: &[u8], opened: usize) -> Result<(), TextFault>
-    requires { length text.old.items ≤ 4096 }
-    ensures kept { OnOk result (text.new.items ≡ text.old.items ++ bytes.now) }
-    ensures short { OnOk result (length text.old.items + length bytes.now ≤ 4096) }
-    ensures long { IfErr result (λ fault. IsLong fault opened (length text.old.items + length bytes.now)) }
-{
-    if bytes.len() > 4096 - text.len() {
-        return Err(TextFault::LongString(opened));
-    }
-    text.extend_from_slice(bytes)?;
-    Ok(())
-}
-
-// Behind a quote that is held a second one is kept as one, and any other byte shows that the string has ended.
-fn behind_quote(
-    text: &mut Vec<u8>,
-    byte: u8,
-    opened: usize,
-) -> Result<Option<(usize, bool)>, TextFault>
-    requires { length text.old.items ≤ 4096 }
-    ensures piece { IfOk result (λ piece. (rest : List ℕ) → GoesOn opened true text.old.items (byte ∷ rest) text.new.items piece) }
-    ensures fault { IfErr result (λ fault. (at : ℕ) (rest : List ℕ) → Stands fault (inside_at opened true text.old.items at (byte ∷ rest))) }
-    ensures short { OnOk result (length text.new.items ≤ 4096) }
-{
-    if byte != b'"' {
-        return Ok(None);
-    }
-    keep(text, b"\"", opened)?;
-    Ok(Some((1, false)))
-}
-
-// A byte that isn't kept as it is: a quote is held, a return is dropped, and a grave accent is kept as a quote.
-fn special(text: &mut Vec<u8>, byte: u8, opened: usize) -> Result<Option<(usize, bool)>, TextFault>
-    requires short { length text.old.items ≤ 4096 }
-    requires special { is_plain byte ≡ false }
-    ensures piece { IfOk result (λ piece. (rest : List ℕ) → GoesOn opened false text.old.items (byte ∷ rest) text.new.items piece) }
-    ensures fault { IfErr result (λ fault. (at : ℕ) (rest : List ℕ) → Stands fault (inside_at opened false text.old.items at (byte ∷ rest))) }
-    ensures short { OnOk result (length text.new.items ≤ 4096) }
-{
-    if byte == b'"' {
-        return Ok(Some((1, true)));
-    }
-    if byte == b'\r' {
-        return Ok(Some((1, false)));
-    }
-    keep(text, b"\"", opened)?;
-    Ok(Some((1, false)))
-}
-
-// Reads the next piece of the string that was opened at this place: how many bytes it takes, and whether a
-// quote is held behind it. There is none where the string ends, or the file.
-fn next_piece(
-    text: &mut Vec<u8>,
-    held: bool,
-    rest: &[u8],
-    opened: usize,
-) -> Result<Option<(usize, bool)>, TextFault>
-    requires { length text.old.items ≤ 4096 }
-    ensures piece { IfOk result (λ piece. GoesOn opened held text.old.items rest.now text.new.items piece) }
-    ensures fault { IfErr result (λ fault. (at : ℕ) → Stands fault (inside_at opened held text.old.items at rest.now)) }
-    ensures short { OnOk result (length text.new.items ≤ 4096) }
-{
-    let [byte, ..] = rest else {
-        return Ok(None);
-    };
-    if held {
-        return behind_quote(text, *byte, opened);
-    }
-    if is_plain(*byte) {
-        let length = plain_length(rest);
-        keep(text, &rest[..length], opened)?;
-        return Ok(Some((length, false)));
-    }
-    special(text, *byte, opened)
 }
 
 impl<'a> Scan<'a> {

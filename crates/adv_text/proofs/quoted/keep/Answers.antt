@@ -1,6 +1,6 @@
 use Rattle.std.proofs.Common.{refl, arith}
 use Rattle.std.proofs.lemmas.Result.{err_from_is_err_and}
-use Rattle.adv_text.proofs.scan.keep.Goals as goal
+use Rattle.adv_text.proofs.quoted.keep.Goals as goal
 
 pub returns-then-bytes-len-clause-long : goal.returns-then-bytes-len-clause-long
 returns-then-bytes-len-clause-long c = (refl, omega arith)

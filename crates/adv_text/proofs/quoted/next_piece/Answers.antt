@@ -4,7 +4,7 @@ use Rattle.std.proofs.lemmas.List.{length-take}
 use Rattle.std.proofs.lemmas.List.Sums.{prefix_len_passes}
 use Rattle.adv_text.specs.Reading.{inside_at, is_plain, IsLong}
 use Rattle.adv_text.proofs.Pieces.{long-stands, run-kept, run-long, first-counts, ArePlain}
-use Rattle.adv_text.proofs.scan.next_piece.Goals as goal
+use Rattle.adv_text.proofs.quoted.next_piece.Goals as goal
 
 pub returns-in_err-keep-clause-fault : goal.returns-in_err-keep-clause-fault
 returns-in_err-keep-clause-fault c =

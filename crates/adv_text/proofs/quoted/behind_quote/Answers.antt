@@ -2,7 +2,7 @@ use Rattle.std.proofs.Common.{◌+◌, ◌∷◌, true, length}
 use Rattle.std.proofs.lemmas.Result.{err_from_is_err_and}
 use Rattle.adv_text.specs.Reading.{inside_at}
 use Rattle.adv_text.proofs.Pieces.{long-stands, quote-long}
-use Rattle.adv_text.proofs.scan.behind_quote.Goals as goal
+use Rattle.adv_text.proofs.quoted.behind_quote.Goals as goal
 
 pub returns-in_err-keep-clause-fault : goal.returns-in_err-keep-clause-fault
 returns-in_err-keep-clause-fault c =
