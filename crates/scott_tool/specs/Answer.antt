@@ -14,7 +14,7 @@ use Rattle.scott_rules.specs.Play as rules
 use Rattle.scott_tool.specs.Request.{Chance, listed, seeded, Request, check, play}
 use Rattle.scott_tool.specs.Cause.{unread, line_of, file_limit}
 use Rattle.scott_tool.specs.Work.{game_of, loads, work, IsContent, due_status, due_events}
-use Rattle.scott_tool.specs.Ending.{Heard, Concludes}
+use Rattle.scott_tool.specs.Ending.{Histories, Concludes}
 
 -- 0: done. 1: no request. 2: a file can't be read. 3: the console failed. 4: no database. 5: no draws. 9: want of memory. 11: a file is too long.
 abbrev pub statuses : List ℕ
@@ -78,18 +78,18 @@ HasDueStatus files ShelfFailed ConsoleFailed (Some request) result =
     → StandsFor ShelfFailed ConsoleFailed (due_status (work files content request)) result
 
 -- Where the shelf failed, what is said can be that a file of the request can't be read.
-abbrev pub SaysUnread : Heard → (ShelfFailed ConsoleFailed : Type 0) → List (List ℕ) → ℕ → Type 0
-SaysUnread heard ShelfFailed ConsoleFailed names result =
-    ShelfFailed × (name : List ℕ) × Contains names name × Concludes heard ConsoleFailed 2 (says (line_of (unread name))) result
+abbrev pub SaysUnread : Histories → (ShelfFailed ConsoleFailed : Type 0) → List (List ℕ) → ℕ → Type 0
+SaysUnread histories ShelfFailed ConsoleFailed names result =
+    ShelfFailed × (name : List ℕ) × Contains names name × Concludes histories ConsoleFailed 2 (says (line_of (unread name))) result
 
 -- status and history are those that are due of a request
-abbrev pub HasDueHistory : Files → List (List ℕ) → Heard → (ShelfFailed ConsoleFailed : Type 0) → Request → ℕ → Type 0
-HasDueHistory files lines heard ShelfFailed ConsoleFailed request result =
+abbrev pub HasDueHistory : Files → List (List ℕ) → Histories → (ShelfFailed ConsoleFailed : Type 0) → Request → ℕ → Type 0
+HasDueHistory files lines histories ShelfFailed ConsoleFailed request result =
     (content : Result Database Fault) → IsContent files request content
     → let due = work files content request in
-    Concludes heard ConsoleFailed (due_status due) (due_events due lines) result
-    ⊎ ((result ≡ 9) × (heard.after ≡ heard.before))
-    ⊎ SaysUnread heard ShelfFailed ConsoleFailed (loads request) result
+    Concludes histories ConsoleFailed (due_status due) (due_events due lines) result
+    ⊎ ((result ≡ 9) × (histories.after ≡ histories.before))
+    ⊎ SaysUnread histories ShelfFailed ConsoleFailed (loads request) result
 
 -- ---- what is shown where all went well
 
@@ -99,10 +99,10 @@ DrawsAre files (listed name) draws = (bytes : List ℕ) × Has files name bytes 
 DrawsAre files (seeded seed) draws = draws ≡ seeded_draws seed
 
 -- The history has grown by the report on the file's database, or by what the play of it says and takes, with these lines and its draws.
-abbrev pub IsShown : Files → List (List ℕ) → Heard → Option Request → Type 0
-IsShown files lines heard None = ⊥
-IsShown files lines heard (Some (check game)) =
-    (bytes : List ℕ) × (db : Database) × Has files game bytes × DatText bytes db × (heard.after ≡ grown heard.before (says (report_text db)))
-IsShown files lines heard (Some (play game chance)) =
+abbrev pub IsShown : Files → List (List ℕ) → Histories → Option Request → Type 0
+IsShown files lines histories None = ⊥
+IsShown files lines histories (Some (check game)) =
+    (bytes : List ℕ) × (db : Database) × Has files game bytes × DatText bytes db × (histories.after ≡ grown histories.before (says (report_text db)))
+IsShown files lines histories (Some (play game chance)) =
     (bytes : List ℕ) × (db : Database) × (draws : List ℕ) × Has files game bytes × DatText bytes db × DrawsAre files chance draws
-    × (heard.after ≡ grown heard.before (shown (trace (rules.play db lines draws).events)))
+    × (histories.after ≡ grown histories.before (shown (trace (rules.play db lines draws).events)))
