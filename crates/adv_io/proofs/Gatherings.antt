@@ -1,8 +1,8 @@
 -- How bytes that are gathered, and said by and by, add up.
-use Rattle.std.proofs.Common.{◌≡◌, ◌∙◌, ℕ, ◌≤◌, ◌<◌, suc, ◌+◌, List, [], ◌++◌, take, drop, length, get_or, Bor, Option, Result, Ok, Err, IsErr, refl, sym, ap, subst, arith, append_assoc, add-one}
+use Rattle.std.proofs.Common.{◌≡◌, ◌∙◌, ℕ, ◌≤◌, ◌<◌, suc, ◌+◌, List, [], ◌++◌, take, drop, length, get_or, flat_map, Option, Result, Ok, Err, IsErr, refl, sym, ap, subst, arith, append_assoc, add-one}
 use Rattle.std.proofs.lemmas.List.{append-nil, take_all}
 use Rattle.adv_io.specs.History.{says, grown, GrewByPart}
-use Rattle.adv_io.specs.Console.{Speaks, Gathers, joined}
+use Rattle.adv_io.specs.Console.{Speaks, Gathers}
 use Rattle.adv_io.specs.declared.events.Event.{Event}
 use Rattle.adv_io.specs.declared.faults.ConsoleFault.{ConsoleFault}
 use Rattle.adv_io.proofs.Histories.{says-append}
@@ -153,39 +153,35 @@ module _ {C : Type 0} {history : C → Option (List Event)} {left : C → Option
   }
 
   -- a failure on the way said a part of all
-  pub gathers-broken : {T U D E : Type 0} {old new : C} {d : D} (e : E) (gathered a all : List ℕ) (rest : List ℕ) → a ++ rest ≡ all → Gathers {T = T} history left bound faults old new (Err d) [] gathered a → Speaks {T = U} history left bound faults old new (Err e) (says all)
-  gathers-broken {old = old} {new = new} e gathered a all rest is g = record {
-    said = tt;
-    part = subst (λ bytes. GrewByPart (history old) (history new) bytes) (sym (says-append a rest) ∙ ap says is) (part_of_more (history old) (history new) (says a) (says rest) g.part);
-    lines_stay = g.lines_stay;
-    bounded = g.bounded;
-    cause = record { later = g.cause.later; failed = g.cause.failed };
-  }
+  pub gathers-stopped : {T E : Type 0} {old new : C} {r : Result T E} (after all : List ℕ) → IsErr r → Gathers history left bound faults old new r [] after all → Speaks history left bound faults old new r (says all)
+  gathers-stopped {r = Ok x} after all failed g = absurd cc
+  gathers-stopped {r = Err e} after all failed g = record { said = tt; part = g.part; lines_stay = g.lines_stay; bounded = g.bounded; cause = g.cause }
 
-  -- ---- the pieces of a list, gathered one by one
+-- ---- a list of things that have a text, gathered one by one
 
-  -- one more piece
-  pub gathers-next : {S T U D E : Type 0} {old mid new : C} {x : S} {y : T} (z : U) (pieces : List (Bor (List ℕ))) (i : ℕ) (d : Bor (List ℕ)) (gathered after : List ℕ) → i < length pieces
-      → Gathers {E = D} history left bound faults old mid (Ok x) [] gathered (joined (take i pieces)) → Gathers {E = E} history left bound faults mid new (Ok y) gathered after (get_or pieces i d).now
-      → Gathers {E = E} history left bound faults old new (Ok z) [] after (joined (take (i + 1) pieces))
-  gathers-next z pieces i d gathered after within g h =
-      rw (add-one, flat_map-next (λ piece. piece.now) pieces i d within)
-      (gathers-again z (gathers-then [] gathered after (joined (take i pieces)) (get_or pieces i d).now g h))
+module _ {C X : Type 0} {history : C → Option (List Event)} {left : C → Option (List (List ℕ))} {bound faults : C → ℕ} (text : X → List ℕ) where
+  -- one more text
+  pub gathers-next : {S T U D E : Type 0} {old mid new : C} {x : S} {y : T} (z : U) (xs : List X) (i : ℕ) (d : X) (before gathered after : List ℕ) → i < length xs
+      → Gathers {E = D} history left bound faults old mid (Ok x) before gathered (flat_map text (take i xs)) → Gathers {E = E} history left bound faults mid new (Ok y) gathered after (text (get_or xs i d))
+      → Gathers {E = E} history left bound faults old new (Ok z) before after (flat_map text (take (i + 1) xs))
+  gathers-next z xs i d before gathered after within g h =
+      rw (add-one, flat_map-next text xs i d within)
+      (gathers-again z (gathers-then before gathered after (flat_map text (take i xs)) (text (get_or xs i d)) g h))
 
-  -- a piece that fails
-  pub gathers-break : {S T U D E F : Type 0} {old mid new : C} {x : S} {e : E} {r : Result U F} (pieces : List (Bor (List ℕ))) (i : ℕ) (d : Bor (List ℕ)) (gathered after : List ℕ) → i < length pieces → IsErr r
-      → Gathers {E = D} history left bound faults old mid (Ok x) [] gathered (joined (take i pieces)) → Gathers {T = T} history left bound faults mid new (Err e) gathered after (get_or pieces i d).now
-      → Speaks history left bound faults old new r (says (joined pieces))
-  gathers-break {r = Ok z} pieces i d gathered after within failed g h = absurd cc
-  gathers-break {r = Err e} pieces i d gathered after within failed g h =
-      let here = (get_or pieces i d).now in
-      gathers-broken e after (joined (take i pieces) ++ here) (joined pieces) (joined (drop (suc i) pieces))
-      (append_assoc (joined (take i pieces)) here (joined (drop (suc i) pieces)) ∙ sym (flat_map-split (λ piece. piece.now) pieces i d within))
-      (gathers-then [] gathered after (joined (take i pieces)) here g h)
+  -- a text that fails
+  pub gathers-break : {S T U D E F : Type 0} {old mid new : C} {x : S} {e : E} {r : Result U F} (xs : List X) (i : ℕ) (d : X) (before gathered after last : List ℕ) → i < length xs → IsErr r
+      → Gathers {E = D} history left bound faults old mid (Ok x) before gathered (flat_map text (take i xs)) → Gathers {T = T} history left bound faults mid new (Err e) gathered after (text (get_or xs i d))
+      → Gathers history left bound faults old new r before last (flat_map text xs)
+  gathers-break {r = Ok z} xs i d before gathered after last within failed g h = absurd cc
+  gathers-break {r = Err e} xs i d before gathered after last within failed g h =
+      let here = text (get_or xs i d) in
+      let front = flat_map text (take i xs) in
+      let rest = flat_map text (drop (suc i) xs) in
+      rw (flat_map-split text xs i d within, ← append_assoc front here rest)
+      (gathers-fail e before after last (front ++ here) rest (gathers-then before gathered after front here g h))
 
-  -- all pieces, and what is gathered is said
-  pub gathers-all : {S T D E : Type 0} {old mid new : C} {x : S} {r : Result T E} (pieces : List (Bor (List ℕ))) (i : ℕ) (gathered : List ℕ) → length pieces ≤ i
-      → Gathers {E = D} history left bound faults old mid (Ok x) [] gathered (joined (take i pieces)) → Speaks history left bound faults mid new r (says gathered)
-      → Speaks history left bound faults old new r (says (joined pieces))
-  gathers-all {mid = mid} pieces i gathered whole g s =
-      gathers-end {mid = mid} gathered (joined pieces) (rw (take_all i pieces whole) at g) s
+  -- all texts
+  pub gathers-whole : {T E : Type 0} {old new : C} {r : Result T E} (xs : List X) (i : ℕ) (before after : List ℕ) → length xs ≤ i
+      → Gathers history left bound faults old new r before after (flat_map text (take i xs))
+      → Gathers history left bound faults old new r before after (flat_map text xs)
+  gathers-whole xs i before after whole g = rw (take_all i xs whole) at g

@@ -125,11 +125,11 @@ fn expect_said_before(
     Ok(())
 }
 
-const LONG: &[u8] = &[b'x'; 4000];
+const LONG: &[u8] = &[b'x'; 1000];
 
-const REST: &[u8] = &[b'y'; 96];
+const REST: &[u8] = &[b'y'; 24];
 
-const MORE: &[u8] = &[b'z'; 97];
+const MORE: &[u8] = &[b'z'; 25];
 
 const HUGE: &[u8] = &[b'h'; 5000];
 
@@ -137,8 +137,9 @@ const HUGE: &[u8] = &[b'h'; 5000];
 fn pieces_are_said_in_as_few_calls_as_may_be(rt: HostRuntime) -> Result<(), Fail> {
     let alloc = rt.alloc();
     expect_said_before(&rt, alloc, &[b"", b""], 1, 0)?;
-    expect_said_before(&rt, alloc, &[LONG, REST], 2, 4096)?;
-    expect_said_before(&rt, alloc, &[LONG, MORE], 3, 4097)?;
+    expect_said_before(&rt, alloc, &[LONG, REST], 2, 1024)?;
+    expect_said_before(&rt, alloc, &[LONG, MORE], 3, 1025)?;
+    expect_said_before(&rt, alloc, &[HUGE, b"b"], 3, 5001)?;
     expect_said_before(&rt, alloc, &[b"a", HUGE, b"b", b"c"], 4, 5003)
 }
 

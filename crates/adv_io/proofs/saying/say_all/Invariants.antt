@@ -7,4 +7,4 @@ use Rattle.adv_io.proofs.saying.say_all.Given as goal
 abbrev pub invariant-loop-piece : goal.invariant-loop-piece
 invariant-loop-piece g l =
     let console = g.C.Console in
-    Gathers console.history console.left console.bound console.faults l.initial.console l.console success [] l.gathered.items (joined (take l.piece-index l.pieces))
+    Gathers console.history console.left console.bound console.faults l.initial.console l.console success [] l.gathering (joined (take l.piece-index l.pieces))
