@@ -11,7 +11,7 @@ ghost use Rattle.scott_rules.specs.Looking.{looked, scored};
 
 use adv_io::{Console, ConsoleFault, say_all};
 use itoa::Buffer;
-use scott_light::{Page, add_look, inventory, look, score};
+use scott_light::{inventory, look, look_behind, score};
 use scott_types::{Db, Opcode, Phrase, State, TalkOp};
 
 // Says two texts, one behind the other.
@@ -91,10 +91,7 @@ fn say_death<C: Console>(db: &Db, state: &State, console: &mut C) -> Result<(), 
     ensures { Speaks C.history C.left C.bound C.faults console.old console.new result
         (says (text_of Dead ++ looked db.now state.now)) }
 {
-    let mut page = Page::new();
-    page.add(Phrase::Dead.text());
-    add_look(&mut page, db, state);
-    page.say(console)
+    look_behind(Phrase::Dead.text(), db, state, console)
 }
 
 // The score, whatever it is.

@@ -5,10 +5,11 @@ pub mod lamp;
 pub mod listing;
 pub mod looking;
 pub mod pages;
+mod pieces;
 pub mod scoring;
 
 pub use lamp::count_light;
-pub use looking::{add_look, inventory, look};
+pub use looking::{inventory, look, look_behind};
 pub use pages::Page;
 pub use scoring::{are_all_stored, score};
 

@@ -1,24 +1,27 @@
 //! Lists in a text: which items are at a place, and which exits a room has.
-ghost use Rattle.std.specs.Prelude.{◌≡◌, ◌≤◌, ◌<◌, length, map};
+ghost use Rattle.std.specs.Prelude.{◌≡◌, ◌≤◌, ◌<◌, List, length, map};
+ghost use Rattle.std.specs.List.{All};
+ghost use Rattle.scott_types.specs.declared.parts.Item.{Item};
 ghost use Rattle.scott_rules.specs.Looking.{items_at_place, exit_names};
+ghost use Rattle.scott_light.specs.Numbered.{texts_of};
 
 use arrayvec::ArrayVec;
-use scott_types::{Db, Item, Phrase, exit, shown};
+use scott_types::{Db, Phrase, exit};
 
-/// What is shown of the items at a place, in their order.
-pub fn items_at<'a>(items: &'a [Item], places: &[u8], place: u8) -> ArrayVec<&'a [u8], 255>
-    requires same { length items.now ≡ length places.now }
-    requires few { length items.now ≤ 255 }
-    ensures { map (λ text. text.now) result.items ≡ items_at_place items.now places.now place }
+/// The numbers of the items at a place, in their order, by the place of each item.
+pub fn numbers_at(places: &[u8], place: u8) -> ArrayVec<u8, 255>
+    requires { length places.now ≤ 255 }
+    ensures texts { (items : List Item) → length items ≡ length places.now
+        → texts_of items result.items ≡ items_at_place items places.now place }
+    ensures there { All (λ number. number < length places.now) result.items }
 {
-    let mut texts = ArrayVec::new();
-    for i in 0..items.len() {
-        let item = &items[i];
+    let mut numbers = ArrayVec::new();
+    for i in 0..places.len() {
         if places[i] == place {
-            texts.push(shown(&item.text));
+            numbers.push(i as u8);
         }
     }
-    texts
+    numbers
 }
 
 // The names of the directions, in the order of a room's exits.

@@ -1,15 +1,20 @@
 //! The look and the inventory.
-ghost use Rattle.std.specs.Prelude.{◌≡◌, ◌≤◌, ◌<◌, ◌+◌, ◌*◌, ◌++◌, length, map};
+ghost use Rattle.std.specs.Prelude.{◌≡◌, ◌≤◌, ◌<◌, ◌+◌, ◌++◌, length, map};
+ghost use Rattle.std.specs.List.{All};
 ghost use Rattle.adv_io.specs.History.{says};
 ghost use Rattle.adv_io.specs.Console.{Speaks};
+ghost use Rattle.scott_types.specs.declared.phrases.Phrase.TheVariants.{BetweenItems, NothingCarried};
+ghost use Rattle.scott_types.specs.Phrase.{text_of};
 ghost use Rattle.scott_types.specs.State.{Fits};
-ghost use Rattle.scott_rules.specs.Looking.{described, exits_listed, items_seen, seen_in_light, looked, inventory};
+ghost use Rattle.scott_rules.specs.Looking.{joined_or, described, exits_listed, items_at, items_seen, seen_in_light, looked, inventory};
+ghost use Rattle.scott_light.specs.Numbered.{texts_of};
 
-use crate::listing::{exit_names, items_at};
+use crate::listing::{exit_names, numbers_at};
 use crate::pages::Page;
-use adv_io::{Console, ConsoleFault};
+use adv_io::{Console, ConsoleFault, say_all};
+use arrayvec::ArrayVec;
 use scott_types::places::CARRIED;
-use scott_types::{Db, Phrase, State, starts_with_star};
+use scott_types::{Db, Item, Phrase, State, starts_with_star};
 
 // A room's text, with `I'm in a` unless it begins with `*`.
 fn add_room<'a>(page: &mut Page<'a>, text: &'a [u8])
@@ -36,42 +41,69 @@ fn add_exits<'a>(page: &mut Page<'a>, names: &[&'a [u8]])
     page.add(Phrase::ListEnd.text());
 }
 
-fn add_items<'a>(page: &mut Page<'a>, texts: &[&'a [u8]])
-    requires room { page.old.pieces ≤ 40 }
-    requires few { length texts.now ≤ 255 }
-    ensures text { page.new.text ≡ page.old.text ++ items_seen (map (λ text. text.now) texts.now) }
+// The numbers of the items at a place.
+fn numbers_in(db: &Db, state: &State, place: u8) -> ArrayVec<u8, 255>
+    requires { Fits db.now state.now }
+    ensures texts { texts_of db.now.items result.items ≡ items_at db.now state.now place }
+    ensures there { All (λ number. number < length db.now.items) result.items }
 {
-    if !texts.is_empty() {
+    let _limits = db.parts();
+    numbers_at(state.places.as_slice(), place)
+}
+
+// The items in the room, or nothing where there are none.
+fn add_items<'a>(page: &mut Page<'a>, items: &'a [Item], numbers: &'a [u8])
+    requires room { page.old.pieces ≤ 30 }
+    requires there { All (λ number. number < length items.now) numbers.now }
+    ensures { page.new.text ≡ page.old.text ++ items_seen (texts_of items.now numbers.now) }
+{
+    if !numbers.is_empty() {
         page.add(Phrase::AlsoSee.text());
-        page.join(texts, Phrase::BetweenItems.text());
+        page.add_items(items, numbers);
         page.add(Phrase::Newline.text());
     }
 }
 
-// What is seen in the light.
-fn add_seen<'a>(page: &mut Page<'a>, db: &'a Db, state: &State)
-    requires fits { Fits db.now state.now }
-    requires room { page.old.pieces ≤ 5 }
-    ensures { page.new.text ≡ page.old.text ++ seen_in_light db.now state.now }
+// Says a text, and behind it what is seen in the light.
+#[inline(never)]
+fn look_in_light<C: Console>(
+    text: &[u8],
+    db: &Db,
+    state: &State,
+    console: &mut C,
+) -> Result<(), ConsoleFault>
+    requires { Fits db.now state.now }
+    ensures { Speaks C.history C.left C.bound C.faults console.old console.new result
+        (says (text.now ++ seen_in_light db.now state.now)) }
 {
-    add_room(page, db.rooms()[state.room as usize].text.bytes());
-    add_exits(page, exit_names(db, state.room).as_slice());
-    add_items(
-        page,
-        items_at(db.items(), state.places.as_slice(), state.room).as_slice(),
-    );
+    let numbers = numbers_in(db, state, state.room);
+    let mut page = Page::new();
+    page.add(text);
+    add_room(&mut page, db.rooms()[state.room as usize].text.bytes());
+    add_exits(&mut page, exit_names(db, state.room).as_slice());
+    add_items(&mut page, db.items(), numbers.as_slice());
+    page.say(console)
 }
 
-/// Adds what a look says to a page of at most five texts.
-pub fn add_look<'a>(page: &mut Page<'a>, db: &'a Db, state: &State)
-    requires fits { Fits db.now state.now }
-    requires room { page.old.pieces ≤ 5 }
-    ensures { page.new.text ≡ page.old.text ++ looked db.now state.now }
+/// Says a text, and behind it what a look says, as one text.
+///
+/// The console's fault alone is a refusal.
+#[inline(never)]
+pub fn look_behind<'a, C: Console>(
+    text: &'a [u8],
+    db: &Db,
+    state: &State,
+    console: &mut C,
+) -> Result<(), ConsoleFault>
+    requires { Fits db.now state.now }
+    ensures { Speaks C.history C.left C.bound C.faults console.old console.new result
+        (says (text.now ++ looked db.now state.now)) }
 {
     if state.is_dark() {
-        page.add(Phrase::TooDark.text());
+        let too_dark: &'a [u8] = Phrase::TooDark.text();
+        say_all(console, &[text, too_dark])
     } else {
-        add_seen(page, db, state);
+        look_in_light(text, db, state, console)
     }
 }
 
@@ -83,33 +115,35 @@ pub fn look<C: Console>(db: &Db, state: &State, console: &mut C) -> Result<(), C
     ensures { Speaks C.history C.left C.bound C.faults console.old console.new result
         (says (looked db.now state.now)) }
 {
-    let mut page = Page::new();
-    add_look(&mut page, db, state);
-    page.say(console)
+    look_behind(&[], db, state, console)
 }
 
-// What is carried.
-fn held<'a>(db: &'a Db, state: &State) -> Page<'a>
-    requires { Fits db.now state.now }
-    ensures { result.text ≡ inventory db.now state.now }
+// What is carried, or that it is nothing.
+fn add_carried<'a>(page: &mut Page<'a>, items: &'a [Item], numbers: &'a [u8])
+    requires room { page.old.pieces ≤ 30 }
+    requires there { All (λ number. number < length items.now) numbers.now }
+    ensures text { page.new.text ≡ page.old.text
+        ++ joined_or (text_of NothingCarried) (text_of BetweenItems) (texts_of items.now numbers.now) }
+    ensures pieces { page.new.pieces ≡ page.old.pieces + 1 }
 {
-    let texts = items_at(db.items(), state.places.as_slice(), CARRIED);
-    let mut page = Page::new();
-    page.add(Phrase::CarryingList.text());
-    page.join_or(
-        texts.as_slice(),
-        Phrase::BetweenItems.text(),
-        Phrase::NothingCarried.text(),
-    );
-    page.add(Phrase::ListEnd.text());
-    page
+    if numbers.is_empty() {
+        page.add(Phrase::NothingCarried.text());
+    } else {
+        page.add_items(items, numbers);
+    }
 }
 
 /// Says what is carried. The console's fault alone is a refusal.
+#[inline(never)]
 pub fn inventory<C: Console>(db: &Db, state: &State, console: &mut C) -> Result<(), ConsoleFault>
     requires { Fits db.now state.now }
     ensures { Speaks C.history C.left C.bound C.faults console.old console.new result
         (says (inventory db.now state.now)) }
 {
-    held(db, state).say(console)
+    let numbers = numbers_in(db, state, CARRIED);
+    let mut page = Page::new();
+    page.add(Phrase::CarryingList.text());
+    add_carried(&mut page, db.items(), numbers.as_slice());
+    page.add(Phrase::ListEnd.text());
+    page.say(console)
 }

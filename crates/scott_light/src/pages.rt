@@ -1,34 +1,43 @@
 //! Texts that are gathered first, and then said one behind the other.
 ghost use Rattle.std.specs.Prelude.{◌≡◌, ◌+◌, ◌<◌, ◌≤◌, ◌*◌, ◌++◌, [], length, map, flat_map};
+ghost use Rattle.std.specs.List.{All};
 ghost use Rattle.adv_io.specs.History.{says};
 ghost use Rattle.adv_io.specs.Console.{Speaks};
+ghost use Rattle.scott_types.specs.declared.phrases.Phrase.TheVariants.{BetweenItems};
+ghost use Rattle.scott_types.specs.Phrase.{text_of};
 ghost use Rattle.scott_rules.specs.Looking.{joined, joined_or};
+ghost use Rattle.scott_light.specs.Numbered.{texts_of};
 
-use adv_io::{Console, ConsoleFault, say_all};
+use crate::pieces::Piece;
+use adv_io::{Console, ConsoleFault, Gathering};
 use arrayvec::ArrayVec;
+use scott_types::Item;
 use std::marker::Model;
 
-/// Texts that will be said one behind the other. There is room for 600 of them: a look at a room with
-/// 255 items has fewer.
+/// Pieces that will be said one behind the other: texts, and lists of items. There is room for 40 of
+/// them, and a look has fewer, since a list is one piece.
 ///
 /// A clause sees the text that they make, and their number.
 #[derive(Drop)]
 pub struct Page<'a> {
-    pieces: ArrayVec<&'a [u8], 600>,
+    pieces: ArrayVec<Piece<'a>, 40>,
 }
 
 impl<'a> Model for Page<'a> {
-    ghost use Rattle.std.specs.Prelude.{length};
-    ghost use Rattle.adv_io.specs.Console.{joined};
+    ghost use Rattle.std.specs.Prelude.{flat_map, length};
+    ghost use Rattle.std.specs.List.{All};
     ghost use Rattle.scott_light.specs.Gathered.{Gathered};
+    ghost use Rattle.scott_light.specs.Pieces.{piece_text, PieceFits};
 
     ghost Value = { Gathered };
 
-    ghost view = { λ p. record { text = joined p.pieces.items; pieces = length p.pieces.items } };
+    ghost view = { λ p. record { text = flat_map piece_text p.pieces.items; pieces = length p.pieces.items } };
+
+    ghost invariant = { λ p. All PieceFits p.pieces.items };
 }
 
 impl<'a> Page<'a> {
-    /// A page without a text.
+    /// A page without a piece.
     pub fn new() -> Page<'a>
         ensures text { result.text ≡ [] }
         ensures pieces { result.pieces ≡ 0 }
@@ -40,16 +49,39 @@ impl<'a> Page<'a> {
 
     /// Adds a text.
     pub fn add(&mut self, text: &'a [u8])
-        requires { self.old.pieces < 600 }
+        requires { self.old.pieces < 40 }
         ensures text { self.new.text ≡ self.old.text ++ text.now }
         ensures pieces { self.new.pieces ≡ self.old.pieces + 1 }
     {
-        self.pieces.push(text);
+        self.pieces.push(Piece::Text(text));
     }
 
-    /// Adds texts, with a separator between each two.
-    pub fn join(&mut self, texts: &[&'a [u8]], separator: &'a [u8])
-        requires { self.old.pieces + 2 * length texts.now ≤ 600 }
+    /// Adds what is shown of the items of these numbers, with the separator of a list of items between
+    /// each two.
+    pub fn add_items(&mut self, items: &'a [Item], numbers: &'a [u8])
+        requires room { self.old.pieces < 40 }
+        requires there { All (λ number. number < length items.now) numbers.now }
+        ensures text { self.new.text ≡ self.old.text ++ joined (text_of BetweenItems) (texts_of items.now numbers.now) }
+        ensures pieces { self.new.pieces ≡ self.old.pieces + 1 }
+    {
+        self.pieces.push(Piece::Items(items, numbers));
+    }
+
+    /// Adds texts, with a separator between each two, or another text where there are none.
+    pub fn join_or(&mut self, texts: &[&'a [u8]], separator: &'a [u8], none: &'a [u8])
+        requires { self.old.pieces + 2 * length texts.now < 40 }
+        ensures text { self.new.text ≡ self.old.text ++ joined_or none.now separator.now (map (λ text. text.now) texts.now) }
+        ensures pieces { self.new.pieces ≤ self.old.pieces + 2 * length texts.now + 1 }
+    {
+        match texts {
+            [] => self.add(none),
+            _ => self.join(texts, separator),
+        }
+    }
+
+    // Adds texts, with a separator between each two.
+    fn join(&mut self, texts: &[&'a [u8]], separator: &'a [u8])
+        requires { self.old.pieces + 2 * length texts.now ≤ 40 }
         ensures text { self.new.text ≡ self.old.text ++ joined separator.now (map (λ text. text.now) texts.now) }
         ensures pieces { self.new.pieces ≤ self.old.pieces + 2 * length texts.now }
     {
@@ -61,7 +93,7 @@ impl<'a> Page<'a> {
 
     // Adds each text behind the separator.
     fn add_behind(&mut self, separator: &'a [u8], texts: &[&'a [u8]])
-        requires { self.old.pieces + 2 * length texts.now ≤ 600 }
+        requires { self.old.pieces + 2 * length texts.now ≤ 40 }
         ensures text { self.new.text ≡ self.old.text ++ flat_map (λ text. separator.now ++ text.now) texts.now }
         ensures pieces { self.new.pieces ≡ self.old.pieces + 2 * length texts.now }
     {
@@ -71,23 +103,16 @@ impl<'a> Page<'a> {
         }
     }
 
-    /// Adds texts, with a separator between each two, or another text where there are none.
-    pub fn join_or(&mut self, texts: &[&'a [u8]], separator: &'a [u8], none: &'a [u8])
-        requires { self.old.pieces + 2 * length texts.now < 600 }
-        ensures text { self.new.text ≡ self.old.text ++ joined_or none.now separator.now (map (λ text. text.now) texts.now) }
-        ensures pieces { self.new.pieces ≤ self.old.pieces + 2 * length texts.now + 1 }
-    {
-        match texts {
-            [] => self.add(none),
-            _ => self.join(texts, separator),
-        }
-    }
-
-    /// Says all texts, one behind the other.
+    /// Says all pieces, one behind the other, in as few calls as may be.
+    #[inline(never)]
     pub fn say<C: Console>(&self, console: &mut C) -> Result<(), ConsoleFault>
         ensures { Speaks C.history C.left C.bound C.faults console.old console.new result
             (says self.now.text) }
     {
-        say_all(console, self.pieces.as_slice())
+        let mut gathering = Gathering::new();
+        for piece in self.pieces.as_slice() {
+            piece.gather(&mut gathering, console)?;
+        }
+        gathering.say(console)
     }
 }

@@ -61,19 +61,19 @@ fn add_praise(page: &mut Page, full: bool)
 }
 
 // The texts of a score, around its two numbers.
-fn score_page<'a>(stored: &'a [u8], hundredths: &'a [u8], full: bool) -> Page<'a>
-    ensures { result.text ≡ score_around stored.now hundredths.now full }
+fn add_score<'a>(page: &mut Page<'a>, stored: &'a [u8], hundredths: &'a [u8], full: bool)
+    requires { page.old.pieces ≤ 5 }
+    ensures { page.new.text ≡ page.old.text ++ score_around stored.now hundredths.now full }
 {
-    let mut page = Page::new();
     page.add(Phrase::Stored.text());
     page.add(stored);
     page.add(Phrase::Rating.text());
     page.add(hundredths);
     page.add(Phrase::ListEnd.text());
-    add_praise(&mut page, full);
-    page
+    add_praise(page, full);
 }
 
+#[inline(never)]
 fn say_score<C: Console>(treasures: i32, stored: usize, console: &mut C) -> Result<(), ConsoleFault>
     requires { stored ≤ 255 }
     ensures { Speaks C.history C.left C.bound C.faults console.old console.new result
@@ -81,12 +81,14 @@ fn say_score<C: Console>(treasures: i32, stored: usize, console: &mut C) -> Resu
 {
     let mut count = Buffer::new();
     let mut hundredths = Buffer::new();
-    score_page(
+    let mut page = Page::new();
+    add_score(
+        &mut page,
         count.format(stored).as_bytes(),
         hundredths.format(rate_of(treasures, stored)).as_bytes(),
         is_full(treasures, stored),
-    )
-    .say(console)
+    );
+    page.say(console)
 }
 
 // The treasure room.

@@ -1,6 +1,7 @@
 //! What a console gets with ample memory, on a hall with gold and a lamp, and a cave to the south.
-use crate::{count_light, inventory, look, score};
-use adv_io::{Memory, MemoryConsole};
+use crate::{count_light, inventory, look, look_behind, score};
+use adv_io::{ConsoleFault, Memory, MemoryConsole};
+use itoa::Buffer;
 use scott_types::{Action, Db, Header, Item, Parts, Room, State, Text, Trailer, Word};
 use std::alloc::{AllocError, Global};
 use std::process::Abort;
@@ -52,6 +53,10 @@ fn rooms(alloc: Global) -> Result<Vec<Room>, AllocError> {
 
 // The game, with the treasure room and how long the light lasts.
 fn game(alloc: Global, home: i32, light: i32) -> Result<Db, Fail> {
+    game_with(alloc, items(alloc)?, home, light)
+}
+
+fn game_with(alloc: Global, items: Vec<Item>, home: i32, light: i32) -> Result<Db, Fail> {
     let parts = Parts {
         header: Header {
             unused: 0,
@@ -77,7 +82,7 @@ fn game(alloc: Global, home: i32, light: i32) -> Result<Db, Fail> {
         ]?,
         rooms: rooms(alloc)?,
         messages: vec![in alloc; text(alloc, "")?]?,
-        items: items(alloc)?,
+        items,
         comments: vec![in alloc; text(alloc, "")?]?,
         trailer: Trailer {
             version: 1,
@@ -116,6 +121,90 @@ fn looks_are_said(rt: HostRuntime) -> Result<(), Fail> {
         assert!(rt; state.fits(&db));
         assert_eq!(rt; look(&db, &state, &mut console), Ok(()));
         expect_said(&rt, &console, said);
+    }
+    Ok(())
+}
+
+#[test]
+fn a_text_is_said_before_a_look(rt: HostRuntime) -> Result<(), Fail> {
+    let alloc = rt.alloc();
+    let db = game(alloc, 0, -1)?;
+    for (dark, said) in [
+        (false, "Woe! A cave\nObvious exits: none.\n"),
+        (true, "Woe! I can't see. It is too dark!\n"),
+    ] {
+        let mut state = State::start(&db);
+        let mut console = console(alloc)?;
+        state.room = 2;
+        state.flags[15] = dark;
+        assert!(rt; state.fits(&db));
+        assert_eq!(rt; look_behind(b"Woe! ", &db, &state, &mut console), Ok(()));
+        expect_said(&rt, &console, said);
+    }
+    Ok(())
+}
+
+// A text that is said alone.
+const LONG: &[u8] = &[b'x'; 1100];
+
+// What is shown of the thing of a number.
+fn add_thing(bytes: &mut Vec<u8>, number: u8) -> Result<(), AllocError> {
+    if number % 100 == 7 {
+        bytes.extend_from_slice(LONG)
+    } else {
+        bytes.extend_from_slice(Buffer::new().format(number).as_bytes())?;
+        bytes.extend_from_slice(b" in a long row of things")
+    }
+}
+
+// So many things in the hall.
+fn things(alloc: Global, count: u8) -> Result<Vec<Item>, AllocError> {
+    let mut items = Vec::new(alloc);
+    for number in 0..count {
+        let mut bytes = Vec::new(alloc);
+        add_thing(&mut bytes, number)?;
+        bytes.extend_from_slice(b"/THI/")?;
+        items.push(Item {
+            text: Text::of(bytes),
+            place: 1,
+        })?;
+    }
+    Ok(items)
+}
+
+// What a look at them says.
+fn things_seen(alloc: Global, count: u8) -> Result<Vec<u8>, AllocError> {
+    let mut bytes = b"I'm in a hall\nObvious exits: South, Up.\n\nI can also see: ".to_vec(alloc)?;
+    for number in 0..count {
+        if number > 0 {
+            bytes.extend_from_slice(b" - ")?;
+        }
+        add_thing(&mut bytes, number)?;
+    }
+    bytes.push(b'\n')?;
+    Ok(bytes)
+}
+
+#[test]
+fn all_items_of_a_room_are_said(rt: HostRuntime) -> Result<(), Fail> {
+    let alloc = rt.alloc();
+    for count in [1, 3, 255] {
+        let db = game_with(alloc, things(alloc, count)?, 0, -1)?;
+        let mut console = MemoryConsole::new(alloc, Vec::new(alloc), Vec::new(alloc), 20_000)?;
+        assert_eq!(rt; look(&db, &State::start(&db), &mut console), Ok(()));
+        assert_eq!(rt; console.said(), things_seen(alloc, count)?.as_slice());
+    }
+    Ok(())
+}
+
+#[test]
+fn long_looks_alone_take_several_calls(rt: HostRuntime) -> Result<(), Fail> {
+    let alloc = rt.alloc();
+    for (count, answer) in [(3, Ok(())), (255, Err(ConsoleFault::Failed))] {
+        let db = game_with(alloc, things(alloc, count)?, 0, -1)?;
+        let failing = vec![in alloc; 2]?;
+        let mut console = MemoryConsole::new(alloc, Vec::new(alloc), failing, 20_000)?;
+        assert_eq!(rt; look(&db, &State::start(&db), &mut console), answer);
     }
     Ok(())
 }
