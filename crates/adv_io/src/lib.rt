@@ -31,7 +31,7 @@ pub use faults::{ConsoleFault, Memory, ShelfFault};
 pub use lines::Line;
 pub use memory_console::MemoryConsole;
 pub use memory_shelf::MemoryShelf;
-pub use saying::{Gathering, say_all};
+pub use saying::{Gathering, say_all, say_any};
 pub use script_console::ScriptConsole;
 pub use shelves::Shelf;
 pub use std_console::StdConsole;

@@ -70,11 +70,18 @@ impl Gathering {
         ensures { Speaks C.history C.left C.bound C.faults console.old console.new result
             (says self.now) }
     {
-        if self.bytes.is_empty() {
-            Ok(())
-        } else {
-            console.say(self.bytes.as_slice())
-        }
+        say_any(self.bytes.as_slice(), console)
+    }
+}
+
+/// Says a text, and makes no call where it is empty.
+pub fn say_any<C: Console>(text: &[u8], console: &mut C) -> Result<(), ConsoleFault>
+    ensures { Speaks C.history C.left C.bound C.faults console.old console.new result (says text.now) }
+{
+    if text.is_empty() {
+        Ok(())
+    } else {
+        console.say(text)
     }
 }
 

@@ -3,7 +3,7 @@ ghost use Rattle.std.specs.Prelude.{◌≡◌, length};
 ghost use Rattle.scott_types.specs.declared.opcodes.ItemOp.TheVariants.{Put};
 ghost use Rattle.scott_rules.specs.Opcodes.{moved, redrawn, swapped, items_moved, refilled, is_full};
 
-use scott_types::places::{CARRIED, LAMP};
+use scott_types::places::{CARRIED, LAMP, OUT_FLAG};
 use scott_types::{Db, ItemOp, State};
 
 /// Whether as many items are carried as can be.
@@ -65,6 +65,6 @@ pub fn refill(db: &Db, state: &mut State)
     ensures { state.new ≡ refilled db.now state.old }
 {
     state.light = db.header().light;
-    state.flags[16] = false;
+    state.flags[OUT_FLAG as usize] = false;
     move_item(state, LAMP, CARRIED);
 }

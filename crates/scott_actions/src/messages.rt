@@ -34,11 +34,11 @@ fn say_line<C: Console>(text: &[u8], console: &mut C) -> Result<(), ConsoleFault
     say_both(text, Phrase::Newline.text(), console)
 }
 
-// Says nothing.
+// Says nothing, and makes no call.
 fn say_nothing<C: Console>(console: &mut C) -> Result<(), ConsoleFault>
     ensures { Speaks C.history C.left C.bound C.faults console.old console.new result (says []) }
 {
-    say_all(console, &[])
+    Ok(())
 }
 
 // Says a message, or nothing where it isn't there.

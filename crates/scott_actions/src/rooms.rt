@@ -4,6 +4,7 @@ ghost use Rattle.scott_types.specs.declared.opcodes.RoomOp.TheVariants.{Go};
 ghost use Rattle.scott_types.specs.State.{Fits};
 ghost use Rattle.scott_rules.specs.Opcodes.{with_backup_room, room_changed, dead};
 
+use scott_types::places::DARK_FLAG;
 use scott_types::{Db, RoomOp, State};
 
 fn go_to(db: &Db, state: &mut State, room: u32)
@@ -50,6 +51,6 @@ pub fn change_room(db: &Db, state: &mut State, op: RoomOp, p: u32)
 pub fn wake(db: &Db, state: &mut State)
     ensures { state.new ≡ dead db.now state.old }
 {
-    state.flags[15] = false;
+    state.flags[DARK_FLAG as usize] = false;
     state.room = (db.rooms().len() - 1) as u8;
 }

@@ -5,9 +5,9 @@ ghost use Rattle.adv_io.specs.Console.{Speaks};
 ghost use Rattle.scott_types.specs.State.{Fits};
 ghost use Rattle.scott_rules.specs.Light.{is_burning, said_near, is_dim, light_seen, light_counted};
 
-use adv_io::{Console, ConsoleFault};
+use adv_io::{Console, ConsoleFault, say_any};
 use scott_rules::laws::light_fits;
-use scott_types::places::LAMP;
+use scott_types::places::{LAMP, OUT_FLAG};
 use scott_types::{Db, Phrase, State};
 
 fn is_burning(state: &State) -> bool
@@ -30,7 +30,7 @@ fn burn(state: &mut State) -> &'static [u8]
 {
     let near = state.is_near(LAMP);
     if state.light < 1 {
-        state.flags[16] = true;
+        state.flags[OUT_FLAG as usize] = true;
         if near { Phrase::LightOut.text() } else { &[] }
     } else if is_dim(state.light) && near {
         Phrase::LightDim.text()
@@ -52,17 +52,6 @@ fn light_text(state: &mut State) -> &'static [u8]
         burn(state)
     } else {
         &[]
-    }
-}
-
-// Says a text, and makes no call where it is empty.
-fn say_any<C: Console>(text: &[u8], console: &mut C) -> Result<(), ConsoleFault>
-    ensures { Speaks C.history C.left C.bound C.faults console.old console.new result (says text.now) }
-{
-    if text.is_empty() {
-        Ok(())
-    } else {
-        console.say(text)
     }
 }
 

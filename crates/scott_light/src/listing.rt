@@ -25,7 +25,7 @@ pub fn numbers_at(places: &[u8], place: u8) -> ArrayVec<u8, 255>
 }
 
 // The names of the directions, in the order of a room's exits.
-const DIRECTIONS: [Phrase; 6] = [
+static DIRECTIONS: [Phrase; 6] = [
     Phrase::North,
     Phrase::South,
     Phrase::East,

@@ -6,17 +6,13 @@ ghost use Rattle.scott_turn.specs.Seen.{seen};
 
 use adv_io::{Console, ConsoleFault};
 
-// Says a text, and makes no call where it is empty.
+// Says a text as steps, and makes no call where it is empty.
 #[tactic(auto, using(crate::proofs::Seeing::seen_says))]
 pub fn say_any<C: Console>(text: &[u8], console: &mut C) -> Result<(), ConsoleFault>
     ensures { Speaks C.history C.left C.bound C.faults console.old console.new result
         (seen (says text.now)) }
 {
-    if text.is_empty() {
-        Ok(())
-    } else {
-        console.say(text)
-    }
+    adv_io::say_any(text, console)
 }
 
 // Says a text that doesn't end the game.

@@ -13,6 +13,9 @@ pub const LAMP: u32 = 9;
 /// The flag of darkness.
 pub const DARK_FLAG: u32 = 15;
 
+/// The flag that says that the light is out.
+pub const OUT_FLAG: u32 = 16;
+
 impl State {
     /// Whether the item is there at all.
     pub fn has_item(&self, item: u32) -> bool
