@@ -17,6 +17,7 @@ use scott_vocab::{is_typed, root};
 
 // Whether an item is at hand and the word names it. An empty word names none.
 fn is_named(state: &State, transfer: Transfer, size: usize, word: &[u8], i: u8, item: &Item) -> bool
+    requires { size ≤ 20 }
     ensures { result
         ≡ (is_at_hand transfer state.now i && (not (is_empty word.now) && is_typed size (get_word item.now.text) word.now)) }
 {
@@ -31,7 +32,8 @@ fn least_named(
     size: usize,
     word: &[u8],
 ) -> Option<u8>
-    requires { length items.now ≤ 255 }
+    requires few { length items.now ≤ 255 }
+    requires short { size ≤ 20 }
     ensures value { result ≡ item_named transfer size word.now 0 items.now state.now }
     ensures there { IfSome result (λ i. i < length items.now) }
 {
@@ -50,8 +52,9 @@ fn item_for(db: &Db, state: &State, transfer: Transfer, noun: u16) -> Option<u8>
     ensures value { result ≡ item_named transfer db.now.header.length (root db.now noun) 0 db.now.items state.now }
     ensures there { IsItem db.now result }
 {
-    let size = db.header().length as usize;
-    least_named(db.items(), state, transfer, size, root(db, noun))
+    let parts = db.parts();
+    let size = parts.header.length as usize;
+    least_named(&parts.items, state, transfer, size, root(db, noun))
 }
 
 // Gets or drops an item, or says that it can't be done where there is none.

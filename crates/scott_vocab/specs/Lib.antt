@@ -1,3 +1,4 @@
 pub mod Span
 pub mod Heard
 pub mod Found
+pub mod Keys

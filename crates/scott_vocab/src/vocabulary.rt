@@ -1,12 +1,13 @@
 //! The entries of the vocabulary, found by a word or by their number.
-ghost use Rattle.std.specs.Prelude.{◌≡◌, ◌+◌, ◌<◌, ◌≤◌, ◌&&◌, length, map, drop, is_some, IfSome, if◌then◌else◌};
+ghost use Rattle.std.specs.Prelude.{◌≡◌, ◌+◌, ◌<◌, ◌≤◌, ◌&&◌, List, ℕ, length, map, drop, is_some, IfSome, if◌then◌else◌};
 ghost use Rattle.scott_types.specs.ItemText.{is_starred};
 ghost use Rattle.scott_rules.specs.Words.{column_of, entry_from, is_typed, root, spelling, which};
 ghost use Rattle.scott_vocab.specs.Found.{is_behind, up_to};
 ghost use Rattle.scott_vocab.specs.Heard.{IsEntry};
+ghost use Rattle.scott_vocab.specs.Keys.{IsKeyOf};
 
 use crate::entries::{entry_text, spelling};
-use crate::matching::is_typed;
+use crate::matching::Key;
 use scott_types::{Column, Db, Word, starts_with_star};
 
 /// The number of the plain entry that a word names: that of the first entry from 1 on that matches it.
@@ -26,13 +27,8 @@ pub(crate) fn which_up_to(db: &Db, column: Column, word: &[u8], last: Option<u16
     ensures there { IsEntry db.now result }
 {
     let parts = db.parts();
-    plain_entry(
-        &parts.words,
-        column,
-        parts.header.length as usize,
-        word,
-        last,
-    )
+    let key = Key::of(parts.header.length as usize, word);
+    plain_entry(&parts.words, column, &key, last)
 }
 
 /// The text of a noun's entry, with the mark of a synonym where it has one.
@@ -43,16 +39,11 @@ pub fn root(db: &Db, noun: u16) -> &[u8]
     entry_text(&db.parts().words[noun as usize], Column::Nouns)
 }
 
-// The plain entry that a word names among these entries, of which there are at most 1,000.
-fn plain_entry(
-    words: &[Word],
-    column: Column,
-    size: usize,
-    word: &[u8],
-    last: Option<u16>,
-) -> Option<u16>
+// The plain entry that a word of this key names among these entries, of which there are at most 1,000.
+fn plain_entry(words: &[Word], column: Column, key: &Key, last: Option<u16>) -> Option<u16>
     requires { length words.now ≤ 1000 }
-    ensures value { result ≡ up_to last (entry_from size word.now None 1 (drop 1 (map (column_of column) words.now))) }
+    ensures value { (word : List ℕ) → IsKeyOf key.now word
+        → result ≡ up_to last (entry_from key.now.size word None 1 (drop 1 (map (column_of column) words.now))) }
     ensures there { IfSome result (λ k. k < length words.now) }
 {
     let end = place_of(last);
@@ -63,7 +54,7 @@ fn plain_entry(
         if end < k && is_behind(nearest, last) {
             return None;
         }
-        if names_plain(nearest, entry, size, word) {
+        if names_plain(nearest, entry, key) {
             return nearest;
         }
     }
@@ -103,9 +94,10 @@ fn plain_at(before: Option<u16>, entry: &[u8], k: u16) -> Option<u16>
     }
 }
 
-// Whether a word matches an entry that stands for a plain one, the nearest.
-fn names_plain(nearest: Option<u16>, entry: &[u8], size: usize, word: &[u8]) -> bool
-    ensures { result ≡ (is_typed size (spelling entry.now) word.now && is_some nearest) }
+// Whether a word of this key matches an entry that stands for a plain one, the nearest.
+fn names_plain(nearest: Option<u16>, entry: &[u8], key: &Key) -> bool
+    ensures { (word : List ℕ) → IsKeyOf key.now word
+        → result ≡ (is_typed key.now.size (spelling entry.now) word && is_some nearest) }
 {
-    nearest.is_some() && is_typed(size, spelling(entry), word)
+    nearest.is_some() && key.matches(spelling(entry))
 }

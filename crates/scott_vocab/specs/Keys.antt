@@ -1,0 +1,11 @@
+-- A typed word as far as it counts.
+use Rattle.std.specs.Prelude.{◌≡◌, ℕ, List, take}
+use Rattle.std.specs.Str.{str_to_ascii_lowercase}
+
+-- how many bytes count, and those of the word, in small letters
+pub record Key : Type 0 where
+  pub size : ℕ
+  pub small : List ℕ
+
+abbrev pub IsKeyOf : Key → List ℕ → Type 0
+IsKeyOf key typed = key.small ≡ str_to_ascii_lowercase (take key.size typed)
