@@ -21,7 +21,7 @@ pub fn which(db: &Db, column: Column, word: &[u8]) -> Option<u16>
     which_up_to(db, column, word, None)
 }
 
-/// The same, but none behind the last that is asked for. No word behind that one is looked at.
+/// The same, but none behind the last that is asked for. Behind that one its synonyms alone are looked at.
 pub(crate) fn which_up_to(db: &Db, column: Column, word: &[u8], last: Option<u16>) -> Option<u16>
     ensures value { result ≡ up_to last (which db.now column word.now) }
     ensures there { IsEntry db.now result }
