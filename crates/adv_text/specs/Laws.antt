@@ -3,7 +3,7 @@
 use Rattle.std.specs.Prelude.{ℕ, Bool, nat_lt, ◌≡◌, ◌+◌, ◌↔◌, ◌≤ℤ◌, List, ◌++◌, ℤ, pos, negsuc, IsTrue, Ok, Err}
 use Rattle.std.specs.List.{list_all}
 use Rattle.adv_text.specs.Spelling.{Behind, Number, NoNumber, BigNumber, NoDigit, Quoted, NoString, Opened, Unclosed, Overlong, NoQuote}
-use Rattle.adv_text.specs.Reading.{Spot, Fault, no_number, big_number, no_quote, open_string, long_string, number_at, quoted_at}
+use Rattle.adv_text.specs.Reading.{Spot, SameEnd, Fault, no_number, big_number, no_quote, open_string, long_string, number_at, quoted_at}
 use Rattle.adv_text.specs.Writing.{number_text, quoted_text, is_text}
 
 -- ---- values
@@ -23,6 +23,13 @@ StringIsSpelled = (s after : Spot) (text : List ℕ) → quoted_at s ≡ Ok (tex
 abbrev pub SpelledStringIsRead : Type 0
 SpelledStringIsRead = (s : Spot) (text rest : List ℕ) → Quoted text s.rest rest
     → (after : Spot) × (after.rest ≡ rest) × (quoted_at s ≡ Ok (text, after))
+
+-- the spot behind a number that is read has moved by just the bytes that were taken
+abbrev pub NumberEnds : Type 0
+NumberEnds = (s after : Spot) (z : ℤ) → number_at s ≡ Ok (z, after) → SameEnd s after
+
+abbrev pub StringEnds : Type 0
+StringEnds = (s after : Spot) (text : List ℕ) → quoted_at s ≡ Ok (text, after) → SameEnd s after
 
 -- ---- faults
 

@@ -1,5 +1,5 @@
 //! The laws of reading and writing. Each is the contract of a function that does nothing.
-ghost use Rattle.adv_text.specs.Laws.{NumberIsSpelled, SpelledNumberIsRead, NumberFaultIsExact, StringIsSpelled, SpelledStringIsRead, StringFaultIsExact, NumberFits, StringIsText, NumberLeavesBytes, StringLeavesBytes, WrittenNumberIsSpelled, WrittenStringIsSpelled};
+ghost use Rattle.adv_text.specs.Laws.{NumberIsSpelled, SpelledNumberIsRead, NumberFaultIsExact, StringIsSpelled, SpelledStringIsRead, StringFaultIsExact, NumberEnds, StringEnds, NumberFits, StringIsText, NumberLeavesBytes, StringLeavesBytes, WrittenNumberIsSpelled, WrittenStringIsSpelled};
 
 /// A number that is read is spelled so.
 pub fn number_is_spelled()
@@ -29,6 +29,16 @@ pub fn spelled_string_is_read()
 /// A fault is answered for a string exactly where it stands, with its place.
 pub fn string_fault_is_exact()
     ensures { StringFaultIsExact }
+{}
+
+/// Reading goes on behind a number just as many bytes further as it took.
+pub fn number_ends()
+    ensures { NumberEnds }
+{}
+
+/// Reading goes on behind a string just as many bytes further as it took.
+pub fn string_ends()
+    ensures { StringEnds }
 {}
 
 /// A number lies within 32 bits with a sign.

@@ -9,3 +9,4 @@ pub mod CanonText
 pub mod Entries
 pub mod Whole
 pub mod Texts
+pub mod Wrongs

@@ -1,10 +1,12 @@
 -- The laws of the format.
-use Rattle.std.specs.Prelude.{ℕ, ◌≡◌, ◌⊎◌, ◌++◌, List}
+use Rattle.std.specs.Prelude.{ℕ, ◌≡◌, ◌⊎◌, ◌↔◌, ◌++◌, List}
+use Rattle.adv_text.specs.Reading.{spot}
 use Rattle.adv_text.specs.Laws.{AreBytes}
 use Rattle.scott_types.specs.Database.{Database}
 use Rattle.scott_types.specs.Limits.{KeepsLimits}
 use Rattle.scott_format.specs.Faults.{Fault}
-use Rattle.scott_format.specs.File.{DatText, DatFault}
+use Rattle.scott_format.specs.File.{file, DatText, DatFault}
+use Rattle.scott_format.specs.Faulty.{Faulty}
 use Rattle.scott_format.specs.Canon.{canon}
 
 -- bytes are a text of a database, or they have a fault
@@ -14,6 +16,10 @@ TextOrFault = (bytes : List ℕ) → ((db : Database) × DatText bytes db) ⊎ (
 -- and never both
 abbrev pub NeverBoth : Type 0
 NeverBoth = (bytes : List ℕ) (db : Database) (fault : Fault) → DatText bytes db → DatFault bytes fault → ⊥
+
+-- the fault of bytes is the first thing that is wrong with them
+abbrev pub FirstFault : Type 0
+FirstFault = (bytes : List ℕ) (fault : Fault) → DatFault bytes fault ↔ Faulty file (spot 0 bytes) fault
 
 -- a text is one of one database
 abbrev pub OneDatabase : Type 0

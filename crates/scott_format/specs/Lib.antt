@@ -6,3 +6,4 @@ pub mod Reading
 pub mod TextLaws
 pub mod Laws
 pub mod Canon
+pub mod Faulty

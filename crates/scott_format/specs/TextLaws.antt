@@ -1,5 +1,5 @@
 -- What is known of numbers and strings.
-use Rattle.adv_text.specs.Laws.{NumberIsSpelled, SpelledNumberIsRead, NumberFaultIsExact, StringIsSpelled, SpelledStringIsRead, NumberFits, StringIsText, NumberLeavesBytes, StringLeavesBytes, WrittenNumberIsSpelled, WrittenStringIsSpelled}
+use Rattle.adv_text.specs.Laws.{NumberIsSpelled, SpelledNumberIsRead, NumberFaultIsExact, StringIsSpelled, SpelledStringIsRead, StringFaultIsExact, NumberEnds, StringEnds, NumberFits, StringIsText, NumberLeavesBytes, StringLeavesBytes, WrittenNumberIsSpelled, WrittenStringIsSpelled}
 
 pub record TextLaws : Type 0 where
   pub number_is_spelled : NumberIsSpelled
@@ -7,6 +7,9 @@ pub record TextLaws : Type 0 where
   pub number_fault_is_exact : NumberFaultIsExact
   pub string_is_spelled : StringIsSpelled
   pub spelled_string_is_read : SpelledStringIsRead
+  pub string_fault_is_exact : StringFaultIsExact
+  pub number_ends : NumberEnds
+  pub string_ends : StringEnds
   pub number_fits : NumberFits
   pub string_is_text : StringIsText
   pub number_leaves_bytes : NumberLeavesBytes

@@ -1,5 +1,5 @@
 //! The laws of the format. Each is the contract of a function that does nothing else.
-ghost use Rattle.scott_format.specs.Laws.{TextOrFault, NeverBoth, OneDatabase, TextKeepsLimits, WrittenTextIsText};
+ghost use Rattle.scott_format.specs.Laws.{TextOrFault, NeverBoth, FirstFault, OneDatabase, TextKeepsLimits, WrittenTextIsText};
 
 use crate::text_laws::text_laws;
 
@@ -13,6 +13,13 @@ pub fn text_or_fault()
 /// Bytes are never both a text of a database and faulty.
 pub fn never_both()
     ensures { NeverBoth }
+{
+    text_laws();
+}
+
+/// The fault of bytes is the first thing that is wrong with them, in the order of the file.
+pub fn first_fault()
+    ensures { FirstFault }
 {
     text_laws();
 }

@@ -12,6 +12,9 @@ pub fn text_laws()
     laws::number_fault_is_exact();
     laws::string_is_spelled();
     laws::spelled_string_is_read();
+    laws::string_fault_is_exact();
+    laws::number_ends();
+    laws::string_ends();
     laws::number_fits();
     laws::string_is_text();
     laws::number_leaves_bytes();
