@@ -118,10 +118,8 @@ pub fn obey<C: Console>(
 {
     let full = are_hands_full(db, state, opcode);
     change_fitting(db, state, opcode, p, q);
-    match tell(db, state, noun, opcode, full, console) {
-        Ok(()) => Ok(ending(db, state, opcode)),
-        Err(fault) => Err(fault),
-    }
+    tell(db, state, noun, opcode, full, console)?;
+    Ok(ending(db, state, opcode))
 }
 
 /// How many parameters an opcode takes: a get that is refused leaves its own.

@@ -134,10 +134,8 @@ fn run<C: Console>(
 {
     let numbers = opcode_numbers(action);
     let parameters = parameters(action);
-    match course(db, state, noun, &numbers, parameters.as_slice(), console) {
-        Ok(over) => Ok(ran_of(over, goes_on(&numbers))),
-        Err(fault) => Err(fault),
-    }
+    let over = course(db, state, noun, &numbers, parameters.as_slice(), console)?;
+    Ok(ran_of(over, goes_on(&numbers)))
 }
 
 // Leaves a line that doesn't pass.

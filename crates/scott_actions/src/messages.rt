@@ -100,10 +100,8 @@ fn say_score<C: Console>(db: &Db, state: &State, console: &mut C) -> Result<(), 
     ensures { Speaks C.history C.left C.bound C.faults console.old console.new result
         (says (scored db.now state.now)) }
 {
-    match score(db, state, console) {
-        Ok(_all) => Ok(()),
-        Err(fault) => Err(fault),
-    }
+    let _all = score(db, state, console)?;
+    Ok(())
 }
 
 // A refusal where the hands are full, and nothing otherwise.

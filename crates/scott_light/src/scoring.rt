@@ -139,8 +139,6 @@ pub fn score<C: Console>(db: &Db, state: &State, console: &mut C) -> Result<bool
         (says (scored db.now state.now)) }
     ensures all { IfOk result (λ all. all ≡ all_stored db.now state.now) }
 {
-    match say_scored(db, state, console) {
-        Ok(()) => Ok(are_all_stored(db, state)),
-        Err(fault) => Err(fault),
-    }
+    say_scored(db, state, console)?;
+    Ok(are_all_stored(db, state))
 }

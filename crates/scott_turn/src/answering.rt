@@ -34,10 +34,10 @@ fn end_turn<C: Console>(
     ensures fits { Fits db.now state.new }
 {
     match over {
-        None => match count_light(db, state, console) {
-            Ok(()) => Ok(Position::Fresh),
-            Err(fault) => Err(fault),
-        },
+        None => {
+            count_light(db, state, console)?;
+            Ok(Position::Fresh)
+        }
         Some(ending) => Ok(Position::Over(ending)),
     }
 }
@@ -71,10 +71,8 @@ fn ask_again<C: Console>(console: &mut C) -> Result<Position, ConsoleFault>
         (says (text_of Prompt)) }
     ensures position { IfOk result (λ position. position ≡ Position.Line) }
 {
-    match console.say(Phrase::Prompt.text()) {
-        Ok(()) => Ok(Position::Line),
-        Err(fault) => Err(fault),
-    }
+    console.say(Phrase::Prompt.text())?;
+    Ok(Position::Line)
 }
 
 // Says that a word isn't known, and asks again.
@@ -88,10 +86,8 @@ fn refuse_word<C: Console>(word: &[u8], console: &mut C) -> Result<Position, Con
     page.add(word);
     page.add(Phrase::UnknownBack.text());
     page.add(Phrase::Prompt.text());
-    match page.say(console) {
-        Ok(()) => Ok(Position::Line),
-        Err(fault) => Err(fault),
-    }
+    page.say(console)?;
+    Ok(Position::Line)
 }
 
 /// Answers a line that was taken at the prompt, and tells where the play stands then: at a prompt again,

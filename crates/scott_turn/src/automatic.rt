@@ -57,10 +57,8 @@ fn enter<C: Console>(
     ensures fits { Fits db.now state.new }
 {
     if lets_in(db, head, draw) {
-        match try_group(db, state, head, &[], console) {
-            Ok(ran) => Ok(halt_of(ran)),
-            Err(fault) => Err(fault),
-        }
+        let ran = try_group(db, state, head, &[], console)?;
+        Ok(halt_of(ran))
     } else {
         Ok(Halt::Through)
     }

@@ -115,10 +115,8 @@ fn say_moved<C: Console>(item: &Item, console: &mut C) -> Result<Meeting, Consol
     let mut page = Page::new();
     page.add(shown(&item.text));
     page.add(Phrase::ItemDone.text());
-    match page.say(console) {
-        Ok(()) => Ok(Meeting::Moved),
-        Err(fault) => Err(fault),
-    }
+    page.say(console)?;
+    Ok(Meeting::Moved)
 }
 
 // Says that no more can be carried.
@@ -127,10 +125,8 @@ fn say_too_much<C: Console>(console: &mut C) -> Result<Meeting, ConsoleFault>
         (says (text_of TooMuch)) }
     ensures meeting { IfOk result (λ meeting. meeting ≡ Meeting.Ended None) }
 {
-    match console.say(Phrase::TooMuch.text()) {
-        Ok(()) => Ok(Meeting::Ended(None)),
-        Err(fault) => Err(fault),
-    }
+    console.say(Phrase::TooMuch.text())?;
+    Ok(Meeting::Ended(None))
 }
 
 // Gets or drops an item that was met, or refuses it and ends the command.

@@ -21,8 +21,6 @@ pub fn say_only<C: Console>(text: &[u8], console: &mut C) -> Result<Option<u8>, 
         (seen (says text.now)) }
     ensures over { IfOk result (λ over. over ≡ None) }
 {
-    match say_any(text, console) {
-        Ok(()) => Ok(None),
-        Err(fault) => Err(fault),
-    }
+    say_any(text, console)?;
+    Ok(None)
 }

@@ -73,10 +73,8 @@ fn take_turn<C: Console>(
     ensures fits { Fits game.now state.new }
 {
     if is_meant(game.db(), head, noun) {
-        match try_group(game.db(), state, head, typed, console) {
-            Ok(ran) => Ok(found_of(ran)),
-            Err(fault) => Err(fault),
-        }
+        let ran = try_group(game.db(), state, head, typed, console)?;
+        Ok(found_of(ran))
     } else {
         Ok(Found::NoMatch)
     }

@@ -58,10 +58,8 @@ fn try_tail_line<C: Console>(
     ensures over { IfOk result (λ over. over ≡ (tail_line db.now noun.now line state.old).value.over) }
     ensures fits { Fits db.now state.new }
 {
-    match try_line(db, state, line, noun, console) {
-        Ok(ran) => Ok(over_of(ran)),
-        Err(fault) => Err(fault),
-    }
+    let ran = try_line(db, state, line, noun, console)?;
+    Ok(over_of(ran))
 }
 
 // Tries each line of the tail that goes on at a line, until one ends the game.
