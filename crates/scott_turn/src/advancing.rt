@@ -53,13 +53,9 @@ fn prompt<C: Console>(db: &Db, state: &mut State, console: &mut C) -> Result<Pos
     ensures position { IfOk result (λ position. position ≡ Position.Line) }
     ensures fits { Fits db.now state.new }
 {
-    match look_if_due(db, state, console) {
-        Ok(()) => match say_any(Phrase::Prompt.text(), console) {
-            Ok(()) => Ok(Position::Line),
-            Err(fault) => Err(fault),
-        },
-        Err(fault) => Err(fault),
-    }
+    look_if_due(db, state, console)?;
+    say_any(Phrase::Prompt.text(), console)?;
+    Ok(Position::Line)
 }
 
 // What follows the automatic step: the prompt, where the step came through.
@@ -100,10 +96,8 @@ fn advance_from<C: Console>(
     ensures taken { draws.new.taken + length draws.new.left ≡ draws.old.taken + length draws.old.left }
     ensures fits { Fits game.now state.new }
 {
-    match automatic(game, state, from, draws, console) {
-        Ok(halt) => go_to_prompt(game.db(), state, halt, console),
-        Err(fault) => Err(fault),
-    }
+    let halt = automatic(game, state, from, draws, console)?;
+    go_to_prompt(game.db(), state, halt, console)
 }
 
 // A round begins.
@@ -121,10 +115,8 @@ fn begin<C: Console>(
     ensures taken { draws.new.taken + length draws.new.left ≡ draws.old.taken + length draws.old.left }
     ensures fits { Fits game.now state.new }
 {
-    match look_if_due(game.db(), state, console) {
-        Ok(()) => advance_from(game, state, 0, draws, console),
-        Err(fault) => Err(fault),
-    }
+    look_if_due(game.db(), state, console)?;
+    advance_from(game, state, 0, draws, console)
 }
 
 /// Everything up to the prompt, from where a play stands.

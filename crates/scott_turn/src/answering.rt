@@ -59,10 +59,8 @@ fn take_turn<C: Console>(
         ≡ record { position = position; state = state.new }) }
     ensures fits { Fits game.now state.new }
 {
-    match obey(game, state, command, typed, console) {
-        Ok(over) => end_turn(game.db(), state, over, console),
-        Err(fault) => Err(fault),
-    }
+    let over = obey(game, state, command, typed, console)?;
+    end_turn(game.db(), state, over, console)
 }
 
 // Asks again behind a blank line.

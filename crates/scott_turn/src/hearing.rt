@@ -33,10 +33,8 @@ fn answer_and_advance<C: Console>(
     ensures taken { draws.new.taken + length draws.new.left ≡ draws.old.taken + length draws.old.left }
     ensures fits { Fits game.now state.new }
 {
-    match answer(game, state, line, console) {
-        Ok(position) => advance(game, state, position, draws, console),
-        Err(fault) => Err(fault),
-    }
+    let position = answer(game, state, line, console)?;
+    advance(game, state, position, draws, console)
 }
 
 // The same where the play stands behind a prompt; elsewhere the line is dropped.

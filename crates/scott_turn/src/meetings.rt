@@ -94,16 +94,9 @@ fn try_lines<C: Console>(
         ≡ record { state = state.new; over = over }) }
     ensures fits { Fits game.now state.new }
 {
-    match search(
-        game,
-        state,
-        command_for(game.db(), transfer, i),
-        typed,
-        console,
-    ) {
-        Ok(found) => Ok(ending_in(found)),
-        Err(fault) => Err(fault),
-    }
+    let command = command_for(game.db(), transfer, i);
+    let found = search(game, state, command, typed, console)?;
+    Ok(ending_in(found))
 }
 
 // Says that an item was got or dropped.
@@ -199,10 +192,8 @@ fn meet<C: Console>(
         ≡ record { state = state.new; meeting = found }) }
     ensures fits { Fits game.now state.new }
 {
-    match try_lines(game, state, transfer, i, typed, console) {
-        Ok(over) => go_on_behind(game.db(), state, transfer, i, over, console),
-        Err(fault) => Err(fault),
-    }
+    let over = try_lines(game, state, transfer, i, typed, console)?;
+    go_on_behind(game.db(), state, transfer, i, over, console)
 }
 
 /// An item's turn, whether or not it is met.

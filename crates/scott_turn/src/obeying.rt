@@ -129,10 +129,8 @@ fn do_by_lines<C: Console>(
         ≡ record { state = state.new; over = over }) }
     ensures fits { Fits game.now state.new }
 {
-    match search(game, state, command, typed, console) {
-        Ok(found) => go_on_behind(game, state, command, typed, found, console),
-        Err(fault) => Err(fault),
-    }
+    let found = search(game, state, command, typed, console)?;
+    go_on_behind(game, state, command, typed, found, console)
 }
 
 // Going: it asks for a direction, and goes there. With another noun it is a verb like any.

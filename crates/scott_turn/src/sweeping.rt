@@ -120,13 +120,9 @@ fn sweep_all<C: Console>(
         ≡ record { state = state.new; over = over }) }
     ensures fits { Fits game.now state.new }
 {
-    match sweep(game, state, transfer, typed, console) {
-        Ok(swept) => match say_any(text_behind(swept, transfer), console) {
-            Ok(()) => Ok(swept.over),
-            Err(fault) => Err(fault),
-        },
-        Err(fault) => Err(fault),
-    }
+    let swept = sweep(game, state, transfer, typed, console)?;
+    say_any(text_behind(swept, transfer), console)?;
+    Ok(swept.over)
 }
 
 /// Gets or drops all, item by item; for getting it must not be dark.

@@ -78,8 +78,6 @@ pub fn walk<C: Console>(
     let mut page = Page::new();
     page.add(warning(dark));
     page.add(way_text(dark, room));
-    match page.say(console) {
-        Ok(()) => Ok(way_over(dark, room)),
-        Err(fault) => Err(fault),
-    }
+    page.say(console)?;
+    Ok(way_over(dark, room))
 }

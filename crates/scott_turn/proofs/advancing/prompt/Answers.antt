@@ -1,16 +1,20 @@
+use Rattle.std.proofs.lemmas.Result.{err_from_is_err_and}
 use Rattle.scott_types.specs.declared.phrases.Phrase.TheVariants.{Prompt}
 use Rattle.scott_types.specs.Phrase.{text_of}
 use Rattle.scott_rules.specs.Rounds.{look_due}
 use Rattle.scott_turn.proofs.Going.{as_ok, as_err, texts_then, texts_stop}
 use Rattle.scott_turn.proofs.advancing.prompt.Goals as goal
 
-pub returns-in-Ok-say_any-clause-spoken : goal.returns-in-Ok-say_any-clause-spoken
-returns-in-Ok-say_any-clause-spoken g c =
-    texts_then (look_due c.args.db.now c.args.state.now) (text_of Prompt) c.in-Ok.ensures.spoken (as_ok _ (rw c.text.ensures at c.in-Ok-say_any.ensures))
+pub returns-clause-spoken : goal.returns-clause-spoken
+returns-clause-spoken g c =
+    texts_then (look_due c.args.db.now c.args.state.now) (text_of Prompt) c.in_ok-look_if_due.ensures.spoken (as_ok _ (rw c.text.ensures at c.in_ok-say_any.ensures))
 
-pub returns-in-Err-say_any-clause-spoken : goal.returns-in-Err-say_any-clause-spoken
-returns-in-Err-say_any-clause-spoken g c =
-    texts_then (look_due c.args.db.now c.args.state.now) (text_of Prompt) c.in-Ok.ensures.spoken (as_err _ (rw c.text.ensures at c.in-Err-say_any.ensures))
+pub returns-in_err-say_any-clause-spoken : goal.returns-in_err-say_any-clause-spoken
+returns-in_err-say_any-clause-spoken g c =
+    let p = err_from_is_err_and c.from_residual-in_err-say_any.result c.from_residual-in_err-say_any.ensures.1 in
+    rw (p.1) (texts_then (look_due c.args.db.now c.args.state.now) (text_of Prompt) c.in_ok-look_if_due.ensures.spoken (as_err p.0 (rw c.text.ensures at c.in_err-say_any.ensures)))
 
-pub returns-in-Err-clause-spoken : goal.returns-in-Err-clause-spoken
-returns-in-Err-clause-spoken g c = texts_stop c.in-Err.fault (look_due c.args.db.now c.args.state.now) (text_of Prompt) c.in-Err.ensures.spoken
+pub returns-in_err-look_if_due-clause-spoken : goal.returns-in_err-look_if_due-clause-spoken
+returns-in_err-look_if_due-clause-spoken g c =
+    let p = err_from_is_err_and c.from_residual.result c.from_residual.ensures.1 in
+    rw (p.1) (texts_stop p.0 (look_due c.args.db.now c.args.state.now) (text_of Prompt) c.in_err-look_if_due.ensures.spoken)

@@ -1,17 +1,19 @@
+use Rattle.std.proofs.lemmas.Result.{err_from_is_err_and}
 use Rattle.std.proofs.Common.{◌≡◌, sym, ap}
 use Rattle.scott_rules.specs.Rounds.{turn_ended, obeyed}
 use Rattle.scott_turn.proofs.Going.{steps_then, steps_stop}
 use Rattle.scott_turn.proofs.answering.take_turn.Goals as goal
 
-pub returns-in-Ok-clause-spoken : goal.returns-in-Ok-clause-spoken
-returns-in-Ok-clause-spoken g c =
+pub returns-clause-spoken : goal.returns-clause-spoken
+returns-clause-spoken g c =
     let t = obeyed c.args.game.now c.args.typed.now c.args.command.verb c.args.command.noun c.args.state.now in
-    let state : c.obey.new.state ≡ t.value.state = sym (ap (λ o. o.state) c.in-Ok.ensures.left) in
-    let over : c.in-Ok.over ≡ t.value.over = sym (ap (λ o. o.over) c.in-Ok.ensures.left) in
-    steps_then t.events (turn_ended t.value.over t.value.state).events c.in-Ok.ensures.spoken
+    let state : c.obey.new.state ≡ t.value.state = sym (ap (λ o. o.state) c.in_ok-over.ensures.left) in
+    let over : c.in_ok-over.over ≡ t.value.over = sym (ap (λ o. o.over) c.in_ok-over.ensures.left) in
+    steps_then t.events (turn_ended t.value.over t.value.state).events c.in_ok-over.ensures.spoken
     (rw (state, over) at c.end_turn.ensures.spoken)
 
-pub returns-in-Err-clause-spoken : goal.returns-in-Err-clause-spoken
-returns-in-Err-clause-spoken g c =
+pub returns-in_err-over-clause-spoken : goal.returns-in_err-over-clause-spoken
+returns-in_err-over-clause-spoken g c =
     let t = obeyed c.args.game.now c.args.typed.now c.args.command.verb c.args.command.noun c.args.state.now in
-    steps_stop c.in-Err.fault t.events (turn_ended t.value.over t.value.state).events c.in-Err.ensures.spoken
+    let p = err_from_is_err_and c.from_residual.result c.from_residual.ensures.1 in
+    rw (p.1) (steps_stop p.0 t.events (turn_ended t.value.over t.value.state).events c.in_err-over.ensures.spoken)

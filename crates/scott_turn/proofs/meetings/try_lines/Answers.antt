@@ -2,10 +2,10 @@ use Rattle.scott_turn.proofs.Going.{as_ok}
 use Rattle.scott_turn.proofs.Items.{lines-left}
 use Rattle.scott_turn.proofs.meetings.try_lines.Goals as goal
 
-pub returns-in-Ok-clause-spoken : goal.returns-in-Ok-clause-spoken
-returns-in-Ok-clause-spoken g c =
-    as_ok _ (rw (c.command_for.ensures.verb, c.command_for.ensures.noun, c.db.ensures) at c.in-Ok.ensures.spoken)
+pub returns-clause-spoken : goal.returns-clause-spoken
+returns-clause-spoken g c =
+    as_ok _ (rw (c.command_for-command.ensures.verb, c.command_for-command.ensures.noun, c.db.ensures) at c.in_ok-found.ensures.spoken)
 
-pub returns-in-Ok-clause-left : goal.returns-in-Ok-clause-left
-returns-in-Ok-clause-left g c =
-    rw c.ending_in.ensures (lines-left _ c.search.new.state c.in-Ok.found (rw (c.command_for.ensures.verb, c.command_for.ensures.noun, c.db.ensures) at c.in-Ok.ensures.left))
+pub returns-clause-left : goal.returns-clause-left
+returns-clause-left g c =
+    rw c.ending_in.ensures (lines-left _ c.search.new.state c.in_ok-found.found (rw (c.command_for-command.ensures.verb, c.command_for-command.ensures.noun, c.db.ensures) at c.in_ok-found.ensures.left))
