@@ -9,3 +9,4 @@ pub mod Prompts
 pub mod Playing
 pub mod Sittings
 pub mod Said
+pub mod WordIndexes

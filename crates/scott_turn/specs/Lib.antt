@@ -1,5 +1,6 @@
 pub mod Seen
 pub mod Heads
+pub mod WordIndex
 pub mod Turns
 pub mod Meetings
 pub mod Ways

@@ -108,7 +108,7 @@ pub fn answer<C: Console>(
         ≡ record { position = position; state = state.new }) }
     ensures fits { Fits game.now state.new }
 {
-    match command(game.db(), line) {
+    match command(game, line) {
         Heard::Blank => ask_again(console),
         Heard::Unknown(start, length) => refuse_word(word_at(line, start, length), console),
         Heard::Command(verb, noun) => {

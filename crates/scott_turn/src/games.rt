@@ -1,20 +1,23 @@
-//! A game with an index of its heads: the first head of each verb, and behind each head the next one of its verb.
+//! A game with an index of its heads and one of its words: the first head of each verb, behind each head the next
+//! one of its verb, and the plain entry that each word names.
 ghost use Rattle.std.specs.Prelude.{◌≡◌, ◌≢◌, ◌+◌, ◌<◌, [], length, IfOk, OnOk, MatchOption, nat_eq};
 ghost use Rattle.indexmap.specs.IndexMap.{get};
 ghost use Rattle.scott_types.specs.Action.{verb_of};
 ghost use Rattle.scott_rules.specs.Lines.{action_at};
-ghost use Rattle.scott_turn.specs.Heads.{groups_for, ComesNext, HasFirsts, IsBehind};
+ghost use Rattle.scott_turn.specs.Heads.{groups_for, ComesNext, HasFirsts, IsBehind, IsIndex};
 
 use crate::heads::next_head;
+use crate::words::WordIndex;
 use adv_io::Memory;
 use indexmap::IndexMap;
-use scott_types::Db;
+use scott_types::{Column, Db};
+use scott_vocab::{Vocabulary, as_direction};
 use std::alloc::Global;
 use std::marker::Model;
 
-/// A game, and an index of its heads by their verbs.
+/// A game, with an index of its heads by their verbs, and one of the words of its verbs and nouns.
 ///
-/// A clause sees the database alone: the index says nothing that the lines don't say.
+/// A clause sees the database alone: the indexes say nothing that its lines and words don't say.
 #[derive(Drop)]
 pub struct Game<'a> {
     db: &'a Db,
@@ -22,6 +25,8 @@ pub struct Game<'a> {
     firsts: IndexMap<u32, u16>,
     // For each line that is a head the next head of its verb behind it.
     nexts: Vec<Option<u16>>,
+    verbs: WordIndex,
+    nouns: WordIndex,
 }
 
 impl<'a> Model for Game<'a> {
@@ -29,12 +34,14 @@ impl<'a> Model for Game<'a> {
     ghost use Rattle.indexmap.specs.IndexMap.{get};
     ghost use Rattle.scott_types.specs.Database.{Database};
     ghost use Rattle.scott_turn.specs.Heads.{IsIndex};
+    ghost use Rattle.scott_turn.specs.WordIndex.{FindsAllWords};
 
     ghost Value = { Database };
 
     ghost view = { λ g. g.db.now };
 
-    ghost invariant = { λ g. IsIndex g.db.now (get nat_eq g.firsts) g.nexts.items };
+    ghost invariant = { λ g. IsIndex g.db.now (get nat_eq g.firsts) g.nexts.items
+        × FindsAllWords g.db.now g.verbs g.nouns };
 }
 
 // Puts a line in front of those whose first heads are known, and tells the head behind it of its verb.
@@ -52,18 +59,35 @@ fn put_in_front(firsts: &mut IndexMap<u32, u16>, db: &Db, line: u16) -> Result<O
     Ok(next)
 }
 
+// The index of the heads: the first head of each verb, and for each line that is a head the next of its
+// verb. The lines are read once, the last first.
+fn index_heads(alloc: Global, db: &Db) -> Result<(IndexMap<u32, u16>, Vec<Option<u16>>), Memory>
+    ensures { IfOk result (λ heads. IsIndex db.now (get nat_eq heads.0) heads.1.items) }
+{
+    let lines = db.actions().len();
+    let mut firsts = IndexMap::new(alloc);
+    let mut nexts: Vec<Option<u16>> = vec![in alloc; None; lines]?;
+    for line in (0..lines).rev() {
+        nexts[line] = put_in_front(&mut firsts, db, line as u16)?;
+    }
+    Ok((firsts, nexts))
+}
+
 impl<'a> Game<'a> {
-    /// The game of a database. Its lines are read once, the last first.
+    /// The game of a database. Its lines are read once, and the words of each column once.
     pub fn of(alloc: Global, db: &'a Db) -> Result<Game<'a>, Memory>
         ensures { IfOk result (λ game. game ≡ db.now) }
     {
-        let lines = db.actions().len();
-        let mut firsts = IndexMap::new(alloc);
-        let mut nexts: Vec<Option<u16>> = vec![in alloc; None; lines]?;
-        for line in (0..lines).rev() {
-            nexts[line] = put_in_front(&mut firsts, db, line as u16)?;
-        }
-        Ok(Game { db, firsts, nexts })
+        let verbs = WordIndex::of(alloc, db, Column::Verbs)?;
+        let nouns = WordIndex::of(alloc, db, Column::Nouns)?;
+        let (firsts, nexts) = index_heads(alloc, db)?;
+        Ok(Game {
+            db,
+            firsts,
+            nexts,
+            verbs,
+            nouns,
+        })
     }
 
     /// The database of the game.
@@ -97,5 +121,21 @@ impl<'a> Game<'a> {
             (groups_for self.now verb (head + 1) ≡ []) (λ next. ComesNext self.now verb (head + 1) next) }
     {
         self.nexts[head as usize]
+    }
+}
+
+/// A word is found by one look-up.
+impl<'a> Vocabulary for Game<'a> {
+    ghost db = { λ game. game };
+
+    fn named(&self, column: Column, word: &[u8]) -> Option<u16> {
+        match column {
+            Column::Verbs => self.verbs.find(word),
+            Column::Nouns => self.nouns.find(word),
+        }
+    }
+
+    fn direction(&self, word: &[u8]) -> Option<u16> {
+        as_direction(self.nouns.find(word))
     }
 }

@@ -17,7 +17,7 @@ use crate::transferring::{is_at_hand, is_refused, transfer_item};
 use adv_io::{Console, ConsoleFault};
 use scott_light::Page;
 use scott_types::{Column, Db, Found, Item, Phrase, State, Transfer, get_word, shown};
-use scott_vocab::which;
+use scott_vocab::Vocabulary;
 
 /// The verb that takes.
 pub const GET: u16 = 10;
@@ -54,15 +54,15 @@ fn verb_for(transfer: Transfer) -> u16
 }
 
 // The command that an item's lines are searched for: the verb, and the item's own noun.
-fn command_for(db: &Db, transfer: Transfer, i: u8) -> Command
-    requires { i < length db.now.items }
+fn command_for(game: &Game, transfer: Transfer, i: u8) -> Command
+    requires { i < length game.now.items }
     ensures verb { result.verb ≡ verb_for transfer }
-    ensures noun { result.noun ≡ which db.now Column.Nouns (get_word (item_at db.now i).text) }
+    ensures noun { result.noun ≡ which game.now Column.Nouns (get_word (item_at game.now i).text) }
 {
-    let item = &db.items()[i as usize];
+    let item = &game.db().items()[i as usize];
     Command {
         verb: verb_for(transfer),
-        noun: which(db, Column::Nouns, get_word(&item.text)),
+        noun: game.named(Column::Nouns, get_word(&item.text)),
     }
 }
 
@@ -94,7 +94,7 @@ fn try_lines<C: Console>(
         ≡ record { state = state.new; over = over }) }
     ensures fits { Fits game.now state.new }
 {
-    let command = command_for(game.db(), transfer, i);
+    let command = command_for(game, transfer, i);
     let found = search(game, state, command, typed, console)?;
     Ok(ending_in(found))
 }

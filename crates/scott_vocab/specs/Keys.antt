@@ -2,10 +2,14 @@
 use Rattle.std.specs.Prelude.{◌≡◌, ℕ, List, take}
 use Rattle.std.specs.Str.{str_to_ascii_lowercase}
 
+-- the bytes of a word that count, in small letters
+abbrev pub letters : ℕ → List ℕ → List ℕ
+letters size word = str_to_ascii_lowercase (take size word)
+
 -- how many bytes count, and those of the word, in small letters
 pub record Key : Type 0 where
   pub size : ℕ
   pub small : List ℕ
 
 abbrev pub IsKeyOf : Key → List ℕ → Type 0
-IsKeyOf key typed = key.small ≡ str_to_ascii_lowercase (take key.size typed)
+IsKeyOf key typed = key.small ≡ letters key.size typed

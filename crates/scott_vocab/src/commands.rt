@@ -1,13 +1,14 @@
 //! The command that a line means.
 ghost use Rattle.std.specs.Prelude.{◌≡◌, IfSome};
 ghost use Rattle.scott_rules.specs.Commands.{whole_word, heard, is_direction, noun_named};
+ghost use Rattle.scott_vocab.specs.Found.{as_direction};
 ghost use Rattle.scott_vocab.specs.Span.{IsWithin};
 ghost use Rattle.scott_vocab.specs.Heard.{IsEntry, IsThere};
 
 use crate::splitting::{split, word_at};
-use crate::vocabulary::{which, which_up_to};
+use crate::vocabularies::Vocabulary;
 use adv_io::Line;
-use scott_types::{Column, Db, Heard};
+use scott_types::{Column, Heard};
 
 /// The verb that goes somewhere.
 pub const GO: u16 = 1;
@@ -18,12 +19,12 @@ pub const LAST_DIRECTION: u16 = 6;
 /// What a line means: nothing, a word that isn't known and where it stands in the line, or a verb and
 /// perhaps a noun, by the numbers of their plain entries.
 ///
-/// The verbs are passed once, and the nouns once, but for those of the directions.
+/// The vocabulary is asked for a direction, for the verb, and for the noun that stands behind it.
 ///
 /// docs/TURN.md, "A line", states the rule.
-pub fn command(db: &Db, line: &Line) -> Heard
-    ensures value { result ≡ heard db.now line.now }
-    ensures there { IsThere db.now line.now result }
+pub fn command<V: Vocabulary>(vocabulary: &V, line: &Line) -> Heard
+    ensures value { result ≡ heard (V.db vocabulary.now) line.now }
+    ensures there { IsThere (V.db vocabulary.now) line.now result }
 {
     let words = split(line);
     let Some((start, length)) = words.first else {
@@ -35,13 +36,11 @@ pub fn command(db: &Db, line: &Line) -> Heard
     } else {
         typed
     };
-    if let Some(noun) = which_up_to(db, Column::Nouns, word, Some(LAST_DIRECTION))
-        && is_direction(noun)
-    {
+    if let Some(noun) = vocabulary.direction(word) {
         return Heard::Command(GO, Some(noun));
     }
-    match which(db, Column::Verbs, word) {
-        Some(verb) => Heard::Command(verb, noun_at(db, line, words.second)),
+    match vocabulary.named(Column::Verbs, word) {
+        Some(verb) => Heard::Command(verb, noun_at(vocabulary, line, words.second)),
         None => Heard::Unknown(start, length),
     }
 }
@@ -53,14 +52,24 @@ pub fn is_direction(noun: u16) -> bool
     1 <= noun && noun <= LAST_DIRECTION
 }
 
+/// A noun that was found, where it is a direction.
+pub fn as_direction(found: Option<u16>) -> Option<u16>
+    ensures { result ≡ as_direction found }
+{
+    match found {
+        Some(noun) if is_direction(noun) => Some(noun),
+        _ => None,
+    }
+}
+
 // The noun that the word at a place of the line names.
-fn noun_at(db: &Db, line: &Line, place: Option<(u8, u8)>) -> Option<u16>
+fn noun_at<V: Vocabulary>(vocabulary: &V, line: &Line, place: Option<(u8, u8)>) -> Option<u16>
     requires { IfSome place (λ span. IsWithin span line.now) }
-    ensures value { result ≡ noun_named db.now line.now place }
-    ensures there { IsEntry db.now result }
+    ensures value { result ≡ noun_named (V.db vocabulary.now) line.now place }
+    ensures there { IsEntry (V.db vocabulary.now) result }
 {
     let (start, length) = place?;
-    which(db, Column::Nouns, word_at(line, start, length))
+    vocabulary.named(Column::Nouns, word_at(line, start, length))
 }
 
 // What a letter stands for; any other word is itself.

@@ -1,8 +1,38 @@
-//! The text of an entry of the vocabulary, with and without the mark of a synonym.
-ghost use Rattle.std.specs.Prelude.{◌≡◌};
-ghost use Rattle.scott_rules.specs.Words.{column_of, spelling};
+//! The entries of the vocabulary: the word of each, and the plain entry that it stands for.
+ghost use Rattle.std.specs.Prelude.{◌≡◌, ◌+◌, ◌<◌, ◌&&◌, List, ℕ, length, is_some, IfSome, if◌then◌else◌};
+ghost use Rattle.scott_types.specs.ItemText.{is_starred};
+ghost use Rattle.scott_rules.specs.Words.{column_of, is_typed, spelling};
+ghost use Rattle.scott_vocab.specs.Found.{which_from};
 
-use scott_types::{Column, Word, starts_with_star};
+use scott_types::{Column, Db, Word, starts_with_star};
+
+/// An entry of the vocabulary: its word, without the mark of a synonym, and the plain entry that it stands
+/// for.
+///
+/// A plain entry stands for itself, and a synonym for the nearest plain one before it, if there is one.
+#[derive(Clone, Copy)]
+pub struct Entry<'a> {
+    pub word: &'a [u8],
+    pub plain: Option<u16>,
+}
+
+/// The entry of a column at a place from 1 on, where `before` is the nearest plain entry before it.
+///
+/// A word names the plain entry that this one stands for, if it matches it, or what it names behind it.
+pub fn entry_at<'a>(db: &'a Db, column: Column, k: usize, before: Option<u16>) -> Entry<'a>
+    requires there { k < length db.now.words }
+    requires before { IfSome before (λ plain. plain < k) }
+    ensures names { (word : List ℕ) → which_from db.now column word before k
+        ≡ (if is_typed db.now.header.length result.word.now word && is_some result.plain
+        then result.plain else which_from db.now column word result.plain (k + 1)) }
+    ensures plain { IfSome result.plain (λ plain. plain < k + 1) }
+{
+    let text = entry_text(&db.words()[k], column);
+    Entry {
+        word: spelling(text),
+        plain: plain_at(before, text, k as u16),
+    }
+}
 
 /// The text of an entry in a column.
 pub fn entry_text(word: &Word, column: Column) -> &[u8]
@@ -14,13 +44,26 @@ pub fn entry_text(word: &Word, column: Column) -> &[u8]
     }
 }
 
-/// The word of an entry: its text without the mark.
-pub fn spelling(entry: &[u8]) -> &[u8]
+// The word of an entry: its text without the mark.
+fn spelling(entry: &[u8]) -> &[u8]
     ensures { result.now ≡ spelling entry.now }
 {
     if starts_with_star(entry) {
         &entry[1..]
     } else {
         entry
+    }
+}
+
+// The nearest plain entry at or before entry k, where `before` is the nearest one before it.
+fn plain_at(before: Option<u16>, entry: &[u8], k: u16) -> Option<u16>
+    requires { IfSome before (λ plain. plain < k) }
+    ensures value { result ≡ (if is_starred entry.now then before else Some k) }
+    ensures there { IfSome result (λ plain. plain < k + 1) }
+{
+    if starts_with_star(entry) {
+        before
+    } else {
+        Some(k)
     }
 }

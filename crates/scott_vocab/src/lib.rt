@@ -5,12 +5,15 @@ mod commands;
 mod entries;
 mod matching;
 mod splitting;
+mod vocabularies;
 mod vocabulary;
 
-pub use commands::{GO, LAST_DIRECTION, command, is_direction};
-pub use matching::is_typed;
+pub use commands::{GO, LAST_DIRECTION, as_direction, command, is_direction};
+pub use entries::{Entry, entry_at};
+pub use matching::{is_typed, letters};
 pub use scott_types::{Column, Heard, Words};
 pub use splitting::{split, typed_noun, word_at};
+pub use vocabularies::Vocabulary;
 pub use vocabulary::{root, which};
 
 #[cfg(test)]

@@ -2,7 +2,7 @@
 ghost use Rattle.std.specs.Prelude.{◌≡◌, ◌≤◌, List, ℕ, take, bytes_eq, length};
 ghost use Rattle.std.specs.Str.{str_to_ascii_lowercase};
 ghost use Rattle.scott_rules.specs.Words.{is_typed};
-ghost use Rattle.scott_vocab.specs.Keys.{IsKeyOf};
+ghost use Rattle.scott_vocab.specs.Keys.{letters, IsKeyOf};
 
 use arrayvec::ArrayVec;
 use std::marker::Model;
@@ -33,7 +33,7 @@ impl Key {
     {
         Key {
             size,
-            small: small_letters(front(typed, size)),
+            small: letters(size, typed),
         }
     }
 
@@ -45,6 +45,16 @@ impl Key {
     {
         !word.is_empty() && is_spelled(front(word, self.size), self.small.as_slice())
     }
+}
+
+/// The letters of a word: its first bytes, as many as the word length, in small letters.
+///
+/// A word of the database that isn't empty matches a typed word exactly where their letters are the same.
+pub fn letters(size: usize, word: &[u8]) -> ArrayVec<u8, 20>
+    requires { size ≤ 20 }
+    ensures { result.items ≡ letters size word.now }
+{
+    small_letters(front(word, size))
 }
 
 /// Whether a word of the database matches the typed one, at a word length of at most 20.

@@ -1,6 +1,7 @@
 //! Each public call, on a vocabulary made by hand.
 use crate::{
-    Column, Heard, command, is_direction, is_typed, root, split, typed_noun, which, word_at,
+    Column, Heard, Vocabulary, as_direction, command, entry_at, is_direction, is_typed, letters,
+    root, split, typed_noun, which, word_at,
 };
 use adv_io::Line;
 use scott_types::{Action, Db, Header, Item, Parts, Room, Text, Trailer, Word};
@@ -107,6 +108,38 @@ fn words_name_plain_entries(rt: HostRuntime) -> Result<(), Fail> {
 }
 
 #[test]
+fn a_database_finds_nouns_and_directions(rt: HostRuntime) -> Result<(), Fail> {
+    let db = game(rt.alloc())?;
+    for (word, noun, direction) in [
+        ("NORTHWARD", Some(1), Some(1)),
+        ("down", Some(6), Some(6)),
+        ("lant", Some(7), None),
+        ("any", None, None),
+    ] {
+        assert_eq!(rt; db.named(Column::Nouns, word.as_bytes()), noun, "at {word}");
+        assert_eq!(rt; db.direction(word.as_bytes()), direction, "at {word}");
+    }
+    assert_eq!(rt; db.named(Column::Verbs, b"walk"), Some(2));
+    Ok(())
+}
+
+#[test]
+fn entries_stand_for_plain_ones(rt: HostRuntime) -> Result<(), Fail> {
+    let db = game(rt.alloc())?;
+    let entries = db.words().len();
+    assert_eq!(rt; entries, 12);
+    let run = entry_at(&db, Column::Verbs, 1, None);
+    assert_eq!(rt; run.word, b"RUN".as_slice());
+    assert_eq!(rt; run.plain, None);
+    let walk = entry_at(&db, Column::Verbs, 3, Some(2));
+    assert_eq!(rt; walk.word, b"WALK".as_slice());
+    assert_eq!(rt; walk.plain, Some(2));
+    let lamp = entry_at(&db, Column::Nouns, 7, Some(6));
+    assert_eq!(rt; lamp.plain, Some(7));
+    Ok(())
+}
+
+#[test]
 fn nouns_have_texts(rt: HostRuntime) -> Result<(), Fail> {
     let db = game(rt.alloc())?;
     let entries = db.parts().words.len();
@@ -169,6 +202,22 @@ fn lines_are_commands(rt: HostRuntime) -> Result<(), Fail> {
 fn six_nouns_are_directions(rt: HostRuntime) {
     for (noun, direction) in [(0, false), (1, true), (6, true), (7, false)] {
         assert_eq!(rt; is_direction(noun), direction, "at {noun}");
+        assert_eq!(rt;
+            as_direction(Some(noun)),
+            direction.then_some(noun),
+            "at {noun}"
+        );
+    }
+}
+
+#[test]
+fn letters_are_small_and_few(rt: HostRuntime) {
+    for (size, word, small) in [(3, "LAMP", "lam"), (20, "Lamp", "lamp"), (0, "lamp", "")] {
+        assert_eq!(rt;
+            letters(size, word.as_bytes()).as_slice(),
+            small.as_bytes(),
+            "at {word}"
+        );
     }
 }
 

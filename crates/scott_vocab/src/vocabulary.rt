@@ -1,14 +1,13 @@
 //! The entries of the vocabulary, found by a word or by their number.
-ghost use Rattle.std.specs.Prelude.{◌≡◌, ◌+◌, ◌<◌, ◌≤◌, ◌&&◌, List, ℕ, length, map, drop, is_some, IfSome, if◌then◌else◌};
-ghost use Rattle.scott_types.specs.ItemText.{is_starred};
-ghost use Rattle.scott_rules.specs.Words.{column_of, entry_from, is_typed, root, spelling, which};
+ghost use Rattle.std.specs.Prelude.{◌≡◌, ◌<◌, ◌&&◌, List, ℕ, length, is_some, IfSome};
+ghost use Rattle.scott_rules.specs.Words.{is_typed, root, which};
 ghost use Rattle.scott_vocab.specs.Found.{is_behind, up_to};
 ghost use Rattle.scott_vocab.specs.Heard.{IsEntry};
 ghost use Rattle.scott_vocab.specs.Keys.{IsKeyOf};
 
-use crate::entries::{entry_text, spelling};
+use crate::entries::{Entry, entry_at, entry_text};
 use crate::matching::Key;
-use scott_types::{Column, Db, Word, starts_with_star};
+use scott_types::{Column, Db};
 
 /// The number of the plain entry that a word names: that of the first entry from 1 on that matches it.
 /// There is none exactly where no entry does.
@@ -28,7 +27,19 @@ pub(crate) fn which_up_to(db: &Db, column: Column, word: &[u8], last: Option<u16
 {
     let parts = db.parts();
     let key = Key::of(parts.header.length as usize, word);
-    plain_entry(&parts.words, column, &key, last)
+    let end = place_of(last);
+    let mut nearest = None;
+    for k in 1..parts.words.len() {
+        let entry = entry_at(db, column, k, nearest);
+        nearest = entry.plain;
+        if end < k && is_behind(nearest, last) {
+            return None;
+        }
+        if names_plain(&entry, &key) {
+            return nearest;
+        }
+    }
+    None
 }
 
 /// The text of a noun's entry, with the mark of a synonym where it has one.
@@ -37,28 +48,6 @@ pub fn root(db: &Db, noun: u16) -> &[u8]
     ensures { result.now ≡ root db.now noun }
 {
     entry_text(&db.parts().words[noun as usize], Column::Nouns)
-}
-
-// The plain entry that a word of this key names among these entries, of which there are at most 1,000.
-fn plain_entry(words: &[Word], column: Column, key: &Key, last: Option<u16>) -> Option<u16>
-    requires { length words.now ≤ 1000 }
-    ensures value { (word : List ℕ) → IsKeyOf key.now word
-        → result ≡ up_to last (entry_from key.now.size word None 1 (drop 1 (map (column_of column) words.now))) }
-    ensures there { IfSome result (λ k. k < length words.now) }
-{
-    let end = place_of(last);
-    let mut nearest = None;
-    for k in 1..words.len() {
-        let entry = entry_text(&words[k], column);
-        nearest = plain_at(nearest, entry, k as u16);
-        if end < k && is_behind(nearest, last) {
-            return None;
-        }
-        if names_plain(nearest, entry, key) {
-            return nearest;
-        }
-    }
-    None
 }
 
 // The place of the last entry that is asked for; where there is none, one behind all entries.
@@ -81,23 +70,10 @@ fn is_behind(entry: Option<u16>, last: Option<u16>) -> bool
     }
 }
 
-// The nearest plain entry at or before entry k, where `before` is the nearest one before it.
-fn plain_at(before: Option<u16>, entry: &[u8], k: u16) -> Option<u16>
-    requires { IfSome before (λ plain. plain < k) }
-    ensures value { result ≡ (if is_starred entry.now then before else Some k) }
-    ensures there { IfSome result (λ plain. plain < k + 1) }
-{
-    if starts_with_star(entry) {
-        before
-    } else {
-        Some(k)
-    }
-}
-
-// Whether a word of this key matches an entry that stands for a plain one, the nearest.
-fn names_plain(nearest: Option<u16>, entry: &[u8], key: &Key) -> bool
+// Whether a word of this key matches an entry that stands for a plain one.
+fn names_plain(entry: &Entry, key: &Key) -> bool
     ensures { (word : List ℕ) → IsKeyOf key.now word
-        → result ≡ (is_typed key.now.size (spelling entry.now) word && is_some nearest) }
+        → result ≡ (is_typed key.now.size entry.now.word.now word && is_some entry.now.plain) }
 {
-    nearest.is_some() && key.matches(spelling(entry))
+    entry.plain.is_some() && key.matches(entry.word)
 }

@@ -1,7 +1,7 @@
 use Rattle.std.proofs.Common.{nat_eq}
 use Rattle.indexmap.specs.IndexMap.{get}
 use Rattle.scott_turn.specs.Heads.{IsIndexFrom}
-use Rattle.scott_turn.proofs.games.Game.of.Given as goal
+use Rattle.scott_turn.proofs.games.index_heads.Given as goal
 
 -- the lines from this one on are in the index
 abbrev pub invariant-loop-line : goal.invariant-loop-line

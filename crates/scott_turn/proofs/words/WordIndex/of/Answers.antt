@@ -1,0 +1,17 @@
+use Rattle.std.proofs.Common.{◌∙◌, ◌≤◌, length, arith, ap}
+use Rattle.scott_turn.proofs.WordIndexes.{finds_further, finds_all}
+use Rattle.scott_turn.proofs.words.WordIndex.of.Goals as goal
+
+pub loop-k-preserved : goal.loop-k-preserved
+loop-k-preserved c = record {
+  finds =
+      finds_further c.args.db.now c.args.column c.loop-k.nearest c.entry_at-entry.result.plain c.loop-k.k c.entry_at-entry.result.word.now c.loop-k.index c.add.new.self
+      c.loop-k.invariant.size c.entry_at-entry.ensures.names c.in_ok-add.ensures.found c.loop-k.invariant.finds;
+  size = c.in_ok-add.ensures.size ∙ c.loop-k.invariant.size;
+  before = c.entry_at-entry.ensures.plain;
+}
+
+pub returns : goal.returns
+returns c =
+    let past : length c.args.db.now.words ≤ c.loop-k.k = omega (arith, c.loop-k-test.false, ap length c.words-k-end.ensures.value) in
+    finds_all c.args.db.now c.args.column c.loop-k.nearest c.loop-k.k c.loop-k.index past c.loop-k.invariant.finds
