@@ -6,3 +6,5 @@ pub mod Giving
 pub mod Places
 pub mod Answered
 pub mod Pieces
+pub mod ShortNumbers
+pub mod PlainStrings

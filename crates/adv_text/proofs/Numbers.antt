@@ -189,12 +189,12 @@ module _ (negative : Bool) (start : ℕ) where
   amount_misses at (b ∷ bytes) h = rw h refl
 
 -- a digit is neither a sign nor a blank
-record IsNoSign (b : ℕ) : Type 0 where
-  minus_no : eqb b 45 ≡ false
-  plus_no : eqb b 43 ≡ false
-  blank_no : is_blank b ≡ false
+pub record IsNoSign (b : ℕ) : Type 0 where
+  pub minus_no : eqb b 45 ≡ false
+  pub plus_no : eqb b 43 ≡ false
+  pub blank_no : is_blank b ≡ false
 
-digit_no_sign : (b : ℕ) → is_ascii_digit b ≡ true → IsNoSign b
+pub digit_no_sign : (b : ℕ) → is_ascii_digit b ≡ true → IsNoSign b
 digit_no_sign b e =
     let low : 48 ≤ b = leb-true 48 b (and_parts (leb 48 b) (leb b 57) e).0 in
     record {

@@ -1,30 +1,17 @@
 -- Bytes of a string that are kept as they are, many at a time.
-use Rattle.std.proofs.Common.{◌≡◌, ◌∙◌, ℕ, zero, suc, ◌+◌, ◌≤◌, ◌<◌, Bool, true, false, cond, not, List, [], ◌∷◌, ◌++◌, length, take, drop, get_or, Result, Err, refl, sym, ap, subst, arith, append_assoc, length-append}
+use Rattle.std.proofs.Common.{◌≡◌, ◌∙◌, ℕ, zero, suc, ◌+◌, ◌≤◌, ◌<◌, Bool, true, false, cond, List, [], ◌∷◌, ◌++◌, length, take, drop, get_or, Result, Err, refl, sym, ap, subst, arith, append_assoc, length-append}
 use Rattle.std.proofs.lemmas.List.{append-nil}
 use Rattle.std.proofs.lemmas.List.Sums.{prefix_len_stops}
-use Rattle.std.proofs.lemmas.Bool.{and_parts}
 use Rattle.std.proofs.lemmas.Bool.Decides.{nat_tests}
 use Rattle.std.specs.List.{prefix_len}
+use Rattle.adv_text.specs.Spelling.{is_plain}
+use Rattle.adv_text.proofs.Strings.{plain_byte}
 use Rattle.adv_text.specs.declared.faults.TextFault.{TextFault}
 use Rattle.adv_text.specs.declared.faults.TextFault.TheVariants as answer
-use Rattle.std.specs.Prelude.{◌==◌, nat_lt, ◌&&◌}
-use Rattle.adv_text.specs.Reading.{Spot, Fault, long_string, keep, inside_at, is_plain, IsLong, Stands}
+use Rattle.std.specs.Prelude.{◌==◌, nat_lt}
+use Rattle.adv_text.specs.Reading.{Spot, Fault, long_string, keep, inside_at, IsLong, Stands}
 
-is_not : (b : Bool) → not b ≡ true → b ≡ false
-is_not true is = absurd cc
-is_not false is = refl
-
--- such a byte is no quote, return or grave accent
-inside-plain : (opened : ℕ) (kept : List ℕ) (at b : ℕ) (bytes : List ℕ) → is_plain b ≡ true → inside_at opened false kept at (b ∷ bytes) ≡ keep opened kept b (λ more. inside_at opened false more (at + 1) bytes)
-inside-plain opened kept at b bytes plain =
-    let parts = and_parts (not (b == 34)) (not (b == 13) && not (b == 96)) plain in
-    let others = and_parts (not (b == 13)) (not (b == 96)) parts.1 in
-    let no_quote : (b == 34) ≡ false = is_not (b == 34) parts.0 in
-    let no_return : (b == 13) ≡ false = is_not (b == 13) others.0 in
-    let no_accent : (b == 96) ≡ false = is_not (b == 96) others.1 in
-    rw (no_quote, no_return, no_accent) refl
-
--- the first so many bytes are such bytes
+-- the first so many bytes are kept as they are
 abbrev pub ArePlain : List ℕ → ℕ → Type 0
 ArePlain bytes n = (k : ℕ) → k < n → is_plain (get_or bytes k 0) ≡ true
 
@@ -40,7 +27,7 @@ run-kept opened kept [] (suc n) at within plain room = absurd (omega arith)
 run-kept opened kept (b ∷ bytes) (suc n) at within plain room =
     let fits : nat_lt (length kept) 4096 ≡ true = grind arith in
     let longer : length (kept ++ b ∷ []) + n ≤ 4096 = omega (arith, length-append kept (b ∷ [])) in
-    inside-plain opened kept at b bytes (plain 0 (omega arith))
+    plain_byte opened kept at b bytes (plain 0 (omega arith))
     ∙ ap (λ t. cond t (inside_at opened false (kept ++ b ∷ []) (at + 1) bytes) (Err (long_string opened))) fits
     ∙ run-kept opened (kept ++ b ∷ []) bytes n (at + 1) (omega arith) (tail-plain b bytes n plain) longer
     ∙ ap (λ more. inside_at opened false more (at + 1 + n) (drop n bytes)) (append_assoc kept (b ∷ []) (take n bytes))
@@ -52,7 +39,7 @@ pub run-long : (opened : ℕ) (kept bytes : List ℕ) (n at : ℕ) → n ≤ len
 run-long opened kept bytes zero at within plain short long = absurd (omega arith)
 run-long opened kept [] (suc n) at within plain short long = absurd (omega arith)
 run-long opened kept (b ∷ bytes) (suc n) at within plain short long =
-    inside-plain opened kept at b bytes (plain 0 (omega arith))
+    plain_byte opened kept at b bytes (plain 0 (omega arith))
     ∙ by_room (nat_lt (length kept) 4096) refl
     (λ fits. run-long opened (kept ++ b ∷ []) bytes n (at + 1) (omega arith) (tail-plain b bytes n plain) (omega (arith, length-append kept (b ∷ []), fits)) (omega (arith, length-append kept (b ∷ []), long)))
   where

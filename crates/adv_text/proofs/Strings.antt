@@ -150,7 +150,7 @@ Reads text rest r = (after : Spot) × (after.rest ≡ rest) × (r ≡ Ok (text, 
 
 module _ (opened : ℕ) where
   -- what is kept of a plain byte, and what isn't
-  plain_byte : (kept : List ℕ) (at b : ℕ) (bytes : List ℕ) → is_plain b ≡ true
+  pub plain_byte : (kept : List ℕ) (at b : ℕ) (bytes : List ℕ) → is_plain b ≡ true
       → inside_at opened false kept at (b ∷ bytes) ≡ keep opened kept b (λ k. inside_at opened false k (at + 1) bytes)
   plain_byte kept at b bytes e =
       let no_quote_or = or_parts (eqb b 34) (eqb b 13 || eqb b 96) (not-true _ e) in

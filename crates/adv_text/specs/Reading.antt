@@ -1,5 +1,5 @@
 -- Reading from left to right, with the first fault that is met.
-use Rattle.std.specs.Prelude.{ℕ, ◌≡◌, ◌+◌, ◌-◌, ◌*◌, ◌≤◌, ◌<◌, ◌⊎◌, ◌==◌, nat_le, nat_lt, Bool, true, false, not, ◌&&◌, if◌then◌else◌, Option, Some, None, drop, List, [], ◌∷◌, ◌++◌, length, ℤ, Result, Ok, Err}
+use Rattle.std.specs.Prelude.{ℕ, ◌≡◌, ◌+◌, ◌-◌, ◌*◌, ◌≤◌, ◌<◌, ◌⊎◌, ◌==◌, nat_le, nat_lt, Bool, true, false, if◌then◌else◌, Option, Some, None, drop, List, [], ◌∷◌, ◌++◌, length, ℤ, Result, Ok, Err}
 use Rattle.std.specs.Global.{Vec}
 use Rattle.std.specs.Char.{is_ascii_digit}
 use Rattle.adv_text.specs.Spelling.{is_blank, signed, greatest}
@@ -135,10 +135,6 @@ IsLong (answer.NoQuote at) opened size = ⊥
 IsLong (answer.OpenString at) opened size = ⊥
 IsLong (answer.LongString at) opened size = (at ≡ opened) × (4096 < size)
 IsLong answer.Memory opened size = Unit {0}
-
--- a byte of a string that is kept as it is
-abbrev pub is_plain : ℕ → Bool
-is_plain b = not (b == 34) && (not (b == 13) && not (b == 96))
 
 -- From any place: a piece of a string takes bytes, and what was kept by then goes on behind it; or the string ends here, or the file.
 abbrev pub GoesOn : ℕ → Bool → List ℕ → List ℕ → List ℕ → Option (ℕ × Bool) → Type 0

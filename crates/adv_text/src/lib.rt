@@ -1,10 +1,12 @@
 //! Numbers and quoted strings in a text file: reading them from left to right, and writing them.
 #![tactic(auto)]
 
+mod bytes;
 pub mod faults;
 pub mod laws;
 mod quoted;
 pub mod scan;
+mod usual;
 pub mod writing;
 
 pub use adv_io::Memory;

@@ -1,19 +1,14 @@
 //! The inside of a quoted string, piece by piece.
 ghost use Rattle.std.specs.Prelude.{◌≡◌, ◌+◌, List, ℕ, IfOk, IfErr, OnOk, ◌++◌, ◌∷◌, ◌<◌, ◌≤◌, ◌-◌, length, Ok, Err, true, false};
 ghost use Rattle.std.specs.List.{prefix_len};
-ghost use Rattle.adv_text.specs.Reading.{inside_at, is_plain, GoesOn, Stands, IsLong};
+ghost use Rattle.adv_text.specs.Spelling.{is_plain};
+ghost use Rattle.adv_text.specs.Reading.{inside_at, GoesOn, Stands, IsLong};
 
+use crate::bytes::is_plain;
 use crate::faults::TextFault;
 
-// Whether a byte of a string is kept as it is.
-fn is_plain(byte: u8) -> bool
-    ensures { result ≡ is_plain byte }
-{
-    byte != b'"' && byte != b'\r' && byte != b'`'
-}
-
-// How many of the first bytes are kept as they are.
-fn plain_length(bytes: &[u8]) -> usize
+/// How many of the first bytes are kept as they are.
+pub fn plain_length(bytes: &[u8]) -> usize
     ensures value { result ≡ prefix_len is_plain bytes.now }
     ensures within { result ≤ length bytes.now }
 {

@@ -1,11 +1,13 @@
 //! A scan over the bytes of a file.
 ghost use Rattle.std.specs.Prelude.{◌≡◌, ◌≢◌, ◌+◌, List, ℕ, ℤ, IfOk, IfErr, OnErr, OnOk, ◌<◌, ◌≤◌, ◌-◌, length, Ok, Err, MatchResult, ◌↔◌, true, false};
-ghost use Rattle.adv_text.specs.Spelling.{is_blank, greatest, signed, Number, Quoted};
+ghost use Rattle.adv_text.specs.Spelling.{greatest, signed, Number, Quoted};
 ghost use Rattle.adv_text.specs.Reading.{Spot, spot, SameEnd, past_blanks, past_sign, amount_at, number_at, quoted_at, opening_at, Stands, IsFaultOf, Fault, told, IsText, IsErrOrMemory};
 ghost use Rattle.adv_text.specs.Laws.{NumberFault, StringFault};
 
+use crate::bytes::is_blank;
 use crate::faults::TextFault;
 use crate::quoted::next_piece;
+use crate::usual::{plain_string, short_amount, short_number};
 use std::alloc::Global;
 use std::marker::Model;
 
@@ -27,13 +29,6 @@ impl<'a> Model for Scan<'a> {
     ghost view = { λ s. record { at = s.at; rest = s.rest.now } };
 
     ghost invariant = { λ s. s.at + length s.rest.now < 2 ^ 64 };
-}
-
-// Whether a byte is a blank.
-fn is_blank(byte: u8) -> bool
-    ensures { result ≡ is_blank byte }
-{
-    matches!(byte, 9..=13 | b' ')
 }
 
 // The greatest amount of a number of 32 bits, negative or not.
@@ -74,6 +69,7 @@ impl<'a> Scan<'a> {
     ///
     /// Its value lies within 32 bits with a sign. The faults are `NoNumber` and `BigNumber`. This call
     /// takes no memory. docs/FORMAT.md has the rule.
+    #[inline(always)]
     pub fn number(&mut self) -> Result<i32, TextFault>
         // What is read is spelled so, and what is spelled so is read.
         ensures spelled { IfOk result (λ z. Number z self.old.rest self.new.rest) }
@@ -97,6 +93,7 @@ impl<'a> Scan<'a> {
     ///
     /// At most 4,096 bytes are kept. The faults are `NoQuote`, `LongString`, `OpenString` and `Memory`.
     /// docs/FORMAT.md has the rule.
+    #[inline(always)]
     pub fn quoted(&mut self, alloc: Global) -> Result<Vec<u8>, TextFault>
         // What is read is spelled so, and what is spelled so is read, unless memory runs out.
         ensures spelled { IfOk result (λ text. Quoted text.items self.old.rest self.new.rest) }
@@ -116,8 +113,26 @@ impl<'a> Scan<'a> {
     }
 
     // The next number, as the definition reads it.
-    #[tactic(auto, unfolding(crate::specs::Reading::number_at))]
+    #[inline(always)]
     fn next_number(&mut self) -> Result<i32, TextFault>
+        ensures value { IfOk result (λ z. number_at self.old ≡ Ok (z, self.new)) }
+        ensures fault { IfErr result (λ fault. IsFaultOf fault (number_at self.old)) }
+        ensures stays { OnErr result (self.new ≡ self.old) }
+    {
+        match short_number(self.rest) {
+            Some((number, size)) => {
+                self.at += size;
+                self.rest = &self.rest[size..];
+                Ok(number)
+            }
+            None => self.any_number(),
+        }
+    }
+
+    // The same, however it stands.
+    #[cold]
+    #[tactic(auto, unfolding(crate::specs::Reading::number_at))]
+    fn any_number(&mut self) -> Result<i32, TextFault>
         ensures value { IfOk result (λ z. number_at self.old ≡ Ok (z, self.new)) }
         ensures fault { IfErr result (λ fault. IsFaultOf fault (number_at self.old)) }
         ensures stays { OnErr result (self.new ≡ self.old) }
@@ -130,8 +145,28 @@ impl<'a> Scan<'a> {
     }
 
     // The next string, as the definition reads it.
-    #[tactic(auto, unfolding(crate::specs::Reading::quoted_at))]
+    #[inline(always)]
     fn next_string(&mut self, alloc: Global) -> Result<Vec<u8>, TextFault>
+        ensures value { IfOk result (λ text. quoted_at self.old ≡ Ok (text.items, self.new)) }
+        ensures fault { IfErr result (λ fault. Stands fault (quoted_at self.old)) }
+        ensures stays { OnErr result (self.new ≡ self.old) }
+    {
+        match plain_string(self.rest) {
+            Some(inside) => {
+                let text = Vec::from_slice(alloc, inside)?;
+                let size = inside.len() + 3;
+                self.at += size;
+                self.rest = &self.rest[size..];
+                Ok(text)
+            }
+            None => self.any_string(alloc),
+        }
+    }
+
+    // The same, however it stands.
+    #[cold]
+    #[tactic(auto, unfolding(crate::specs::Reading::quoted_at))]
+    fn any_string(&mut self, alloc: Global) -> Result<Vec<u8>, TextFault>
         ensures value { IfOk result (λ text. quoted_at self.old ≡ Ok (text.items, self.new)) }
         ensures fault { IfErr result (λ fault. Stands fault (quoted_at self.old)) }
         ensures stays { OnErr result (self.new ≡ self.old) }
@@ -191,6 +226,13 @@ impl<'a> Scan<'a> {
     fn amount(&self, negative: bool, start: usize) -> Result<(i32, Scan<'a>), TextFault>
         ensures { MatchResult result (λ x. amount_at negative start self.now.at self.now.rest ≡ Ok x) (λ fault. IsFaultOf fault (amount_at negative start self.now.at self.now.rest)) }
     {
+        if let Some((amount, size)) = short_amount(self.rest) {
+            let behind = Scan {
+                at: self.at + size,
+                rest: &self.rest[size..],
+            };
+            return Ok((signed(negative, u64::from(amount)), behind));
+        }
         let [first, more @ ..] = self.rest else {
             return Err(TextFault::NoNumber(start));
         };

@@ -10,6 +10,9 @@ fn numbers_are_read(rt: HostRuntime) {
         (b"2147483647".as_slice(), 2147483647, 10),
         (b"\t\r\n +007 8".as_slice(), 7, 8),
         (b"-0-1".as_slice(), 0, 2),
+        (b" 30415 2".as_slice(), 30415, 6),
+        (b"\n999999 \"".as_slice(), 999999, 7),
+        (b" 1000000 ".as_slice(), 1000000, 8),
     ] {
         let mut scan = Scan::new(bytes);
         assert_eq!(rt; scan.number(), Ok(number));
@@ -41,6 +44,21 @@ fn strings_are_read(rt: HostRuntime) -> Result<(), Fail> {
     let text = scan.quoted(rt.alloc())?;
     assert_eq!(rt; text.as_slice(), b"a\"b\"c\nd".as_slice());
     assert_eq!(rt; scan.number(), Ok(5));
+    Ok(())
+}
+
+#[test]
+fn plain_strings_are_read(rt: HostRuntime) -> Result<(), Fail> {
+    for (bytes, text, at) in [
+        (b"\n\"hall\" 2".as_slice(), b"hall".as_slice(), 7),
+        (b" \"\"\n".as_slice(), b"".as_slice(), 3),
+        (b" \"a\"\"b\" ".as_slice(), b"a\"b".as_slice(), 7),
+        (b" \"a\"".as_slice(), b"a".as_slice(), 4),
+    ] {
+        let mut scan = Scan::new(bytes);
+        assert_eq!(rt; scan.quoted(rt.alloc())?.as_slice(), text);
+        assert_eq!(rt; scan.at(), at);
+    }
     Ok(())
 }
 

@@ -2,7 +2,8 @@ use Rattle.std.proofs.Common.{◌≡◌, ℕ, ◌+◌, ◌≤◌, false, length,
 use Rattle.std.proofs.lemmas.Result.{err_from_is_err_and}
 use Rattle.std.proofs.lemmas.List.{length-take}
 use Rattle.std.proofs.lemmas.List.Sums.{prefix_len_passes}
-use Rattle.adv_text.specs.Reading.{inside_at, is_plain, IsLong}
+use Rattle.adv_text.specs.Spelling.{is_plain}
+use Rattle.adv_text.specs.Reading.{inside_at, IsLong}
 use Rattle.adv_text.proofs.Pieces.{long-stands, run-kept, run-long, first-counts, ArePlain}
 use Rattle.adv_text.proofs.quoted.next_piece.Goals as goal
 
