@@ -1,6 +1,5 @@
 -- A plan tells just the fault that the bytes have.
-use Rattle.std.proofs.Common.{◌≡◌, ℕ, ◌+◌, Bool, true, false, cond, ◌⊎◌, inl, inr, List, length, Option, Some, None, ℤ, Result, Ok, Err, refl, sym, ap, subst, ◌∙◌, arith}
-use Rattle.adv_text.specs.Spelling.{Number, Quoted}
+use Rattle.std.proofs.Common.{◌≡◌, ℕ, ◌+◌, Bool, true, false, cond, ◌⊎◌, inl, inr, List, length, Option, Some, None, ℤ, Result, Ok, Err, refl, sym, ap, ◌∙◌, arith}
 use Rattle.adv_text.specs.Reading.{Spot, SameEnd, number_at, quoted_at, no_number, big_number, no_quote, open_string, long_string}
 use Rattle.adv_text.specs.Reading.{Fault as TextFault}
 use Rattle.adv_text.specs.Laws.{NumberFault}

@@ -1,6 +1,6 @@
 //! Why a text is no database.
 use adv_text::TextFault;
-use std::alloc::AllocFailed;
+use std::alloc::{AllocError, AllocFailed};
 
 /// A number of the header that has a limit.
 #[derive(Clone, Copy, Debug, PartialEq, Eq)]
@@ -69,6 +69,17 @@ impl<T: Drop> From<AllocFailed<T>> for FormatFault {
     ghost from_gives = { λ _ fault. fault ≡ Memory };
 
     fn from(_e: AllocFailed<T>) -> FormatFault {
+        FormatFault::Memory
+    }
+}
+
+impl From<AllocError> for FormatFault {
+    ghost use Rattle.std.specs.Prelude.{◌≡◌};
+    ghost use Rattle.scott_format.specs.declared.faults.FormatFault.TheVariants.{Memory};
+
+    ghost from_gives = { λ _ fault. fault ≡ Memory };
+
+    fn from(_fault: AllocError) -> FormatFault {
         FormatFault::Memory
     }
 }

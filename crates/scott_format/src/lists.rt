@@ -12,7 +12,7 @@ use std::alloc::Global;
 pub fn list<P: Piece>(alloc: Global, scan: &mut Scan, highest: u16) -> Result<Vec<P>, FormatFault>
     ensures { Gives (λ v. v.items) (many P.plan 0 (highest + 1)) scan.old result scan.new }
 {
-    let mut entries = Vec::new(alloc);
+    let mut entries = Vec::with_capacity(alloc, usize::from(highest) + 1)?;
     for k in 0..=highest {
         entries.push(P::read(alloc, scan, k)?)?;
     }

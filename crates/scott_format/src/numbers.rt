@@ -10,6 +10,7 @@ use scott_types::Text;
 use std::alloc::Global;
 
 /// A number without a limit.
+#[inline(always)]
 pub fn number(scan: &mut Scan) -> Result<i32, FormatFault>
     ensures { Follows any_number scan.old result scan.new }
 {
@@ -53,6 +54,7 @@ pub fn light_time(scan: &mut Scan) -> Result<i32, FormatFault>
 }
 
 /// A number of an action, 0 or more.
+#[inline(always)]
 pub fn action_number(scan: &mut Scan, action: u16) -> Result<u32, FormatFault>
     ensures { Follows (action_number action) scan.old result scan.new }
 {
@@ -75,6 +77,7 @@ pub fn third_number(scan: &mut Scan) -> Result<i32, FormatFault>
 }
 
 /// A string.
+#[inline(always)]
 pub fn string(alloc: Global, scan: &mut Scan) -> Result<Text, FormatFault>
     ensures { Follows string scan.old result scan.new }
 {

@@ -6,7 +6,7 @@ use Rattle.scott_format.proofs.lists.list.Goals.{else-loop-k-test, then-loop-k-t
 
 pub returns-in_err-read : goal.returns-in_err-read
 returns-in_err-read g c =
-    let p = err_from_is_err_and c.from_residual.result c.from_residual.ensures.1 in
+    let p = err_from_is_err_and c.from_residual-in_err-read.result c.from_residual-in_err-read.ensures.1 in
     let less : c.loop-k.k < c.args.highest + 1 = omega arith in
     rw (p.1, p.2)
     (stops g.P.Piece.plan c.loop-k.entries.items c.loop-k.k (c.args.highest + 1) c.loop-k.scan _ c.in_err-read.field-0.0 less c.in_err-read.ensures c.loop-k.invariant)
