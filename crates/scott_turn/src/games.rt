@@ -11,7 +11,7 @@ use crate::words::WordIndex;
 use adv_io::Memory;
 use indexmap::IndexMap;
 use scott_types::{Column, Db};
-use scott_vocab::{Vocabulary, as_direction};
+use scott_vocab::Vocabulary;
 use std::alloc::Global;
 use std::marker::Model;
 
@@ -133,9 +133,5 @@ impl<'a> Vocabulary for Game<'a> {
             Column::Verbs => self.verbs.find(word),
             Column::Nouns => self.nouns.find(word),
         }
-    }
-
-    fn direction(&self, word: &[u8]) -> Option<u16> {
-        as_direction(self.nouns.find(word))
     }
 }

@@ -1,7 +1,8 @@
 //! The command that a line means.
 ghost use Rattle.std.specs.Prelude.{◌≡◌, IfSome};
+ghost use Rattle.scott_types.specs.declared.commands.Column.TheVariants.{Nouns};
+ghost use Rattle.scott_rules.specs.Words.{which};
 ghost use Rattle.scott_rules.specs.Commands.{whole_word, heard, is_direction, noun_named};
-ghost use Rattle.scott_vocab.specs.Found.{as_direction};
 ghost use Rattle.scott_vocab.specs.Span.{IsWithin};
 ghost use Rattle.scott_vocab.specs.Heard.{IsEntry, IsThere};
 
@@ -36,7 +37,9 @@ pub fn command<V: Vocabulary>(vocabulary: &V, line: &Line) -> Heard
     } else {
         typed
     };
-    if let Some(noun) = vocabulary.direction(word) {
+    if let Some(noun) = noun_of(vocabulary, word)
+        && is_direction(noun)
+    {
         return Heard::Command(GO, Some(noun));
     }
     match vocabulary.named(Column::Verbs, word) {
@@ -52,14 +55,12 @@ pub fn is_direction(noun: u16) -> bool
     1 <= noun && noun <= LAST_DIRECTION
 }
 
-/// A noun that was found, where it is a direction.
-pub fn as_direction(found: Option<u16>) -> Option<u16>
-    ensures { result ≡ as_direction found }
+// The noun that a word names.
+fn noun_of<V: Vocabulary>(vocabulary: &V, word: &[u8]) -> Option<u16>
+    ensures value { result ≡ which (V.db vocabulary.now) Nouns word.now }
+    ensures there { IsEntry (V.db vocabulary.now) result }
 {
-    match found {
-        Some(noun) if is_direction(noun) => Some(noun),
-        _ => None,
-    }
+    vocabulary.named(Column::Nouns, word)
 }
 
 // The noun that the word at a place of the line names.
@@ -69,7 +70,7 @@ fn noun_at<V: Vocabulary>(vocabulary: &V, line: &Line, place: Option<(u8, u8)>) 
     ensures there { IsEntry (V.db vocabulary.now) result }
 {
     let (start, length) = place?;
-    vocabulary.named(Column::Nouns, word_at(line, start, length))
+    noun_of(vocabulary, word_at(line, start, length))
 }
 
 // What a letter stands for; any other word is itself.

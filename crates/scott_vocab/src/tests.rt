@@ -1,7 +1,7 @@
 //! Each public call, on a vocabulary made by hand.
 use crate::{
-    Column, Heard, Vocabulary, as_direction, command, entry_at, is_direction, is_typed, letters,
-    root, split, typed_noun, which, word_at,
+    Column, Heard, Vocabulary, command, entry_at, is_direction, is_typed, letters, root, split,
+    typed_noun, which, word_at,
 };
 use adv_io::Line;
 use scott_types::{Action, Db, Header, Item, Parts, Room, Text, Trailer, Word};
@@ -108,18 +108,16 @@ fn words_name_plain_entries(rt: HostRuntime) -> Result<(), Fail> {
 }
 
 #[test]
-fn a_database_finds_nouns_and_directions(rt: HostRuntime) -> Result<(), Fail> {
+fn a_database_is_a_vocabulary(rt: HostRuntime) -> Result<(), Fail> {
     let db = game(rt.alloc())?;
-    for (word, noun, direction) in [
-        ("NORTHWARD", Some(1), Some(1)),
-        ("down", Some(6), Some(6)),
-        ("lant", Some(7), None),
-        ("any", None, None),
+    for (column, word, plain) in [
+        (Column::Nouns, "NORTHWARD", Some(1)),
+        (Column::Nouns, "lant", Some(7)),
+        (Column::Nouns, "any", None),
+        (Column::Verbs, "walk", Some(2)),
     ] {
-        assert_eq!(rt; db.named(Column::Nouns, word.as_bytes()), noun, "at {word}");
-        assert_eq!(rt; db.direction(word.as_bytes()), direction, "at {word}");
+        assert_eq!(rt; db.named(column, word.as_bytes()), plain, "at {word}");
     }
-    assert_eq!(rt; db.named(Column::Verbs, b"walk"), Some(2));
     Ok(())
 }
 
@@ -202,11 +200,6 @@ fn lines_are_commands(rt: HostRuntime) -> Result<(), Fail> {
 fn six_nouns_are_directions(rt: HostRuntime) {
     for (noun, direction) in [(0, false), (1, true), (6, true), (7, false)] {
         assert_eq!(rt; is_direction(noun), direction, "at {noun}");
-        assert_eq!(rt;
-            as_direction(Some(noun)),
-            direction.then_some(noun),
-            "at {noun}"
-        );
     }
 }
 

@@ -1,7 +1,6 @@
 //! The entries of the vocabulary, found by a word or by their number.
-ghost use Rattle.std.specs.Prelude.{◌≡◌, ◌<◌, ◌&&◌, List, ℕ, length, is_some, IfSome};
+ghost use Rattle.std.specs.Prelude.{◌≡◌, ◌<◌, ◌&&◌, List, ℕ, length, is_some};
 ghost use Rattle.scott_rules.specs.Words.{is_typed, root, which};
-ghost use Rattle.scott_vocab.specs.Found.{is_behind, up_to};
 ghost use Rattle.scott_vocab.specs.Heard.{IsEntry};
 ghost use Rattle.scott_vocab.specs.Keys.{IsKeyOf};
 
@@ -17,24 +16,12 @@ pub fn which(db: &Db, column: Column, word: &[u8]) -> Option<u16>
     ensures value { result ≡ which db.now column word.now }
     ensures there { IsEntry db.now result }
 {
-    which_up_to(db, column, word, None)
-}
-
-/// The same, but none behind the last that is asked for. Behind that one its synonyms alone are looked at.
-pub(crate) fn which_up_to(db: &Db, column: Column, word: &[u8], last: Option<u16>) -> Option<u16>
-    ensures value { result ≡ up_to last (which db.now column word.now) }
-    ensures there { IsEntry db.now result }
-{
     let parts = db.parts();
     let key = Key::of(parts.header.length as usize, word);
-    let end = place_of(last);
     let mut nearest = None;
     for k in 1..parts.words.len() {
         let entry = entry_at(db, column, k, nearest);
         nearest = entry.plain;
-        if end < k && is_behind(nearest, last) {
-            return None;
-        }
         if names_plain(&entry, &key) {
             return nearest;
         }
@@ -48,26 +35,6 @@ pub fn root(db: &Db, noun: u16) -> &[u8]
     ensures { result.now ≡ root db.now noun }
 {
     entry_text(&db.parts().words[noun as usize], Column::Nouns)
-}
-
-// The place of the last entry that is asked for; where there is none, one behind all entries.
-fn place_of(last: Option<u16>) -> usize
-    ensures { IfSome last (λ n. result ≡ n) }
-{
-    match last {
-        Some(n) => n as usize,
-        None => usize::MAX,
-    }
-}
-
-// Whether an entry is behind the last that is asked for, where there is one.
-fn is_behind(entry: Option<u16>, last: Option<u16>) -> bool
-    ensures { result ≡ is_behind entry last }
-{
-    match (entry, last) {
-        (Some(entry), Some(last)) => last < entry,
-        _ => false,
-    }
 }
 
 // Whether a word of this key matches an entry that stands for a plain one.

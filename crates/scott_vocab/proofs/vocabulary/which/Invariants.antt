@@ -1,7 +1,7 @@
 use Rattle.std.proofs.Common.{◌≡◌, ◌<◌, IfSome}
 use Rattle.scott_rules.specs.Words.{which}
 use Rattle.scott_vocab.specs.Found.{which_from}
-use Rattle.scott_vocab.proofs.vocabulary.which_up_to.Given as goal
+use Rattle.scott_vocab.proofs.vocabulary.which.Given as goal
 
 -- the answer is what is found from entry k on, and the nearest plain entry stands before it
 abbrev pub invariant-loop-k : goal.invariant-loop-k
