@@ -19,15 +19,16 @@ use Rattle.scott_rules.specs.Search.{SearchOutcome, searched}
 use Rattle.scott_rules.specs.Transfer.{verb_for, is_at_hand, item_named, Sweep, is_met, is_refused, after_meeting, sweep_moved, sweep_behind, sweep_item, sweep}
 use Rattle.scott_turn.specs.declared.meetings.Meeting.{Meeting}
 use Rattle.scott_turn.specs.declared.meetings.Meeting.TheVariants.{Passed, Moved, Ended}
-use Rattle.scott_turn.specs.Meetings.{MeetOutcome, item_at, moved_or_not, ending_in, item_lines, behind_lines, meeting, by_meeting, met_before, is_met_by, ends_sweep, over_in}
+use Rattle.scott_light.specs.Numbered.{item_at}
+use Rattle.scott_turn.specs.Meetings.{MeetOutcome, moved_or_not, ending_in, item_lines, behind_lines, meeting, by_meeting, met_before, is_met_by, ends_sweep, over_in}
 use Rattle.scott_turn.proofs.Going.{after-after}
 
 abbrev pub outcome_of_search : SearchOutcome → Outcome
 outcome_of_search o = record { state = o.state; over = ending_in o.found }
 
 -- the items from one on begin with it
-items_from : (db : Database) (i : ℕ) → i < length db.items → drop i db.items ≡ item_at db i ∷ drop (i + 1) db.items
-items_from db i there = drop-cons db.items i (record { text = []; place = 0 }) there ∙ ap (λ n. item_at db i ∷ drop n db.items) (sym (add-one i))
+items_from : (db : Database) (i : ℕ) → i < length db.items → drop i db.items ≡ item_at db.items i ∷ drop (i + 1) db.items
+items_from db i there = drop-cons db.items i (record { text = []; place = 0 }) there ∙ ap (λ n. item_at db.items i ∷ drop n db.items) (sym (add-one i))
 
 sweep_moved-turn : (refused : Bool) (t : Transfer) (i : ℕ) (item : Item) (s : State) (next : State → Told Step Sweep)
     → sweep_moved refused t i item s next ≡ by_meeting (moved_or_not refused t i item s).value.meeting (moved_or_not refused t i item s) next
@@ -86,13 +87,13 @@ by_meeting-front (Ended over) t next = sym (append-nil t.events)
 
 -- an item's turn
 abbrev pub turn_of : Transfer → Database → List ℕ → ℕ → State → Told Step MeetOutcome
-turn_of t db typed i s = meeting (is_met t i (item_at db i) s) t db typed i (item_at db i) s
+turn_of t db typed i s = meeting (is_met t i (item_at db.items i) s) t db typed i (item_at db.items i) s
 
 module _ (t : Transfer) (db : Database) (typed : List ℕ) (i : ℕ) (s : State) (there : i < length db.items) where
   sweep-turn : sweep t db typed i (drop i db.items) s ≡ by_meeting (turn_of t db typed i s).value.meeting (turn_of t db typed i s) (sweep t db typed (i + 1) (drop (i + 1) db.items))
   sweep-turn =
       ap (λ items. sweep t db typed i items s) (items_from db i there)
-      ∙ sweep_item-turn (is_met t i (item_at db i) s) t db typed i (item_at db i) s (sweep t db typed (i + 1) (drop (i + 1) db.items))
+      ∙ sweep_item-turn (is_met t i (item_at db.items i) s) t db typed i (item_at db.items i) s (sweep t db typed (i + 1) (drop (i + 1) db.items))
 
   module _ (found : Meeting) (before : Bool) (state : State) (is : (turn_of t db typed i s).value ≡ record { state = state; meeting = found }) where
     begin : met_before before (sweep t db typed i (drop i db.items) s) ≡ met_before before (by_meeting found (turn_of t db typed i s) (sweep t db typed (i + 1) (drop (i + 1) db.items)))

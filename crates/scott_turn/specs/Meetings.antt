@@ -1,5 +1,5 @@
 -- One turn of the walk over the items, and what it is to go on behind it.
-use Rattle.std.specs.Prelude.{ℕ, ◌<◌, length, IfSome, slice_index_or, Bool, true, false, List, [], ◌++◌, Option, Some, None}
+use Rattle.std.specs.Prelude.{ℕ, ◌<◌, length, IfSome, Bool, true, false, List, [], ◌++◌, Option, Some, None}
 use Rattle.scott_types.specs.declared.parts.Item.{Item}
 use Rattle.scott_types.specs.declared.states.State.{State}
 use Rattle.scott_types.specs.declared.commands.Column.TheVariants.{Nouns}
@@ -17,10 +17,6 @@ use Rattle.scott_rules.specs.Search.{searched}
 use Rattle.scott_rules.specs.Transfer.{verb_for, transferred, is_refused, Sweep, after_meeting}
 use Rattle.scott_turn.specs.declared.meetings.Meeting.{Meeting}
 use Rattle.scott_turn.specs.declared.meetings.Meeting.TheVariants.{Passed, Moved, Ended}
-
--- an item by its number
-abbrev pub item_at : Database → ℕ → Item
-item_at db i = slice_index_or db.items i (record { text = []; place = 0 })
 
 -- a state, and what became of an item at its turn
 pub record MeetOutcome : Type 0 where

@@ -9,7 +9,8 @@ ghost use Rattle.scott_types.specs.State.{Fits};
 ghost use Rattle.scott_rules.specs.Words.{which};
 ghost use Rattle.scott_rules.specs.Transfer.{verb_for, is_met, is_refused};
 ghost use Rattle.scott_turn.specs.Seen.{seen};
-ghost use Rattle.scott_turn.specs.Meetings.{item_at, moved_or_not, ending_in, item_lines, behind_lines, meeting};
+ghost use Rattle.scott_light.specs.Numbered.{item_at};
+ghost use Rattle.scott_turn.specs.Meetings.{moved_or_not, ending_in, item_lines, behind_lines, meeting};
 
 use crate::games::Game;
 use crate::searching::{Command, search};
@@ -57,7 +58,7 @@ fn verb_for(transfer: Transfer) -> u16
 fn command_for(game: &Game, transfer: Transfer, i: u8) -> Command
     requires { i < length game.now.items }
     ensures verb { result.verb ≡ verb_for transfer }
-    ensures noun { result.noun ≡ which game.now Column.Nouns (get_word (item_at game.now i).text) }
+    ensures noun { result.noun ≡ which game.now Column.Nouns (get_word (item_at game.now.items i).text) }
 {
     let item = &game.db().items()[i as usize];
     Command {
@@ -89,8 +90,8 @@ fn try_lines<C: Console>(
     requires fits { Fits game.now state.old }
     requires there { i < length game.now.items }
     ensures spoken { Speaks C.history C.left C.bound C.faults console.old console.new result
-        (seen (item_lines transfer game.now typed.now (item_at game.now i) state.old).events) }
-    ensures left { IfOk result (λ over. (item_lines transfer game.now typed.now (item_at game.now i) state.old).value
+        (seen (item_lines transfer game.now typed.now (item_at game.now.items i) state.old).events) }
+    ensures left { IfOk result (λ over. (item_lines transfer game.now typed.now (item_at game.now.items i) state.old).value
         ≡ record { state = state.new; over = over }) }
     ensures fits { Fits game.now state.new }
 {
@@ -135,9 +136,9 @@ fn move_met<C: Console>(
     requires there { i < length db.now.items }
     ensures spoken { let refused = is_refused transfer db.now state.old in
         Speaks C.history C.left C.bound C.faults console.old console.new result
-        (seen (moved_or_not refused transfer i (item_at db.now i) state.old).events) }
+        (seen (moved_or_not refused transfer i (item_at db.now.items i) state.old).events) }
     ensures left { let refused = is_refused transfer db.now state.old in
-        IfOk result (λ meeting. (moved_or_not refused transfer i (item_at db.now i) state.old).value
+        IfOk result (λ meeting. (moved_or_not refused transfer i (item_at db.now.items i) state.old).value
         ≡ record { state = state.new; meeting = meeting }) }
     ensures fits { Fits db.now state.new }
 {
@@ -162,9 +163,9 @@ fn go_on_behind<C: Console>(
     requires fits { Fits db.now state.old }
     requires there { i < length db.now.items }
     ensures spoken { Speaks C.history C.left C.bound C.faults console.old console.new result
-        (seen (behind_lines over transfer db.now i (item_at db.now i) state.old).events) }
+        (seen (behind_lines over transfer db.now i (item_at db.now.items i) state.old).events) }
     ensures left { IfOk result
-        (λ found. (behind_lines over transfer db.now i (item_at db.now i) state.old).value
+        (λ found. (behind_lines over transfer db.now i (item_at db.now.items i) state.old).value
         ≡ record { state = state.new; meeting = found }) }
     ensures fits { Fits db.now state.new }
 {
@@ -186,9 +187,9 @@ fn meet<C: Console>(
     requires fits { Fits game.now state.old }
     requires there { i < length game.now.items }
     ensures spoken { Speaks C.history C.left C.bound C.faults console.old console.new result
-        (seen (meeting true transfer game.now typed.now i (item_at game.now i) state.old).events) }
+        (seen (meeting true transfer game.now typed.now i (item_at game.now.items i) state.old).events) }
     ensures left { IfOk result
-        (λ found. (meeting true transfer game.now typed.now i (item_at game.now i) state.old).value
+        (λ found. (meeting true transfer game.now typed.now i (item_at game.now.items i) state.old).value
         ≡ record { state = state.new; meeting = found }) }
     ensures fits { Fits game.now state.new }
 {
@@ -209,11 +210,11 @@ pub fn take_turn<C: Console>(
 ) -> Result<Meeting, ConsoleFault>
     requires fits { Fits game.now state.old }
     requires there { i < length game.now.items }
-    ensures spoken { let met = is_met transfer i (item_at game.now i) state.old in
+    ensures spoken { let met = is_met transfer i (item_at game.now.items i) state.old in
         Speaks C.history C.left C.bound C.faults console.old console.new result
-        (seen (meeting met transfer game.now typed.now i (item_at game.now i) state.old).events) }
-    ensures left { let met = is_met transfer i (item_at game.now i) state.old in
-        IfOk result (λ found. (meeting met transfer game.now typed.now i (item_at game.now i) state.old).value
+        (seen (meeting met transfer game.now typed.now i (item_at game.now.items i) state.old).events) }
+    ensures left { let met = is_met transfer i (item_at game.now.items i) state.old in
+        IfOk result (λ found. (meeting met transfer game.now typed.now i (item_at game.now.items i) state.old).value
         ≡ record { state = state.new; meeting = found }) }
     ensures fits { Fits game.now state.new }
 {

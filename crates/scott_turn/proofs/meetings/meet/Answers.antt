@@ -1,6 +1,7 @@
 use Rattle.std.proofs.lemmas.Result.{err_from_is_err_and}
 use Rattle.std.proofs.Common.{◌≡◌, sym, ap}
-use Rattle.scott_turn.specs.Meetings.{item_at, item_lines, behind_lines}
+use Rattle.scott_light.specs.Numbered.{item_at}
+use Rattle.scott_turn.specs.Meetings.{item_lines, behind_lines}
 use Rattle.scott_turn.proofs.Going.{steps_then, steps_stop}
 use Rattle.scott_turn.proofs.meetings.meet.Goals as goal
 
@@ -8,7 +9,7 @@ pub returns : goal.returns
 returns g c =
     let db = c.args.game.now in
     let i = c.args.i in
-    let item = item_at db i in
+    let item = item_at db.items i in
     let lines = item_lines c.args.transfer db c.args.typed.now item c.args.state.now in
     let state : c.try_lines.new.state ≡ lines.value.state = sym (ap (λ o. o.state) c.in_ok-over.ensures.left) in
     let over : c.in_ok-over.over ≡ lines.value.over = sym (ap (λ o. o.over) c.in_ok-over.ensures.left) in
@@ -23,7 +24,7 @@ pub returns-in_err-over-clause-spoken : goal.returns-in_err-over-clause-spoken
 returns-in_err-over-clause-spoken g c =
     let db = c.args.game.now in
     let i = c.args.i in
-    let item = item_at db i in
+    let item = item_at db.items i in
     let lines = item_lines c.args.transfer db c.args.typed.now item c.args.state.now in
     let p = err_from_is_err_and c.from_residual.result c.from_residual.ensures.1 in
     rw (p.1) (steps_stop p.0 lines.events (behind_lines lines.value.over c.args.transfer db i item lines.value.state).events c.in_err-over.ensures.spoken)
