@@ -8,12 +8,15 @@ use Rattle.scott_format.specs.TextLaws.{TextLaws}
 
 -- ---- what a reading that gave a value went through
 
-abbrev read : {A : Type 0} → A → Result A Fault
-read x = Ok x
+abbrev pub given : {A : Type 0} → A → Result A Fault
+given x = Ok x
 
--- what was read is the value, and the spot
-pub read_is : {X : Type 0} (x y : X × Spot) → read x ≡ read y → x ≡ y
-read_is x y e = cc
+-- a reading gives one value, or one fault
+pub value_is : {A : Type 0} (x y : A) → given x ≡ given y → x ≡ y
+value_is x y e = cc
+
+pub one_fault : {A : Type 0} {r : Result A Fault} (f g : Fault) → r ≡ Err f → r ≡ Err g → f ≡ g
+one_fault f g e h = cc
 
 check-ok : {X : Type 0} (test : Bool) (fault : Fault) (r : Result (X × Spot) Fault) (x : X × Spot) → cond test r (Err fault) ≡ Ok x → (test ≡ true) × (r ≡ Ok x)
 check-ok true fault r x e = (refl, e)
@@ -37,7 +40,7 @@ module _ (laws : TextLaws) where
   -- what is read is so spelled
   pub run-spelled : {X : Type 0} (p : Plan X) (s after : Spot) (x : X) → run p s ≡ Ok (x, after) → Spelled p x s.rest after.rest
   run-spelled {X = X} (done y) s after x e =
-      let same = read_is (y, s) (x, after) e in (ap (λ (p : X × Spot). p.0) same, ap (λ (p : X × Spot). p.1.rest) same)
+      let same = value_is (y, s) (x, after) e in (ap (λ (p : X × Spot). p.0) same, ap (λ (p : X × Spot). p.1.rest) same)
   run-spelled (check test fault p) s after x e =
       let h = check-ok test fault (run p s) (x, after) e in (h.0, run-spelled p s after x h.1)
   run-spelled (number next) s after x e =

@@ -15,7 +15,7 @@ use Rattle.scott_format.specs.File.{file, IsReadFrom, DatText, DatFault}
 use Rattle.scott_format.specs.Reading.{Stands, IsDb, IsErrOrMemory}
 use Rattle.scott_format.specs.Laws.{TextOrFault, NeverBoth, OneDatabase, TextKeepsLimits}
 use Rattle.scott_format.specs.TextLaws.{TextLaws}
-use Rattle.scott_format.proofs.Exact.{run-spelled, spelled-run}
+use Rattle.scott_format.proofs.Exact.{value_is, one_fault, run-spelled, spelled-run}
 use Rattle.scott_format.proofs.Always.{always}
 use Rattle.scott_format.proofs.Kept.{file_keeps}
 
@@ -24,13 +24,7 @@ pub bytes_are : (bytes : List ℕ) → ((i : ℕ) → get_or bytes i 0 < 256) �
 bytes_are [] h = refl
 bytes_are (b ∷ bytes) h = and_from _ _ (lt-ltb b 256 (h 0)) (bytes_are bytes (λ i. h (suc i)))
 
--- a reading is not both a value and a fault, and it is one value and one fault
-abbrev given : {A : Type 0} → A → Result A Fault
-given x = Ok x
-
-value_is : {A : Type 0} (x y : A) → given x ≡ given y → x ≡ y
-value_is x y e = cc
-
+-- a reading is not both a value and a fault
 both : {A : Type 0} {r : Result A Fault} (x : A) (fault : Fault) → r ≡ Ok x → r ≡ Err fault → ⊥
 both x fault e f = cc
 
@@ -56,9 +50,6 @@ fault_or_memory (answer.Limit field value) r e = inr (limit field value, refl, e
 fault_or_memory (answer.NoStart value) r e = inr (no_start value, refl, e)
 fault_or_memory (answer.NegativeAction k) r e = inr (negative_action k, refl, e)
 fault_or_memory answer.Memory r e = inl refl
-
-one_fault : {A : Type 0} {r : Result A Fault} (f g : Fault) → r ≡ Err f → r ≡ Err g → f ≡ g
-one_fault f g e h = cc
 
 abbrev failed : FormatFault → Result Db FormatFault
 failed fault = Err fault

@@ -7,24 +7,19 @@ use Rattle.scott_format.specs.Faults.{Fault, text}
 use Rattle.scott_format.specs.Plan.{Plan, done, check, number, quoted, perhaps, onward, onward_perhaps, run}
 use Rattle.scott_format.specs.Faulty.{Faulty, NumberTo, StringTo}
 use Rattle.scott_format.specs.TextLaws.{TextLaws}
-
-abbrev wrong : {A : Type 0} → Fault → Result A Fault
-wrong fault = Err fault
-
-fault_is : {A : Type 0} (f g : Fault) → wrong {A = A} f ≡ wrong g → f ≡ g
-fault_is f g e = cc
+use Rattle.scott_format.proofs.Exact.{one_fault}
 
 -- ---- what a reading that gave a fault went through
 
 check-err : {X : Type 0} (test : Bool) (own fault : Fault) (r : Result (X × Spot) Fault) → cond test r (Err own) ≡ Err fault
     → ((test ≡ false) × (fault ≡ own)) ⊎ ((test ≡ true) × (r ≡ Err fault))
 check-err true own fault r e = inr (refl, e)
-check-err {X = X} false own fault r e = inl (refl, sym (fault_is {A = X × Spot} own fault e))
+check-err {X = X} false own fault r e = inl (refl, sym (one_fault {A = X × Spot} own fault refl e))
 
 onward-err : {A X : Type 0} (r : Result (A × Spot) TextFault) (go_on : A → Spot → Result (X × Spot) Fault) (fault : Fault) → onward r go_on ≡ Err fault
     → ((own : TextFault) × (r ≡ Err own) × (fault ≡ text own)) ⊎ ((a : A) × (after : Spot) × (r ≡ Ok (a, after)) × (go_on a after ≡ Err fault))
 onward-err (Ok y) go_on fault e = inr (y.0, y.1, refl, e)
-onward-err {X = X} (Err own) go_on fault e = inl (own, refl, sym (fault_is {A = X × Spot} (text own) fault e))
+onward-err {X = X} (Err own) go_on fault e = inl (own, refl, sym (one_fault {A = X × Spot} (text own) fault refl e))
 
 perhaps-err : {X : Type 0} (r : Result (ℤ × Spot) TextFault) (s : Spot) (go_on : Option ℤ → Spot → Result (X × Spot) Fault) (fault : Fault)
     → ((own : TextFault) → r ≡ Err own → NumberFault s own) → onward_perhaps r s go_on ≡ Err fault
@@ -33,7 +28,7 @@ perhaps-err : {X : Type 0} (r : Result (ℤ × Spot) TextFault) (s : Spot) (go_o
     ⊎ ((place : ℕ) × (r ≡ Err (no_number place)) × (go_on None s ≡ Err fault))
 perhaps-err (Ok y) s go_on fault exact e = inr (inl (y.0, y.1, refl, e))
 perhaps-err (Err (no_number place)) s go_on fault exact e = inr (inr (place, refl, e))
-perhaps-err {X = X} (Err (big_number place)) s go_on fault exact e = inl (place, refl, sym (fault_is {A = X × Spot} (text (big_number place)) fault e))
+perhaps-err {X = X} (Err (big_number place)) s go_on fault exact e = inl (place, refl, sym (one_fault {A = X × Spot} (text (big_number place)) fault refl e))
 perhaps-err (Err (no_quote place)) s go_on fault exact e = absurd (exact (no_quote place) refl)
 perhaps-err (Err (open_string place)) s go_on fault exact e = absurd (exact (open_string place) refl)
 perhaps-err (Err (long_string place)) s go_on fault exact e = absurd (exact (long_string place) refl)
