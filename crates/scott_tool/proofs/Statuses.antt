@@ -1,5 +1,5 @@
 -- The numbers of the statuses.
-use Rattle.std.proofs.Common.{◌≡◌, ℕ, List, refl, arith, lit<}
+use Rattle.std.proofs.Common.{◌≡◌, refl, arith, lit<}
 use Rattle.std.specs.Prelude.{Contains}
 use Rattle.scott_tool.specs.declared.complaints.Complaint.TheVariants.{TooLong, NoDatabase, NoDraw}
 use Rattle.scott_tool.specs.Cause.{Cause, no_request, unread, unfit, status_of}

@@ -1,5 +1,5 @@
 -- What the words of the command line ask for.
-use Rattle.std.specs.Prelude.{ℕ, ◌^◌, Bool, ◌&&◌, nat_eq, nat_lt, List, [], ◌∷◌, length, drop, Option, Some, None, option_map, bytes_eq, codes, if◌then◌else◌}
+use Rattle.std.specs.Prelude.{ℕ, ◌^◌, Bool, ◌&&◌, nat_eq, nat_lt, List, [], ◌∷◌, length, drop, map, String, string_bytes, Option, Some, None, option_map, bytes_eq, codes, if◌then◌else◌}
 use Rattle.std.specs.Option.{option_and_then}
 use Rattle.std.specs.List.{starts_with, list_all}
 use Rattle.std.specs.Char.{is_ascii_digit}
@@ -75,3 +75,7 @@ chance_of (Seeded seed) = seeded seed
 abbrev pub asked : Asked → Request
 asked (Check game) = check game.now
 asked (Play game drawing) = play game.now (chance_of drawing)
+
+-- what the words ask for
+abbrev pub asked_by : {Z : Type 0} → List (String Z) → Option Request
+asked_by words = request_of (map string_bytes words)

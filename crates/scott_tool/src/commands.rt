@@ -1,7 +1,7 @@
 //! The commands: what each does, and how it ends.
-ghost use Rattle.std.specs.Prelude.{◌≡◌, ◌≤◌, ◌⊎◌, Some, IfSome, map, string_bytes};
+ghost use Rattle.std.specs.Prelude.{◌≡◌, ◌≤◌, ◌⊎◌, Some, IfSome};
 ghost use Rattle.adv_io.specs.Faults.{Rose};
-ghost use Rattle.scott_tool.specs.Request.{check, play, chance_of, request_of};
+ghost use Rattle.scott_tool.specs.Request.{check, play, chance_of, asked_by};
 ghost use Rattle.scott_tool.specs.Work.{playing, events_of};
 ghost use Rattle.scott_tool.specs.Ending.{Concludes, EndsDone, Ends};
 
@@ -79,7 +79,7 @@ pub fn obey<S: Shelf, C: Console>(
 ) -> u8
     ensures ended { Ends (S.files shelf.old) (Rose (S.faults shelf.old) (S.faults shelf.new)) (C.left console.old)
         (record { before = C.history console.old; after = C.history console.new })
-        (Rose (C.faults console.old) (C.faults console.new)) (request_of (map string_bytes words.now)) result }
+        (Rose (C.faults console.old) (C.faults console.new)) (asked_by words.now) result }
     ensures files_stay { S.files shelf.new ≡ S.files shelf.old }
     ensures shelf_later { S.faults shelf.old ≤ S.faults shelf.new }
     ensures console_later { C.faults console.old ≤ C.faults console.new }

@@ -1,9 +1,9 @@
 //! What the words of the command line ask for.
-ghost use Rattle.std.specs.Prelude.{◌≡◌, map, option_map, string_bytes};
+ghost use Rattle.std.specs.Prelude.{◌≡◌, option_map};
 ghost use Rattle.std.specs.Option.{option_copied};
 ghost use Rattle.std.specs.List.{list_all};
 ghost use Rattle.std.specs.Char.{is_ascii_digit};
-ghost use Rattle.scott_tool.specs.Request.{listed, named, number_of, chance_in, chance_of, plainly, with_setting, asked, request_of};
+ghost use Rattle.scott_tool.specs.Request.{listed, named, number_of, chance_in, chance_of, plainly, with_setting, asked, asked_by};
 
 /// The seed of a play that is given neither draws nor a seed.
 pub const FIRST_SEED: u64 = 1;
@@ -102,7 +102,7 @@ fn with_setting<'a>(command: &str, setting: &'a str, game: &'a str) -> Option<Re
 
 /// What the words ask for, if they are a request. docs/GUIDE.md has the words of each.
 pub fn request_in(words: &[String]) -> Option<Request<'_>>
-    ensures { option_map asked result ≡ request_of (map string_bytes words.now) }
+    ensures { option_map asked result ≡ asked_by words.now }
 {
     match words {
         [command, game] => plainly(command.as_str(), named(game.as_str())?),
