@@ -1,6 +1,6 @@
 """Runs the program and measures it, for the scripts beside this file.
 
-The program is crates/scott_tool/out/scott_tool, which ./scott builds; SCOTT_TOOL names another.
+The program is build/scott, which ./scott builds; SCOTT_TOOL names another.
 Instructions are callgrind's own count for the whole process, the C library included.
 """
 
@@ -14,7 +14,7 @@ ROOT = os.path.dirname(os.path.dirname(os.path.abspath(__file__)))
 
 
 def tool():
-    path = os.environ.get("SCOTT_TOOL", os.path.join(ROOT, "crates/scott_tool/out/scott_tool"))
+    path = os.environ.get("SCOTT_TOOL", os.path.join(ROOT, "build/scott"))
     if not os.path.exists(path):
         sys.exit("bench: %s isn't there; build it with ./scott, or set SCOTT_TOOL" % path)
     return os.path.abspath(path)
