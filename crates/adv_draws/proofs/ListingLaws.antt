@@ -7,6 +7,7 @@ use Rattle.adv_draws.specs.Run.{Run, is_blank, is_solid, draw_of, runs_behind}
 use Rattle.adv_draws.specs.Listed.{with_draw, draws_of, listed_draws}
 use Rattle.adv_draws.specs.Laws.{moved_by, joined_with, RunAlone, BlankBetween}
 use Rattle.adv_draws.proofs.RunLemmas.{solid_first, blank_first}
+use Rattle.adv_draws.proofs.Stepping.{runs_behind-blank}
 
 -- no run begins at a blank
 no_more : (test : Bool) (run : Run) (runs : List Run) → cond (test && false) (run ∷ runs) runs ≡ runs
@@ -38,11 +39,6 @@ runs_behind-joined before offset (byte ∷ first) second blank parts =
     ap (λ bytes. cond (is_blank before && is_solid byte) (record { offset = offset; bytes = bytes } ∷ runs_behind byte (offset + 1) (first ++ blank ∷ second)) (runs_behind byte (offset + 1) (first ++ blank ∷ second))) (take_while-joined (byte ∷ first) second blank parts)
     ∙ ap (λ runs. cond (is_blank before && is_solid byte) (record { offset = offset; bytes = take_while is_solid (byte ∷ first) } ∷ runs) runs) rest
     ∙ cond-append (is_blank before && is_solid byte) (record { offset = offset; bytes = take_while is_solid (byte ∷ first) }) (runs_behind byte (offset + 1) first) (runs_behind blank (offset + suc (length first) + 1) second)
-
--- all blanks part alike
-runs_behind-blank : (blank offset : ℕ) (text : List ℕ) → is_blank blank ≡ true → runs_behind blank offset text ≡ runs_behind 32 offset text
-runs_behind-blank blank offset [] parts = refl
-runs_behind-blank blank offset (byte ∷ text) parts = rw parts
 
 moved_by-with_draw : (distance : ℕ) (draw : Option ℕ) (offset : ℕ) (rest : Result (List ℕ) ℕ) → with_draw draw (distance + offset) (moved_by distance rest) ≡ moved_by distance (with_draw draw offset rest)
 moved_by-with_draw distance (Some draw) offset (Ok draws) = refl

@@ -41,6 +41,10 @@ is_draw number = nat_le 1 number && nat_le number 100
 abbrev pub AllDraws : List ℕ → Type 0
 AllDraws numbers = IsTrue (list_all is_draw numbers)
 
+-- the run that a text begins with; it is empty where a blank stands first
+abbrev pub first_run : List ℕ → List ℕ
+first_run text = take_while is_solid text
+
 -- the draw that a run writes, behind the number of its digits so far
 abbrev pub draw_behind : ℕ → List ℕ → Option ℕ
 draw_behind number run =

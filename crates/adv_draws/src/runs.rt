@@ -1,7 +1,6 @@
 //! The runs of a text that lists draws.
-ghost use Rattle.std.specs.Prelude.{◌≡◌, IfSome, IsTrue};
-ghost use Rattle.std.specs.List.{take_while};
-ghost use Rattle.adv_draws.specs.Run.{is_blank, is_solid, is_draw, draw_of};
+ghost use Rattle.std.specs.Prelude.{◌≡◌, length, Some, None, IfSome, IfNone, IsTrue};
+ghost use Rattle.adv_draws.specs.Run.{is_blank, is_draw, draw_of, first_run};
 
 /// Whether a byte parts two runs.
 pub fn is_blank(byte: u8) -> bool
@@ -10,12 +9,50 @@ pub fn is_blank(byte: u8) -> bool
     matches!(byte, 9..=13 | 32)
 }
 
-/// The draw of the run that `text` begins with, or none where that run is no draw.
-pub fn first_draw(text: &[u8]) -> Option<u8>
-    ensures value { result ≡ draw_of (take_while is_solid text.now) }
-    ensures range { IfSome result (λ draw. IsTrue (is_draw draw)) }
+/// The draw of the run that `text` begins with and the run's length, or none where that run is no draw.
+#[inline(always)]
+pub fn first_draw(text: &[u8]) -> Option<(u8, usize)>
+    ensures value { IfSome result (λ read. draw_of (first_run text.now) ≡ Some read.0) }
+    ensures range { IfSome result (λ read. IsTrue (is_draw read.0)) }
+    ensures size { IfSome result (λ read. length (first_run text.now) ≡ read.1) }
+    ensures refused { IfNone result (draw_of (first_run text.now) ≡ None) }
+{
+    match short_draw(text) {
+        Some(read) => Some(read),
+        None => any_draw(text),
+    }
+}
+
+/// The same where the run is a number of 1..99 without needless zeros, and a blank stands after it.
+/// Most draws stand so; where there is none here, `any_draw` reads byte by byte.
+#[inline(always)]
+fn short_draw(text: &[u8]) -> Option<(u8, usize)>
+    ensures value { IfSome result (λ read. draw_of (first_run text.now) ≡ Some read.0) }
+    ensures range { IfSome result (λ read. IsTrue (is_draw read.0)) }
+    ensures size { IfSome result (λ read. length (first_run text.now) ≡ read.1) }
+{
+    if text.len() < 3 || text[0] < b'1' || b'9' < text[0] {
+        return None;
+    }
+    let tens = text[0] - b'0';
+    if is_blank(text[1]) {
+        return Some((tens, 1));
+    }
+    if text[1] < b'0' || b'9' < text[1] || !is_blank(text[2]) {
+        return None;
+    }
+    Some((10 * tens + (text[1] - b'0'), 2))
+}
+
+/// The same for every run.
+fn any_draw(text: &[u8]) -> Option<(u8, usize)>
+    ensures value { IfSome result (λ read. draw_of (first_run text.now) ≡ Some read.0) }
+    ensures range { IfSome result (λ read. IsTrue (is_draw read.0)) }
+    ensures size { IfSome result (λ read. length (first_run text.now) ≡ read.1) }
+    ensures refused { IfNone result (draw_of (first_run text.now) ≡ None) }
 {
     let mut number: u16 = 0;
+    let mut size = 0;
     for byte in text {
         if is_blank(*byte) {
             break;
@@ -24,9 +61,10 @@ pub fn first_draw(text: &[u8]) -> Option<u8>
             return None;
         }
         number = 10 * number + u16::from(*byte - b'0');
+        size += 1;
     }
     match number {
-        1..=100 => Some(number as u8),
+        1..=100 => Some((number as u8, size)),
         _ => None,
     }
 }

@@ -56,15 +56,18 @@ impl Draws {
         ensures refused { IfErr result (λ fault. IsFaultOf bytes.now fault) }
     {
         let mut draws = Vec::new(alloc);
-        let mut before = b' ';
-        for (offset, byte) in bytes.iter().enumerate() {
-            if is_blank(before) && !is_blank(*byte) {
-                match first_draw(&bytes[offset..]) {
-                    Some(draw) => draws.push(draw)?,
-                    None => return Err(DrawFault::NotADraw(offset)),
-                }
+        let mut offset = 0;
+        while offset < bytes.len() {
+            if is_blank(bytes[offset]) {
+                offset += 1;
+                continue;
             }
-            before = *byte;
+            let Some((draw, size)) = first_draw(&bytes[offset..]) else {
+                return Err(DrawFault::NotADraw(offset));
+            };
+            draws.push(draw)?;
+            // What stands after a run is a blank or the end.
+            offset += size + 1;
         }
         Ok(Draws {
             source: Source::Listed(draws),

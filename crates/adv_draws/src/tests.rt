@@ -19,6 +19,10 @@ fn texts_list_draws(rt: HostRuntime) -> Result<(), Fail> {
         (b" \t\n\x0b\x0c\r", &[]),
         (b" 007\n1", &[7, 1]),
         (b"0000100\r\n50 ", &[100, 50]),
+        (b"9", &[9]),
+        (b"9 1\t10", &[9, 1, 10]),
+        (b"99\n 8  12 ", &[99, 8, 12]),
+        (b"100 99 010 07", &[100, 99, 10, 7]),
     ] {
         let mut draws = Draws::listed(rt.alloc(), text)?;
         expect_draws(&rt, &mut draws, wanted);
@@ -40,6 +44,10 @@ fn runs_that_are_no_draws_are_refused(rt: HostRuntime) {
         (b"7 1x 0", 2),
         (b"10\n99999999999999999999", 3),
         (b"8 9\x08", 2),
+        (b"12 345 6", 3),
+        (b"1 0 2", 2),
+        (b"1a 2", 0),
+        (b"77 8-9 3", 3),
     ] {
         let answer = Draws::listed(rt.alloc(), text).err();
         assert_eq!(rt; answer, Some(DrawFault::NotADraw(offset)));

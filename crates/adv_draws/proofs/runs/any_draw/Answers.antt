@@ -1,10 +1,11 @@
-use Rattle.std.proofs.Common.{◌≡◌, ◌+◌, ◌∷◌, get_or, None, ap, sym, ◌∙◌, inl, inr, arith}
+use Rattle.std.proofs.Common.{◌≡◌, ◌+◌, ◌∷◌, get_or, length, None, ap, sym, ◌∙◌, inl, inr, arith}
 use Rattle.adv_draws.specs.Run.{draw_behind}
 use Rattle.adv_draws.proofs.RunLemmas.{run_at, run_at-solid, draw_behind-stuck, draw_behind-digit}
-use Rattle.adv_draws.proofs.runs.first_draw.Goals as goal
+use Rattle.adv_draws.proofs.runs.any_draw.Goals as goal
 
-pub returns-then-not-is_ascii_digit-clause-value : goal.returns-then-not-is_ascii_digit-clause-value
-returns-then-not-is_ascii_digit-clause-value c =
+pub returns-then-not-is_ascii_digit-clause-refused :
+    goal.returns-then-not-is_ascii_digit-clause-refused
+returns-then-not-is_ascii_digit-clause-refused c =
     let text = c.args.text.now in
     let at = c.loop-byte.byte-index in
     let run = run_at-solid text at c.loop-byte-test.true (sym c.is_blank.ensures ∙ c.if-is_blank.false) in
@@ -12,7 +13,7 @@ returns-then-not-is_ascii_digit-clause-value c =
       | inl other ↦ draw_behind-stuck c.loop-byte.number (get_or text at 0) (run_at text (at + 1)) (inl (sym c.is_ascii_digit.ensures.value ∙ other))
       | inr large ↦ draw_behind-stuck c.loop-byte.number (get_or text at 0) (run_at text (at + 1)) (inr large.1)
     ] in
-    sym stuck ∙ sym (ap (draw_behind c.loop-byte.number) run) ∙ c.loop-byte.invariant.goes_on
+    sym c.loop-byte.invariant.goes_on ∙ ap (draw_behind c.loop-byte.number) run ∙ stuck
 
 pub loop-byte-preserved : goal.loop-byte-preserved
 loop-byte-preserved c =
@@ -25,4 +26,6 @@ loop-byte-preserved c =
       goes_on =
           rw c.from.ensures
           (sym digit ∙ sym (ap (draw_behind c.loop-byte.number) run) ∙ c.loop-byte.invariant.goes_on);
+      counted = omega arith;
+      longer = omega (arith, ap length run);
     }
