@@ -123,16 +123,27 @@ in_state() {
     done
 }
 
-# Proves a crate, in a group of processes of its own, so that it can be ended whole.
+# Proves a crate with so many processors, and builds its library; the program is built by a first run of it,
+# on a game of its own. A check says how far it is, so it comes first where there is something to prove.
+prove_crate() {
+    cd "$top/crates/$1" || return
+    if [[ " $planned " == *" $1 "* ]]; then
+        rt check --jobs "$2" || return
+    fi
+    if [ "$1" = "$program_crate" ]; then
+        rt run --jobs "$2" -- check data/t.dat
+    else
+        rt lib --jobs "$2"
+    fi
+}
+
+# Begins to prove a crate, in a group of processes of its own, so that it can be ended whole.
 start_crate() {
-    local name=$1 command=(rt lib --jobs "$2")
-    # The program is built by a first run of it, on a game of its own.
-    [ "$name" != "$program_crate" ] || command=(rt run --jobs "$2" -- check data/t.dat)
     set -m
-    (cd "$top/crates/$name" && exec "${command[@]}") </dev/null >"$build/$name.log" 2>&1 9>&- &
+    prove_crate "$@" </dev/null >"$build/$1.log" 2>&1 9>&- &
     set +m
-    process[$name]=$!
-    state[$name]=running
+    process[$1]=$!
+    state[$1]=running
 }
 
 # Starts the crates that can be, while there is room; one that is alone gets the room of all.
