@@ -67,7 +67,7 @@ say_plan() {
 
 # How many functions of a crate are done, and of how many, as its log says last; nothing where it says none.
 counts() {
-    grep -aoE '[0-9]+ of [0-9]+$' "$build/$1.log" 2>/dev/null | tail -n 1
+    sed -nE 's/^(checked .*,|so far:) ([0-9]+ of [1-9][0-9]*).*/\2/p' "$build/$1.log" 2>/dev/null | tail -n 1
 }
 
 # How far all is, in hundredths, by the lines of code; and what is being proved now.
