@@ -9,8 +9,12 @@ prover_memory=3000
 disk_per_1000=250
 seconds_per_1000=150
 
-# Of each crate: its lines of code, its state (waiting, running or done) and the process that proves it.
-declare -gA lines state process
+# A crate that was proved before is there in a moment; what takes more seconds than this is being proved.
+moment=4
+
+# Of each crate: its lines of code, its state (waiting, running or done), the process that proves it, and the
+# second at which that began.
+declare -gA lines state process began
 
 # How many provers the machine has room for: one at least, and no more than it has processors.
 room() {
@@ -53,7 +57,7 @@ gigabytes() {
 # Says once what is going to be done: how many crates are proved, how long that takes, and with what.
 say_plan() {
     local name count=0 much=0 free side_by_side
-    for name in $1; do
+    for name in $planned; do
         count=$((count + 1))
         much=$((much + lines[$name]))
     done
@@ -65,32 +69,39 @@ say_plan() {
         "of disk ($(gigabytes "$free") free)"
 }
 
-# How many functions of a crate are done, and of how many, as its log says last; nothing where it says none.
-counts() {
-    sed -nE 's/^(checked .*,|so far:) ([0-9]+ of [1-9][0-9]*).*/\2/p' "$build/$1.log" 2>/dev/null | tail -n 1
+# Those of some crates that aren't done.
+not_done() {
+    local name
+    for name in "$@"; do
+        [ "${state[$name]}" = done ] || echo "$name"
+    done
+}
+
+# The crates that are being proved: running for more than a moment.
+proving() {
+    local name
+    for name in $(in_state running); do
+        [ $((SECONDS - began[$name])) -le "$moment" ] || echo "$name"
+    done
+}
+
+# How much of a running crate is done, in hundredths, by the time that its lines may take.
+share_of() {
+    local share=$((100 * (SECONDS - began[$1]) * 1000 / (lines[$1] * seconds_per_1000 + 1)))
+    echo $((share < 95 ? share : 95))
 }
 
 # How far all is, in hundredths, by the lines of code; and what is being proved now.
 progress() {
-    local name now done=0 all=0 text=
+    local name done=0 all=1
     for name in $planned; do
         all=$((all + lines[$name]))
         case ${state[$name]} in
         done) done=$((done + lines[$name])) ;;
-        running)
-            now=$(counts "$name")
-            [ -z "$now" ] || done=$((done + lines[$name] * ${now% of *} / ${now#* of }))
-            text+=", $name${now:+ $now}"
-            ;;
+        running) done=$((done + lines[$name] * $(share_of "$name") / 100)) ;;
         esac
     done
-    text=${text#, }
-    if [ "$said" = yes ]; then
-        text="$((100 * done / all)) % done${text:+: $text}"
-    else
-        text="building the program${text:+: $text}"
-    fi
-    echo "$text"
+    echo "about $((100 * done / all)) % done: $(in_state running | tr '\n' ' ')"
 }
 
 # Shows on a terminal how far it is, on one line that is written over.
@@ -99,7 +110,7 @@ show_progress() {
     [ -t 2 ] || return
     width=$(stty size <&2 2>/dev/null)
     width=${width#* }
-    text="scott: $(progress)"
+    if [ "$said" = yes ]; then text="scott: $(progress)"; else text="scott: building the program"; fi
     printf '\r%s\033[K' "${text:0:$((${width:-80} - 1))}" >&2
 }
 
@@ -123,27 +134,17 @@ in_state() {
     done
 }
 
-# Proves a crate with so many processors, and builds its library; the program is built by a first run of it,
-# on a game of its own. A check says how far it is, so it comes first where there is something to prove.
-prove_crate() {
-    cd "$top/crates/$1" || return
-    if [[ " $planned " == *" $1 "* ]]; then
-        rt check --jobs "$2" || return
-    fi
-    if [ "$1" = "$program_crate" ]; then
-        rt run --jobs "$2" -- check data/t.dat
-    else
-        rt lib --jobs "$2"
-    fi
-}
-
-# Begins to prove a crate, in a group of processes of its own, so that it can be ended whole.
+# Proves a crate with so many processors, in a group of processes of its own, so that it can be ended whole.
 start_crate() {
+    local name=$1 command=(rt lib --jobs "$2")
+    # The program is built by a first run of it, on a game of its own.
+    [ "$name" != "$program_crate" ] || command=(rt run --jobs "$2" -- check data/t.dat)
     set -m
-    prove_crate "$@" </dev/null >"$build/$1.log" 2>&1 9>&- &
+    (cd "$top/crates/$name" && exec "${command[@]}") </dev/null >"$build/$name.log" 2>&1 9>&- &
     set +m
-    process[$1]=$!
-    state[$1]=running
+    process[$name]=$!
+    began[$name]=$SECONDS
+    state[$name]=running
 }
 
 # Starts the crates that can be, while there is room; one that is alone gets the room of all.
@@ -178,33 +179,32 @@ collect_crates() {
             return 1
         fi
         state[$name]=done
-        [ -z "$(counts "$name")" ] || [ -t 2 ] || say "$name is proved"
+        [ $((SECONDS - began[$name])) -le "$moment" ] || [ -t 2 ] || say "$name is proved"
     done
 }
 
 # Proves and builds all crates, those side by side that don't stand on one another.
 prove() {
-    local name places planned said=no waits=0
+    local name places planned said=no
     places=$(room)
     planned=$(changed_crates)
     for name in "${names[@]}"; do
         state[$name]=waiting
         lines[$name]=$(lines_of "$name")
-        rm -f "$build/$name.log"
     done
     while [ "${state[$program_crate]}" != done ]; do
         start_crates
         sleep 0.2
         collect_crates || return
-        waits=$((waits + 1))
-        [ "$waits" -ne 15 ] || [ "$said" = yes ] || [ -t 2 ] || say "building the program"
-        for name in "${names[@]}"; do
-            [ "$said" = no ] && [ -n "$(counts "$name")" ] || continue
-            [[ " $planned " == *" $name "* ]] || planned=${names[*]}
+        name=$(proving)
+        if [ "$said" = no ] && [ -n "$name" ]; then
+            # What is proved though it didn't change was never proved here, and so may be the others.
+            [[ " $planned " == *" ${name%%$'\n'*} "* ]] || planned=${names[*]}
+            planned=$(not_done $planned)
             clear_progress
-            say_plan "$planned"
+            say_plan
             said=yes
-        done
+        fi
         show_progress
     done
 }
