@@ -161,11 +161,12 @@ start_crates() {
     done
 }
 
-# Ends what is still being proved.
+# Ends what is still being proved, and waits until it has ended.
 stop_crates() {
     local name
     for name in $(in_state running); do
         kill -- "-${process[$name]}" 2>/dev/null
+        wait "${process[$name]}" 2>/dev/null
     done
 }
 
