@@ -23,10 +23,10 @@ none_wrong : (places : List Site) → warnings_of places ≡ [] → AllByRecursi
 none_wrong [] h = tt
 none_wrong (place ∷ places) h = let here = parts place.fault _ (warnings_of places) h in (here.0, none_wrong places here.1)
 
-none_told : (places : List Site) → AllByRecursion HasNoFault places → warnings_of places ≡ []
-none_told [] h = refl
-none_told (place ∷ places) h = whole place.fault _ (warnings_of places) h.0 (none_told places h.1)
+none_listed : (places : List Site) → AllByRecursion HasNoFault places → warnings_of places ≡ []
+none_listed [] h = refl
+none_listed (place ∷ places) h = whole place.fault _ (warnings_of places) h.0 (none_listed places h.1)
 
-pub none_told-where_none_wrong : (places : List Site) → (warnings_of places ≡ []) ↔ All HasNoFault places
-none_told-where_none_wrong places =
-    ((λ h. All-from_recursion HasNoFault places (none_wrong places h)), (λ h. none_told places (recursion_from_All HasNoFault places h)))
+pub none_listed-where_none_wrong : (places : List Site) → (warnings_of places ≡ []) ↔ All HasNoFault places
+none_listed-where_none_wrong places =
+    ((λ h. All-from_recursion HasNoFault places (none_wrong places h)), (λ h. none_listed places (recursion_from_All HasNoFault places h)))

@@ -1,4 +1,4 @@
--- The warnings of places one behind the other, and texts one behind the other.
+-- The warnings of places one after the other, and texts one after the other.
 use Rattle.std.proofs.Common.{◌≡◌, ◌∙◌, ℕ, zero, suc, ◌+◌, ◌<◌, List, [], ◌∷◌, ◌++◌, length, take, get_or, refl, sym, ap, arith, add-one, append-nil, append_assoc}
 use Rattle.std.proofs.lemmas.List.Elements.{filter_map-append}
 use Rattle.adv_check.specs.declared.findings.Warning.{Warning}
@@ -19,7 +19,7 @@ module _ {X : Type 0} (of : ℕ → X → List Site) where
       ∙ sym (append_assoc (of first y) (each_from (first + 1) of (take i xs)) last)
       ∙ ap (λ n. (of first y ++ each_from (first + 1) of (take i xs)) ++ of n (get_or xs i x)) same
 
--- warnings of places, and of those behind them
+-- warnings of places, and of those after them
 pub both : (start first second : List Warning) (xs ys : List Site) → first ≡ start ++ warnings_of xs → second ≡ first ++ warnings_of ys
     → second ≡ start ++ warnings_of (xs ++ ys)
 both start first second xs ys e f =
@@ -34,7 +34,7 @@ one_more of xs first i number x d start before after h counted is so_far added =
     both start before after (each_from first of (take i xs)) (of (first + i) (get_or xs i d)) so_far (rw (counted, is) at added)
     ∙ rw (add-one, each_from-next of xs first i d h) refl
 
--- six texts that were written one behind the other
+-- six texts that were written one after the other
 pub six_written : (start o₁ o₂ o₃ o₄ o₅ o₆ a b c d e f : List ℕ) → o₁ ≡ start ++ a → o₂ ≡ o₁ ++ b → o₃ ≡ o₂ ++ c → o₄ ≡ o₃ ++ d → o₅ ≡ o₄ ++ e → o₆ ≡ o₅ ++ f
     → o₆ ≡ start ++ (a ++ (b ++ (c ++ (d ++ (e ++ f)))))
 six_written start o₁ o₂ o₃ o₄ o₅ o₆ a b c d e f h₁ h₂ h₃ h₄ h₅ h₆ = h₆ ∙ rw (h₅, h₄, h₃, h₂, h₁) (simp append_assoc)

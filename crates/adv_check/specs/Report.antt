@@ -10,7 +10,7 @@ use Rattle.adv_check.specs.declared.findings.What.TheVariants.{Item, Room, Flag,
 use Rattle.adv_check.specs.declared.findings.Warning.{Warning}
 use Rattle.adv_check.specs.Sites.{warnings}
 
--- words, and a number behind them
+-- words, and a number after them
 abbrev pub counted : List ℕ → ℕ → List ℕ
 counted words n = words ++ decimal n
 

@@ -30,8 +30,8 @@ abbrev pub row : Part → ℕ → List (Option Fault) → List Site
 row part index faults = each_from 1 (λ place fault. record { part = part; index = index; place = place; fault = fault } ∷ []) faults
 
 -- a line's five conditions and four opcodes
-abbrev pub line_sites : Database → ℕ → Action → List Site
-line_sites db line a =
+abbrev pub action_sites : Database → ℕ → Action → List Site
+action_sites db line a =
     row Condition line (map (condition_fault db) a.conds) ++ row Opcode line (opcode_faults db (opcode_numbers a) (parameters a))
 
 -- a room's six exits
@@ -44,7 +44,7 @@ item_sites db item i = record { part = Start; index = item; place = 0; fault = n
 
 -- all places: line by line, then room by room, then item by item
 abbrev pub sites : Database → List Site
-sites db = each_from 0 (line_sites db) db.actions ++ (each_from 0 (room_sites db) db.rooms ++ each_from 0 (item_sites db) db.items)
+sites db = each_from 0 (action_sites db) db.actions ++ (each_from 0 (room_sites db) db.rooms ++ each_from 0 (item_sites db) db.items)
 
 -- the warning of a place, where something is wrong
 abbrev pub warning_at : Site → Option Warning

@@ -4,7 +4,7 @@ ghost use Rattle.scott_types.specs.Database.{Database};
 ghost use Rattle.scott_types.specs.Opcode.{opcode_of, uses};
 ghost use Rattle.scott_types.specs.Action.{opcode_numbers, parameters};
 ghost use Rattle.adv_check.specs.Faults.{condition_fault, opcode_faults, exit_fault};
-ghost use Rattle.adv_check.specs.Sites.{Site, line_sites, room_sites, item_sites, each_from, warnings_of};
+ghost use Rattle.adv_check.specs.Sites.{Site, action_sites, room_sites, item_sites, each_from, warnings_of};
 
 use crate::faults::{condition_fault, exit_fault, naming_fault, opcode_fault};
 use crate::findings::{Fault, Part, Warning};
@@ -13,20 +13,27 @@ use adv_io::Memory;
 use arrayvec::ArrayVec;
 use scott_types::action_lines::{opcode_numbers, parameters};
 use scott_types::{Action, Db, Item, Opcode, Parameter, Room};
+use std::alloc::Global;
 
 /// An entry of a list in which something can be wrong.
-pub trait Entry {
+pub trait Warned {
     // The places of the entry of a number.
     ghost sites: { Database → ℕ → Self → List Site };
 
     /// Adds the warnings of the entry of a number at the end.
-    fn add_warnings(&self, db: &Db, index: u16, found: &mut Vec<Warning>) -> Result<(), Memory>
+    fn add_warnings(
+        &self,
+        alloc: Global,
+        db: &Db,
+        index: u16,
+        found: &mut Vec<Warning>,
+    ) -> Result<(), Memory>
         ensures { OnOk result (found.new.items ≡ found.old.items
             ++ warnings_of (sites db.now index self.now)) };
 }
 
-// The parameters behind those that the opcode of a number takes.
-fn behind(number: u32, left: &[u32]) -> &[u32]
+// The parameters after those that the opcode of a number takes.
+fn rest(number: u32, left: &[u32]) -> &[u32]
     ensures { result.now ≡ drop (uses (opcode_of number)) left.now }
 {
     let taken = Opcode::of(number).uses();
@@ -47,14 +54,14 @@ fn opcode_faults(db: &Db, action: &Action) -> [Option<Fault>; 4]
     let [first, second, third, fourth] = opcode_numbers(action);
     let parameters = parameters(action);
     let all = parameters.as_slice();
-    let behind_first = behind(first, all);
-    let behind_second = behind(second, behind_first);
-    let behind_third = behind(third, behind_second);
+    let after_first = rest(first, all);
+    let after_second = rest(second, after_first);
+    let after_third = rest(third, after_second);
     [
         opcode_fault(db, first, all),
-        opcode_fault(db, second, behind_first),
-        opcode_fault(db, third, behind_second),
-        opcode_fault(db, fourth, behind_third),
+        opcode_fault(db, second, after_first),
+        opcode_fault(db, third, after_second),
+        opcode_fault(db, fourth, after_third),
     ]
 }
 
@@ -71,21 +78,40 @@ fn exit_faults(db: &Db, exits: &[i32]) -> ArrayVec<Option<Fault>, 6>
     faults
 }
 
-impl Entry for Action {
-    ghost sites = { line_sites };
+impl Warned for Action {
+    ghost sites = { action_sites };
 
-    fn add_warnings(&self, db: &Db, index: u16, found: &mut Vec<Warning>) -> Result<(), Memory> {
-        add_row(found, Part::Condition, index, &condition_faults(db, self))?;
-        add_row(found, Part::Opcode, index, &opcode_faults(db, self))?;
+    fn add_warnings(
+        &self,
+        alloc: Global,
+        db: &Db,
+        index: u16,
+        found: &mut Vec<Warning>,
+    ) -> Result<(), Memory> {
+        add_row(
+            alloc,
+            found,
+            Part::Condition,
+            index,
+            &condition_faults(db, self),
+        )?;
+        add_row(alloc, found, Part::Opcode, index, &opcode_faults(db, self))?;
         Ok(())
     }
 }
 
-impl Entry for Room {
+impl Warned for Room {
     ghost sites = { room_sites };
 
-    fn add_warnings(&self, db: &Db, index: u16, found: &mut Vec<Warning>) -> Result<(), Memory> {
+    fn add_warnings(
+        &self,
+        alloc: Global,
+        db: &Db,
+        index: u16,
+        found: &mut Vec<Warning>,
+    ) -> Result<(), Memory> {
         add_row(
+            alloc,
             found,
             Part::Exit,
             index,
@@ -94,23 +120,34 @@ impl Entry for Room {
     }
 }
 
-impl Entry for Item {
+impl Warned for Item {
     ghost sites = { item_sites };
 
-    fn add_warnings(&self, db: &Db, index: u16, found: &mut Vec<Warning>) -> Result<(), Memory> {
+    fn add_warnings(
+        &self,
+        alloc: Global,
+        db: &Db,
+        index: u16,
+        found: &mut Vec<Warning>,
+    ) -> Result<(), Memory> {
         let fault = naming_fault(db, Parameter::Place, u32::from(self.place));
-        add(found, Part::Place, index, 0, fault)
+        add(alloc, found, Part::Place, index, 0, fault)
     }
 }
 
 /// Adds the warnings of each entry of a list at the end.
-pub fn add_entries<E: Entry>(db: &Db, entries: &[E], found: &mut Vec<Warning>) -> Result<(), Memory>
+pub fn add_entries<E: Warned>(
+    alloc: Global,
+    db: &Db,
+    entries: &[E],
+    found: &mut Vec<Warning>,
+) -> Result<(), Memory>
     requires { length entries.now ≤ 5000 }
     ensures { OnOk result (found.new.items ≡ found.old.items
         ++ warnings_of (each_from 0 (E.sites db.now) entries.now)) }
 {
     for (index, entry) in entries.iter().enumerate() {
-        entry.add_warnings(db, index as u16, found)?;
+        entry.add_warnings(alloc, db, index as u16, found)?;
     }
     Ok(())
 }

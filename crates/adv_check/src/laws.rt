@@ -3,7 +3,7 @@
 ghost use Rattle.adv_check.specs.Laws.{EachOpcodeTakesItsOwn, NoWarningsWhereFaultless};
 ghost use Rattle.adv_check.specs.Worked.{DropWithoutAParameter};
 
-/// An opcode is held to the parameters behind those that the opcodes before it take.
+/// An opcode is held to the parameters after those that the opcodes before it take.
 pub fn each_opcode_takes_its_own()
     ensures { EachOpcodeTakesItsOwn }
 {}

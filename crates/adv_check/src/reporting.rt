@@ -11,7 +11,7 @@ use itoa::Integer;
 use scott_types::Db;
 use std::alloc::Global;
 
-// Writes words and a number behind them.
+// Writes words and a number after them.
 fn put_counted<I: Integer>(
     alloc: Global,
     out: &mut Vec<u8>,

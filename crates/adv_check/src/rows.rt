@@ -1,12 +1,14 @@
-//! The warnings of places one behind the other.
+//! The warnings of places one after the other.
 ghost use Rattle.std.specs.Prelude.{◌≡◌, ◌≤◌, ◌++◌, [], ◌∷◌, OnOk, length};
 ghost use Rattle.adv_check.specs.Sites.{Site, row, warnings_of};
 
 use crate::findings::{Fault, Part, Warning};
 use adv_io::Memory;
+use std::alloc::Global;
 
 /// Adds the warning of a place at the end, where something is wrong there.
 pub fn add(
+    _alloc: Global,
     found: &mut Vec<Warning>,
     part: Part,
     index: u16,
@@ -30,6 +32,7 @@ pub fn add(
 
 /// Adds the warnings of one part of an entry at the end: the faults are those at its places, from 1 on.
 pub fn add_row(
+    alloc: Global,
     found: &mut Vec<Warning>,
     part: Part,
     index: u16,
@@ -40,7 +43,7 @@ pub fn add_row(
         ++ warnings_of (row part index faults.now)) }
 {
     for (i, fault) in faults.iter().enumerate() {
-        add(found, part, index, (i + 1) as u8, *fault)?;
+        add(alloc, found, part, index, (i + 1) as u8, *fault)?;
     }
     Ok(())
 }

@@ -16,8 +16,8 @@ pub fn warnings(alloc: Global, db: &Db) -> Result<Vec<Warning>, Memory>
     ensures { IfOk result (λ found. found.items ≡ warnings db.now) }
 {
     let mut found = Vec::new(alloc);
-    add_entries(db, db.actions(), &mut found)?;
-    add_entries(db, db.rooms(), &mut found)?;
-    add_entries(db, db.items(), &mut found)?;
+    add_entries(alloc, db, db.actions(), &mut found)?;
+    add_entries(alloc, db, db.rooms(), &mut found)?;
+    add_entries(alloc, db, db.items(), &mut found)?;
     Ok(found)
 }

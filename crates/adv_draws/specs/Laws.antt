@@ -1,7 +1,8 @@
--- What lists of draws are, in laws: a run alone, and two texts with a blank between them.
+-- What lists of draws are, in laws: a run alone, and two texts with a byte of whitespace between them.
 use Rattle.std.specs.Prelude.{◌≡◌, ℕ, ◌+◌, true, List, [], ◌∷◌, ◌++◌, length, Result, Ok, Err}
 use Rattle.std.specs.List.{list_all}
-use Rattle.adv_draws.specs.Run.{is_blank, is_solid, draw_of}
+use Rattle.adv_io.specs.Text.{is_whitespace}
+use Rattle.adv_draws.specs.Run.{is_solid, draw_of}
 use Rattle.adv_draws.specs.Listed.{followed_by, with_draw, listed_draws}
 
 -- the same further on: a fault's place moves with its text
@@ -24,9 +25,9 @@ RunAlone =
     (byte : ℕ) (run : List ℕ) → list_all is_solid (byte ∷ run) ≡ true
     → listed_draws (byte ∷ run) ≡ with_draw (draw_of (byte ∷ run)) 0 (Ok [])
 
--- two texts with a blank between them list the draws of both, or have the first fault of both
-abbrev pub BlankBetween : Type 0
-BlankBetween =
-    (first second : List ℕ) (blank : ℕ) → is_blank blank ≡ true
-    → listed_draws (first ++ blank ∷ second)
+-- two texts with a byte of whitespace between them list the draws of both, or have the first fault of both
+abbrev pub SpaceBetween : Type 0
+SpaceBetween =
+    (first second : List ℕ) (space : ℕ) → is_whitespace space ≡ true
+    → listed_draws (first ++ space ∷ second)
     ≡ joined_with (listed_draws first) (moved_by (length first + 1) (listed_draws second))

@@ -1,4 +1,5 @@
 pub mod Run
+pub mod Texts
 pub mod Listed
 pub mod Seeded
 pub mod Supply

@@ -1,6 +1,6 @@
 //! The laws of lists of draws. Each is the contract of a function that does nothing. Together they
-//! say what every text lists: it is runs with blanks between them.
-ghost use Rattle.adv_draws.specs.Laws.{NothingLists, RunAlone, BlankBetween};
+//! say what every text lists: it is runs with whitespace between them.
+ghost use Rattle.adv_draws.specs.Laws.{NothingLists, RunAlone, SpaceBetween};
 
 /// A text with no bytes lists no draws.
 pub fn nothing_lists()
@@ -12,7 +12,7 @@ pub fn run_alone()
     ensures { RunAlone }
 {}
 
-/// Two texts with a blank between them list the draws of both, or have the first fault of both.
-pub fn blank_between()
-    ensures { BlankBetween }
+/// Two texts with a byte of whitespace between them list the draws of both, or have the first fault of both.
+pub fn space_between()
+    ensures { SpaceBetween }
 {}

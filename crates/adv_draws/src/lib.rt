@@ -4,6 +4,7 @@
 // The text that lists draws.
 pub mod faults;
 mod runs;
+mod texts;
 
 // What is left to draw.
 pub mod supplies;

@@ -1,13 +1,8 @@
 //! The runs of a text that lists draws.
 ghost use Rattle.std.specs.Prelude.{◌≡◌, length, Some, None, IfSome, IfNone, IsTrue};
-ghost use Rattle.adv_draws.specs.Run.{is_blank, is_draw, draw_of, first_run};
+ghost use Rattle.adv_draws.specs.Run.{is_draw, draw_of, first_run};
 
-/// Whether a byte parts two runs.
-pub fn is_blank(byte: u8) -> bool
-    ensures { result ≡ is_blank byte }
-{
-    matches!(byte, 9..=13 | 32)
-}
+use adv_io::is_whitespace;
 
 /// The draw of the run that `text` begins with and the run's length, or none where that run is no draw.
 #[inline(always)]
@@ -23,7 +18,7 @@ pub fn first_draw(text: &[u8]) -> Option<(u8, usize)>
     }
 }
 
-/// The same where the run is a number of 1..99 without needless zeros, and a blank stands after it.
+/// The same where the run is a number of 1..99 without needless zeros, and a byte of whitespace stands after it.
 /// Most draws stand so; where there is none here, `any_draw` reads byte by byte.
 #[inline(always)]
 fn short_draw(text: &[u8]) -> Option<(u8, usize)>
@@ -35,10 +30,10 @@ fn short_draw(text: &[u8]) -> Option<(u8, usize)>
         return None;
     }
     let tens = text[0] - b'0';
-    if is_blank(text[1]) {
+    if is_whitespace(text[1]) {
         return Some((tens, 1));
     }
-    if text[1] < b'0' || b'9' < text[1] || !is_blank(text[2]) {
+    if text[1] < b'0' || b'9' < text[1] || !is_whitespace(text[2]) {
         return None;
     }
     Some((10 * tens + (text[1] - b'0'), 2))
@@ -54,7 +49,7 @@ fn any_draw(text: &[u8]) -> Option<(u8, usize)>
     let mut number: u16 = 0;
     let mut size = 0;
     for byte in text {
-        if is_blank(*byte) {
+        if is_whitespace(*byte) {
             break;
         }
         if !byte.is_ascii_digit() || number > 100 {

@@ -6,7 +6,8 @@ ghost use Rattle.adv_draws.specs.Seeded.{seeded_draws};
 ghost use Rattle.adv_draws.specs.Listed.{listed_draws, IsFaultOf};
 
 use crate::faults::DrawFault;
-use crate::runs::{first_draw, is_blank};
+use crate::runs::first_draw;
+use adv_io::is_whitespace;
 use rand_core::utils::NextWord;
 use rand_pcg::Lcg64Xsh32;
 use std::alloc::Global;
@@ -24,7 +25,7 @@ pub struct Draws {
     taken: u64,
 }
 
-// Draws in a list, of which `taken` are behind, or those of a generator's further words.
+// Draws in a list, of which `taken` are after, or those of a generator's further words.
 #[derive(Drop)]
 enum Source {
     Listed(Vec<u8>),
@@ -45,8 +46,8 @@ impl Model for Draws {
 }
 
 impl Draws {
-    /// The draws that a text lists: decimal numbers of 1..100 without a sign, between blanks, which
-    /// are the bytes 9..13 and 32. Leading zeros are allowed, and a text of blanks lists none.
+    /// The draws that a text lists: decimal numbers of 1..100 without a sign, between whitespace, which
+    /// are the bytes 9..13 and 32. Leading zeros are allowed, and a text of whitespace lists none.
     /// docs/FORMAT.md states the rule.
     pub fn listed(alloc: Global, bytes: &[u8]) -> Result<Draws, DrawFault>
         ensures listed { IfOk result (λ d. listed_draws bytes.now ≡ Ok d.left) }
@@ -58,7 +59,7 @@ impl Draws {
         let mut draws = Vec::new(alloc);
         let mut offset = 0;
         while offset < bytes.len() {
-            if is_blank(bytes[offset]) {
+            if is_whitespace(bytes[offset]) {
                 offset += 1;
                 continue;
             }
@@ -66,7 +67,7 @@ impl Draws {
                 return Err(DrawFault::NotADraw(offset));
             };
             draws.push(draw)?;
-            // What stands after a run is a blank or the end.
+            // What stands after a run is a byte of whitespace or the end.
             offset += size + 1;
         }
         Ok(Draws {

@@ -9,7 +9,7 @@ use Rattle.adv_io.specs.declared.events.Event.TheVariants.{Say, Take}
 pub says-append : (a b : List ℕ) → says (a ++ b) ≡ says a ++ says b
 says-append a b = map-append Say a b
 
--- bytes that were said are in front of the transcript
+-- bytes that were said begin the transcript
 pub transcript-says : (bytes : List ℕ) (events : List Event) → transcript (says bytes ++ events) ≡ bytes ++ transcript events
 transcript-says [] events = refl
 transcript-says (byte ∷ bytes) events = λ i. byte ∷ transcript-says bytes events i
@@ -18,7 +18,7 @@ transcript-said : (bytes : List ℕ) → transcript (says bytes) ≡ bytes
 transcript-said [] = refl
 transcript-said (byte ∷ bytes) = λ i. byte ∷ transcript-said bytes i
 
--- they move the marks behind them
+-- they move the marks after them
 pub marks_from-says : (n : ℕ) (bytes : List ℕ) (events : List Event) → marks_from n (says bytes ++ events) ≡ marks_from (n + length bytes) events
 marks_from-says n [] events = ap (λ m. marks_from m events) (omega arith)
 marks_from-says n (byte ∷ bytes) events = marks_from-says (n + 1) bytes events ∙ ap (λ m. marks_from m events) (omega arith)
@@ -49,21 +49,21 @@ module _ (at mark : ℕ) (said marks : List ℕ) (ordered : AreMarks at (mark �
   mark_within : mark - at ≤ length said
   mark_within = omega (arith, ordered.0, AreMarks-le mark marks (at + length said) ordered.1)
 
-  -- and behind it go the other marks
+  -- and after it go the other marks
   end_same : mark + length (drop (mark - at) said) ≡ at + length said
   end_same = rw length-drop (omega (arith, ordered.0, mark_within))
 
-  ordered_behind : AreMarks mark marks (mark + length (drop (mark - at) said))
-  ordered_behind = subst (AreMarks mark marks) (sym end_same) ordered.1
+  ordered_after : AreMarks mark marks (mark + length (drop (mark - at) said))
+  ordered_after = subst (AreMarks mark marks) (sym end_same) ordered.1
 
--- bytes that are said go behind what is told
+-- bytes that are said go after the events so far
 pub retold-says : (at : ℕ) (said marks : List ℕ) (lines : List (List ℕ)) (bytes : List ℕ) → AreMarks at marks (at + length said) → retold at (said ++ bytes) marks lines ≡ retold at said marks lines ++ says bytes
 retold-says at said [] lines bytes ordered = says-append said bytes
 retold-says at said (mark ∷ marks) [] bytes ordered = says-append said bytes
 retold-says at said (mark ∷ marks) (line ∷ lines) bytes ordered =
     let within : mark - at ≤ length said = mark_within at mark said marks ordered in
-    let behind = retold-says mark (drop (mark - at) said) marks lines bytes (ordered_behind at mark said marks ordered) in
-    rw (take-append-le (mark - at) said bytes within, drop-append-le (mark - at) said bytes within, behind)
+    let after = retold-says mark (drop (mark - at) said) marks lines bytes (ordered_after at mark said marks ordered) in
+    rw (take-append-le (mark - at) said bytes within, drop-append-le (mark - at) said bytes within, after)
     (sym (append_assoc (says (take (mark - at) said)) (Take line ∷ retold mark (drop (mark - at) said) marks lines) (says bytes)))
 
 -- so does a line that is taken
@@ -73,12 +73,12 @@ retold-takes at said [] (line ∷ lines) ordered room d =
     rw (take_all (at + length said - at) said (omega arith), drop_all (at + length said - at) said (omega arith)) refl
 retold-takes at said (mark ∷ marks) [] ordered room d = absurd (omega arith)
 retold-takes at said (mark ∷ marks) (line ∷ lines) ordered room d =
-    let behind = retold-takes mark (drop (mark - at) said) marks lines (ordered_behind at mark said marks ordered) (omega arith) d in
-    let here = rw (end_same at mark said marks ordered) at behind in
+    let after = retold-takes mark (drop (mark - at) said) marks lines (ordered_after at mark said marks ordered) (omega arith) d in
+    let here = rw (end_same at mark said marks ordered) at after in
     rw here
     (sym (append_assoc (says (take (mark - at) said)) (Take line ∷ retold mark (drop (mark - at) said) marks lines) (Take (get_or lines (length marks) d) ∷ [])))
 
--- what is told has the said bytes
+-- the events have the said bytes
 pub transcript-retold : (at : ℕ) (said marks : List ℕ) (lines : List (List ℕ)) → transcript (retold at said marks lines) ≡ said
 transcript-retold at said [] lines = transcript-said said
 transcript-retold at said (mark ∷ marks) [] = transcript-said said
@@ -94,9 +94,9 @@ marks_from-retold at said (mark ∷ marks) [] ordered room = absurd (omega arith
 marks_from-retold at said (mark ∷ marks) (line ∷ lines) ordered room =
     let rest = retold mark (drop (mark - at) said) marks lines in
     let within : mark - at ≤ length said = mark_within at mark said marks ordered in
-    let front : at + length (take (mark - at) said) ≡ mark = rw length-take (omega (arith, ordered.0, within)) in
+    let prefix : at + length (take (mark - at) said) ≡ mark = rw length-take (omega (arith, ordered.0, within)) in
     marks_from-says at (take (mark - at) said) (Take line ∷ rest)
-    ∙ rw front (λ i. mark ∷ marks_from-retold mark (drop (mark - at) said) marks lines (ordered_behind at mark said marks ordered) (omega arith) i)
+    ∙ rw prefix (λ i. mark ∷ marks_from-retold mark (drop (mark - at) said) marks lines (ordered_after at mark said marks ordered) (omega arith) i)
 
 -- ---- the same from the start
 

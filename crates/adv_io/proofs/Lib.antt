@@ -1,6 +1,10 @@
+-- The lemmas of the base, which the crates above may cite.
 pub mod TypedLines
 pub mod Histories
 pub mod Recordings
 pub mod Files
 pub mod Sayings
-pub mod Gatherings
+pub mod Buffering
+pub mod Showing
+pub mod Along
+pub mod Spending

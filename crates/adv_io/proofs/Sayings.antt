@@ -2,9 +2,11 @@
 use Rattle.std.proofs.Common.{◌≡◌, ◌∙◌, ℕ, suc, ◌+◌, ◌<◌, List, [], ◌∷◌, ◌++◌, take, drop, length, get_or, refl, sym, ap, subst, zero, arith, append_assoc, Option, Some, None, Result, Ok, Err, IsErr, OnOk, OnErr, add-one}
 use Rattle.std.proofs.lemmas.List.{append-nil}
 use Rattle.std.specs.List.{flat_map}
-use Rattle.adv_io.specs.History.{says, grown, GrewByPart}
-use Rattle.adv_io.specs.Console.{Speaks}
+use Rattle.adv_io.specs.History.{says, grown, GrewByPrefix}
+use Rattle.adv_io.specs.Faults.{HasCause}
+use Rattle.adv_io.specs.Console.{ConsoleView, Speaks}
 use Rattle.adv_io.specs.declared.events.Event.{Event}
+use Rattle.adv_io.specs.declared.faults.ConsoleFault.{ConsoleFault}
 use Rattle.adv_io.proofs.Histories.{says-append}
 
 -- ---- histories that grow
@@ -22,7 +24,7 @@ pub grown_on : (old mid new : Option (List Event)) (a b : List Event) → mid �
 grown_on old mid new a b first then = then ∙ ap (λ h. grown h b) first ∙ grown-grown old a b
 
 -- after some events a part of others
-pub part_on : (old mid new : Option (List Event)) (a b : List Event) → mid ≡ grown old a → GrewByPart mid new b → GrewByPart old new (a ++ b)
+pub part_on : (old mid new : Option (List Event)) (a b : List Event) → mid ≡ grown old a → GrewByPrefix mid new b → GrewByPrefix old new (a ++ b)
 part_on old mid new a b first part = record {
   done = a ++ part.done;
   rest = part.rest;
@@ -31,7 +33,7 @@ part_on old mid new a b first part = record {
 }
 
 -- a part of events is a part of more
-pub part_of_more : (old new : Option (List Event)) (a b : List Event) → GrewByPart old new a → GrewByPart old new (a ++ b)
+pub part_of_more : (old new : Option (List Event)) (a b : List Event) → GrewByPrefix old new a → GrewByPrefix old new (a ++ b)
 part_of_more old new a b part = record {
   done = part.done;
   rest = part.rest ++ b;
@@ -40,16 +42,16 @@ part_of_more old new a b part = record {
 }
 
 -- all of the events are a part of more, and so is nothing
-pub part_whole : (old new : Option (List Event)) (a b : List Event) → new ≡ grown old a → GrewByPart old new (a ++ b)
+pub part_whole : (old new : Option (List Event)) (a b : List Event) → new ≡ grown old a → GrewByPrefix old new (a ++ b)
 part_whole old new a b grew = record { done = a; rest = b; whole = refl; grew = grew }
 
-pub part_none : (history : Option (List Event)) (a : List Event) → GrewByPart history history a
+pub part_none : (history : Option (List Event)) (a : List Event) → GrewByPrefix history history a
 part_none history a = record { done = []; rest = a; whole = refl; grew = sym (grown-nil history) }
 
--- ---- the same of a call's answer, one behind the other, to be named where a function says two texts
+-- ---- the same of a call's answer, one after the other, to be named where a function says two texts
 
 -- what failed said a part of more
-pub text_stop : {T E : Type 0} (r : Result T E) (old new : Option (List Event)) (a b : List Event) → GrewByPart old new a → OnErr r (GrewByPart old new (a ++ b))
+pub text_stop : {T E : Type 0} (r : Result T E) (old new : Option (List Event)) (a b : List Event) → GrewByPrefix old new a → OnErr r (GrewByPrefix old new (a ++ b))
 text_stop (Ok x) old new a b part = tt
 text_stop (Err e) old new a b part = part_of_more old new a b part
 
@@ -59,7 +61,7 @@ text_then (Ok x) old mid new a b first more = grown_on old mid new a b first mor
 text_then (Err e) old mid new a b first more = tt
 
 -- or a part of another
-pub text_then_part : {T E : Type 0} (r : Result T E) (old mid new : Option (List Event)) (a b : List Event) → mid ≡ grown old a → OnErr r (GrewByPart mid new b) → OnErr r (GrewByPart old new (a ++ b))
+pub text_then_part : {T E : Type 0} (r : Result T E) (old mid new : Option (List Event)) (a b : List Event) → mid ≡ grown old a → OnErr r (GrewByPrefix mid new b) → OnErr r (GrewByPrefix old new (a ++ b))
 text_then_part (Ok x) old mid new a b first part = tt
 text_then_part (Err e) old mid new a b first part = part_on old mid new a b first part
 
@@ -91,7 +93,7 @@ module _ {X : Type 0} (text : X → List ℕ) where
       ∙ rw (add-one, flat_map-next xs i d within) refl
 
   -- a turn that fails
-  pub turn_failed : (xs : List X) (i : ℕ) (d : X) (old now new : Option (List Event)) → i < length xs → now ≡ grown old (says (flat_map text (take i xs))) → GrewByPart now new (says (text (get_or xs i d))) → GrewByPart old new (says (flat_map text xs))
+  pub turn_failed : (xs : List X) (i : ℕ) (d : X) (old now new : Option (List Event)) → i < length xs → now ≡ grown old (says (flat_map text (take i xs))) → GrewByPrefix now new (says (text (get_or xs i d))) → GrewByPrefix old new (says (flat_map text xs))
   turn_failed xs i d old now new within before part =
       let so_far = flat_map text (take i xs) in
       let here = text (get_or xs i d) in
@@ -100,55 +102,75 @@ module _ {X : Type 0} (text : X → List ℕ) where
       ap (λ es. says so_far ++ es) (sym (says-append here to_come))
       ∙ sym (says-append so_far (here ++ to_come))
       ∙ ap says (sym (flat_map-split xs i d within)) in
-      subst (λ es. GrewByPart old new es) all
+      subst (λ es. GrewByPrefix old new es) all
       (part_on old now new (says so_far) (says here ++ says to_come) before (part_of_more now new (says here) (says to_come) part))
 
   -- the same of the answer that the turn gives
-  pub turn_stop : {T E : Type 0} (r : Result T E) (xs : List X) (i : ℕ) (d : X) (old now new : Option (List Event)) → i < length xs → now ≡ grown old (says (flat_map text (take i xs))) → GrewByPart now new (says (text (get_or xs i d))) → OnErr r (GrewByPart old new (says (flat_map text xs)))
+  pub turn_stop : {T E : Type 0} (r : Result T E) (xs : List X) (i : ℕ) (d : X) (old now new : Option (List Event)) → i < length xs → now ≡ grown old (says (flat_map text (take i xs))) → GrewByPrefix now new (says (text (get_or xs i d))) → OnErr r (GrewByPrefix old new (says (flat_map text xs)))
   turn_stop (Ok x) xs i d old now new within before part = tt
   turn_stop (Err e) xs i d old now new within before part = turn_failed xs i d old now new within before part
 
--- ---- calls that only say, one behind the other
+-- the answer of what succeeds
+abbrev pub success : Result (Unit {0}) ConsoleFault
+success = Ok tt
 
-module _ {C : Type 0} {history : C → Option (List Event)} {left : C → Option (List (List ℕ))} {bound faults : C → ℕ} where
-  -- what does nothing says nothing
-  pub nothing_said : {T E : Type 0} (console : C) (x : T) → Speaks {E = E} history left bound faults console console (Ok x) []
-  nothing_said console x = record {
-    said = sym (grown-nil (history console));
-    part = tt;
-    lines_stay = refl;
-    bounded = omega arith;
-    cause = record { later = omega arith; failed = tt };
-  }
+-- ---- counts of faults, over one call and over two
 
-  -- after a call that succeeded another, which may fail
-  pub speaks_then : {S T D E : Type 0} {old mid new : C} {x : S} {r : Result T E} {a b : List Event} → Speaks {E = D} history left bound faults old mid (Ok x) a → Speaks history left bound faults mid new r b → Speaks history left bound faults old new r (a ++ b)
-  speaks_then {old = old} {mid = mid} {new = new} {r = Ok y} {a = a} {b = b} first then = record {
-    said = grown_on (history old) (history mid) (history new) a b first.said then.said;
-    part = tt;
-    lines_stay = then.lines_stay ∙ first.lines_stay;
-    bounded = omega (arith, first.bounded, then.bounded);
-    cause = record { later = omega (arith, first.cause.later, then.cause.later); failed = tt };
-  }
-  speaks_then {old = old} {mid = mid} {new = new} {r = Err fault} {a = a} {b = b} first then = record {
-    said = tt;
-    part = part_on (history old) (history mid) (history new) a b first.said then.part;
-    lines_stay = then.lines_stay ∙ first.lines_stay;
-    bounded = omega (arith, first.bounded, then.bounded);
-    cause = record { later = omega (arith, first.cause.later, then.cause.later); failed = omega (arith, first.cause.later, then.cause.failed) };
-  }
+pub cause_none : {T E : Type 0} {count : ℕ} (x : T) → HasCause {E = E} count count (Ok x)
+cause_none x = record { later = omega arith; steady = refl; failed = tt }
 
-  -- a call that failed, whatever was to be said behind it
-  pub speaks_stop : {T U D E : Type 0} {old new : C} {d : D} (e : E) {a : List Event} (b : List Event) → Speaks {T = T} history left bound faults old new (Err d) a → Speaks {T = U} history left bound faults old new (Err e) (a ++ b)
-  speaks_stop {old = old} {new = new} e {a = a} b stop = record {
-    said = tt;
-    part = part_of_more (history old) (history new) a b stop.part;
-    lines_stay = stop.lines_stay;
-    bounded = stop.bounded;
-    cause = record { later = stop.cause.later; failed = stop.cause.failed };
-  }
+-- what succeeds succeeds with anything, and what fails fails with anything
+pub cause_again : {T U D E : Type 0} {before now : ℕ} {x : T} (y : U) → HasCause {E = D} before now (Ok x) → HasCause {E = E} before now (Ok y)
+cause_again y c = record { later = c.later; steady = c.steady; failed = tt }
 
-  -- the same at the exit of a call that passes the failure on
-  pub speaks_exit : {T U D E : Type 0} {old new : C} {d : D} {r : Result U E} {a : List Event} (b : List Event) → IsErr r → Speaks {T = T} history left bound faults old new (Err d) a → Speaks history left bound faults old new r (a ++ b)
-  speaks_exit {r = Ok x} b failed stop = absurd cc
-  speaks_exit {r = Err e} b failed stop = speaks_stop e b stop
+pub cause_fails : {T U D E : Type 0} {before now : ℕ} {d : D} (e : E) → HasCause {T = T} before now (Err d) → HasCause {T = U} before now (Err e)
+cause_fails e c = record { later = c.later; steady = tt; failed = c.failed }
+
+-- after a call that succeeded another, which may fail
+pub cause_then : {S T D E : Type 0} {before mid now : ℕ} {x : S} {r : Result T E} → HasCause {E = D} before mid (Ok x) → HasCause mid now r → HasCause before now r
+cause_then {r = Ok y} first then = record { later = omega (arith, first.later, then.later); steady = then.steady ∙ first.steady; failed = tt }
+cause_then {r = Err e} first then = record { later = omega (arith, first.later, then.later); steady = tt; failed = omega (arith, first.later, then.failed) }
+
+-- ---- calls that only say, one after the other
+
+-- what does nothing says nothing
+pub nothing_said : {T E : Type 0} (console : ConsoleView) (x : T) → Speaks {E = E} console console (Ok x) []
+nothing_said console x = record {
+  said = sym (grown-nil console.history);
+  part = tt;
+  lines_stay = refl;
+  bounded = omega arith;
+  cause = cause_none x;
+}
+
+-- after a call that succeeded another, which may fail
+pub speaks_then : {S T D E : Type 0} {old mid new : ConsoleView} {x : S} {r : Result T E} {a b : List Event} → Speaks {E = D} old mid (Ok x) a → Speaks mid new r b → Speaks old new r (a ++ b)
+speaks_then {old = old} {mid = mid} {new = new} {r = Ok y} {a = a} {b = b} first then = record {
+  said = grown_on old.history mid.history new.history a b first.said then.said;
+  part = tt;
+  lines_stay = then.lines_stay ∙ first.lines_stay;
+  bounded = omega (arith, first.bounded, then.bounded);
+  cause = cause_then first.cause then.cause;
+}
+speaks_then {old = old} {mid = mid} {new = new} {r = Err fault} {a = a} {b = b} first then = record {
+  said = tt;
+  part = part_on old.history mid.history new.history a b first.said then.part;
+  lines_stay = then.lines_stay ∙ first.lines_stay;
+  bounded = omega (arith, first.bounded, then.bounded);
+  cause = cause_then first.cause then.cause;
+}
+
+-- a call that failed, whatever was to be said after it
+pub speaks_stop : {T U D E : Type 0} {old new : ConsoleView} {d : D} (e : E) {a : List Event} (b : List Event) → Speaks {T = T} old new (Err d) a → Speaks {T = U} old new (Err e) (a ++ b)
+speaks_stop {old = old} {new = new} e {a = a} b stop = record {
+  said = tt;
+  part = part_of_more old.history new.history a b stop.part;
+  lines_stay = stop.lines_stay;
+  bounded = stop.bounded;
+  cause = cause_fails e stop.cause;
+}
+
+-- the same at the exit of a call that passes the failure on
+pub speaks_exit : {T U D E : Type 0} {old new : ConsoleView} {d : D} {r : Result U E} {a : List Event} (b : List Event) → IsErr r → Speaks {T = T} old new (Err d) a → Speaks old new r (a ++ b)
+speaks_exit {r = Ok x} b failed stop = absurd cc
+speaks_exit {r = Err e} b failed stop = speaks_stop e b stop

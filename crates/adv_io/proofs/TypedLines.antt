@@ -13,14 +13,14 @@ pub list_all-line_bytes : (bs : List ℕ) → list_all is_line_byte (map line_by
 list_all-line_bytes [] = refl
 list_all-line_bytes (b ∷ bs) = rw (is_line_byte-line_byte b) (list_all-line_bytes bs)
 
--- the front that the loop has walked to its end
-pub take-walked : (raw : List ℕ) (n i : ℕ) → n ≡ min 120 (length raw) → length (take n raw) ≤ i → take i (take n raw) ≡ take 120 raw
-take-walked raw n i e h = take_all i (take n raw) h ∙ rw e (take_min 120 raw)
+-- the prefix that the loop has walked to its end
+pub take-walk_result : (raw : List ℕ) (n i : ℕ) → n ≡ min 120 (length raw) → length (take n raw) ≤ i → take i (take n raw) ≡ take 120 raw
+take-walk_result raw n i e h = take_all i (take n raw) h ∙ rw e (take_min 120 raw)
 
-pub IsTyped-walked : (kept raw : List ℕ) → kept ≡ map line_byte (take 120 raw) → IsTyped kept
-IsTyped-walked kept raw e = record {
+pub IsTyped-walk_result : (kept raw : List ℕ) → kept ≡ map line_byte (take 120 raw) → IsTyped kept
+IsTyped-walk_result kept raw e = record {
   short = rw e (simp (length-map, length-take) (omega arith));
-  small = rw e (list_all-line_bytes (take 120 raw));
+  lower = rw e (list_all-line_bytes (take 120 raw));
 }
 
 -- a byte of a line stands for itself
@@ -33,4 +33,4 @@ map-line_byte-again (b ∷ bs) h = λ i. line_byte-again b (first_so _ _ h) i �
 
 -- and a line for itself
 pub line-again : (line : List ℕ) → IsTyped line → map line_byte (take 120 line) ≡ line
-line-again line typed = rw (take_all 120 line typed.short) (map-line_byte-again line typed.small)
+line-again line typed = rw (take_all 120 line typed.short) (map-line_byte-again line typed.lower)

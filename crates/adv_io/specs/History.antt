@@ -8,13 +8,13 @@ use Rattle.adv_io.specs.declared.events.Event.TheVariants.{Say, Take, Draw}
 abbrev pub says : List ℕ → List Event
 says bytes = map Say bytes
 
--- a history with more events behind it, where it is told
+-- a history with more events after it, where it is known
 abbrev pub grown : Option (List Event) → List Event → Option (List Event)
 grown None events = None
 grown (Some history) events = Some (history ++ events)
 
--- a history grew by a front of some events, as after a failure
-pub record GrewByPart (old new : Option (List Event)) (all : List Event) : Type 0 where
+-- a history grew by a prefix of some events, as after a failure
+pub record GrewByPrefix (old new : Option (List Event)) (all : List Event) : Type 0 where
   pub done : List Event
   pub rest : List Event
   pub whole : done ++ rest ≡ all

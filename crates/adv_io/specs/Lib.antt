@@ -1,9 +1,12 @@
+pub mod Answers
+pub mod Text
 pub mod TypedLine
 pub mod Faults
 pub mod History
+pub mod Steps
 pub mod Shelf
 pub mod Console
-pub mod Numbered
+pub mod CallCount
 pub mod Recorded
 pub mod Shelved
 pub mod Terminal

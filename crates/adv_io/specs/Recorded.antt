@@ -1,7 +1,8 @@
 -- A console in memory: its history, and what it keeps of it.
-use Rattle.std.specs.Prelude.{ℕ, ◌+◌, ◌-◌, ◌≤◌, nat_le, List, [], ◌∷◌, ◌++◌, length, take, drop, if◌then◌else◌}
+use Rattle.std.specs.Prelude.{ℕ, ◌+◌, ◌-◌, ◌≤◌, nat_le, List, [], ◌∷◌, ◌++◌, length, take, drop, Some, if◌then◌else◌}
 use Rattle.adv_io.specs.History.{says}
-use Rattle.adv_io.specs.Numbered.{Numbered, unused, fails_next, after_next, with_fault}
+use Rattle.adv_io.specs.Console.{ConsoleView}
+use Rattle.adv_io.specs.CallCount.{CallCount, unused, fails_next, after_next, with_fault}
 use Rattle.adv_io.specs.declared.events.Event.{Event}
 use Rattle.adv_io.specs.declared.events.Event.TheVariants.{Take}
 
@@ -10,19 +11,23 @@ pub record Recorded : Type 0 where
   pub history : List Event
   pub left : List (List ℕ)
   pub room : ℕ
-  pub calls : Numbered
+  pub calls : CallCount
+
+-- what a clause sees of it as of every console
+abbrev pub seen_of : Recorded → ConsoleView
+seen_of c = record { history = Some c.history; left = Some c.left; bound = length c.left; faults = c.calls.faults }
 
 -- nothing said or taken yet
-abbrev pub unheard : List (List ℕ) → List ℕ → ℕ → Recorded
-unheard lines failing room = record { history = []; left = lines; room = room; calls = unused failing }
+abbrev pub untouched : List (List ℕ) → List ℕ → ℕ → Recorded
+untouched lines failing room = record { history = []; left = lines; room = room; calls = unused failing }
 
 -- bytes that fit were said
 abbrev pub with_said : Recorded → List ℕ → Recorded
 with_said c bytes = record c { history = c.history ++ says bytes; room = c.room - length bytes }
 
 -- as many bytes as fit were said, and a fault was counted
-abbrev pub with_front_said : Recorded → List ℕ → Recorded
-with_front_said c bytes = record (with_said c (take c.room bytes)) { calls = with_fault c.calls }
+abbrev pub with_prefix_said : Recorded → List ℕ → Recorded
+with_prefix_said c bytes = record (with_said c (take c.room bytes)) { calls = with_fault c.calls }
 
 -- the next line was taken, if there is one
 abbrev pub with_taken : Recorded → List (List ℕ) → Recorded
@@ -37,7 +42,7 @@ called c = record c { calls = after_next c.calls }
 abbrev pub after_saying : Recorded → List ℕ → Recorded
 after_saying c bytes =
     if fails_next c.calls then called c else
-    if nat_le (length bytes) c.room then with_said (called c) bytes else with_front_said (called c) bytes
+    if nat_le (length bytes) c.room then with_said (called c) bytes else with_prefix_said (called c) bytes
 
 -- a take whose number fails changes nothing else; another takes the next line
 abbrev pub after_taking : Recorded → Recorded
@@ -45,7 +50,7 @@ after_taking c = if fails_next c.calls then called c else with_taken (called c) 
 
 -- ---- what is kept of the history
 
--- The events that are left to tell, behind a number of said bytes: the other said bytes, and each
+-- The events that are still to come, after a number of said bytes: the other said bytes, and each
 -- line at its mark, which is the number of bytes said before it.
 abbrev pub retold : ℕ → List ℕ → List ℕ → List (List ℕ) → List Event
 retold at said [] lines = says said

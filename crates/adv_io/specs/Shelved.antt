@@ -3,20 +3,24 @@ use Rattle.std.specs.Prelude.{◌≡◌, ℕ, ◌&&◌, Bool, true, not, nat_le,
 use Rattle.std.specs.Coded.{Coded, code_by, coded×, coded_ℕ, coded_list}
 use Rattle.std.specs.List.{list_any}
 use Rattle.std.specs.FinMap.{get, insert, from_entries, code}
-use Rattle.adv_io.specs.Numbered.{Numbered, coded_numbered, unused, fails_next, after_next}
-use Rattle.adv_io.specs.Shelf.{Files}
+use Rattle.adv_io.specs.CallCount.{CallCount, coded_call_count, unused, fails_next, after_next}
+use Rattle.adv_io.specs.Shelf.{Files, ShelfView}
 use Rattle.adv_io.specs.declared.faults.ShelfFault.{ShelfFault}
 use Rattle.adv_io.specs.declared.faults.ShelfFault.TheVariants.{Absent, Failed, TooLong, Memory}
 
 -- the files, and the calls
 pub record Shelved : Type 0 where
   pub files : Files
-  pub calls : Numbered
+  pub calls : CallCount
+
+-- what a clause sees of it as of every shelf
+abbrev pub stock_of : Shelved → ShelfView
+stock_of s = record { files = Some s.files; faults = s.calls.faults }
 
 -- it is stored as the pair of its fields
 abbrev pub coded_shelved : Coded Shelved
 coded_shelved =
-    code_by (Files × Numbered) (coded× (code (coded_list coded_ℕ) (coded_list coded_ℕ)) coded_numbered)
+    code_by (Files × CallCount) (coded× (code (coded_list coded_ℕ) (coded_list coded_ℕ)) coded_call_count)
     (λ s. (s.files, s.calls))
     (λ p. record { files = p.0; calls = p.1 })
     (λ _. refl)

@@ -2,16 +2,18 @@
 use Rattle.std.specs.Prelude.{ℕ, ◌≤◌, Bool, ◌&&◌, ◌||◌, ◌==◌, not, List, length, IsTrue, if◌then◌else◌}
 use Rattle.std.specs.List.{list_all}
 use Rattle.std.specs.Char.{is_ascii_graphic, is_ascii_uppercase, to_ascii_lowercase}
+use Rattle.adv_io.specs.Text.{space}
+use Rattle.adv_io.specs.declared.lines.TheConstants.{LINE_LIMIT}
 
--- a printable byte in small letters, and a blank for any other
+-- a printable byte in lower case, and a space for any other
 abbrev pub line_byte : ℕ → ℕ
-line_byte byte = if is_ascii_graphic byte then to_ascii_lowercase byte else 32
+line_byte byte = if is_ascii_graphic byte then to_ascii_lowercase byte else space
 
--- a blank, or a printable byte that is no capital letter
+-- a space, or a printable byte that is no capital letter
 abbrev pub is_line_byte : ℕ → Bool
-is_line_byte byte = byte == 32 || (is_ascii_graphic byte && not (is_ascii_uppercase byte))
+is_line_byte byte = byte == space || (is_ascii_graphic byte && not (is_ascii_uppercase byte))
 
--- at most 120 bytes, each of them such a byte
+-- at most so many bytes, each of them such a byte
 pub record IsTyped (line : List ℕ) : Type 0 where
-  pub short : length line ≤ 120
-  pub small : IsTrue (list_all is_line_byte line)
+  pub short : length line ≤ LINE_LIMIT
+  pub lower : IsTrue (list_all is_line_byte line)

@@ -1,6 +1,6 @@
 //! Calls that are numbered from 1, of which some fail. Both doubles in memory count by it.
 ghost use Rattle.std.specs.Prelude.{◌≡◌, ◌≤◌};
-ghost use Rattle.adv_io.specs.Numbered.{Numbered, unused, fails_next, after_next, with_fault};
+ghost use Rattle.adv_io.specs.CallCount.{CallCount, unused, fails_next, after_next, with_fault};
 
 use std::marker::Model;
 
@@ -15,9 +15,9 @@ pub struct Calls {
 }
 
 impl Model for Calls {
-    ghost use Rattle.adv_io.specs.Numbered.{Numbered};
+    ghost use Rattle.adv_io.specs.CallCount.{CallCount};
 
-    ghost Value = { Numbered };
+    ghost Value = { CallCount };
 
     ghost view = { λ c. record { made = c.made; faults = c.faults; failing = c.failing.items } };
 }

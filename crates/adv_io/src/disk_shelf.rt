@@ -2,10 +2,11 @@
 //!
 //! Trusted here and only tested: that a path names one file, that a file has the bytes that were
 //! written last, and that the runtime's calls do what they say. No clause speaks of a file's bytes.
-ghost use Rattle.std.specs.Prelude.{◌≡◌, ◌≤◌, ◌+◌, ◌⊎◌, length, None, IfOk, IfErr, OnOk};
+ghost use Rattle.std.specs.Prelude.{◌≡◌, ◌≤◌, ◌+◌, ◌⊎◌, ◌↔◌, IfErr};
+ghost use Rattle.std.specs.IoError.{error_kind};
 ghost use Rattle.adv_io.specs.declared.faults.ShelfFault.TheVariants.{Memory, Failed};
 ghost use Rattle.adv_io.specs.Faults.{raised};
-ghost use Rattle.adv_io.specs.Shelf.{IsFile, with_file, RefusesLoad, RefusesStore, TellsLength, count_after};
+ghost use Rattle.adv_io.specs.Shelf.{Loads, Stores, TellsLength, count_after, disk_stock};
 
 use crate::faults::ShelfFault;
 use crate::shelves::Shelf;
@@ -16,7 +17,7 @@ use std::marker::Model;
 use std::rt::Files;
 use std::{fs, io};
 
-/// The files of the system. It doesn't tell them, so a missing file counts as a fault.
+/// The files of the system. They are not known, so a missing file counts as a fault.
 ///
 /// A clause sees the count of faults, which stays at 18446744073709551615 once it is there.
 pub struct DiskShelf<'a, R: Files> {
@@ -48,7 +49,9 @@ impl<'a, R: Files> DiskShelf<'a, R> {
 
     // What a failure of the system is for a shelf: it counts as a fault, but for want of memory.
     fn failed(&mut self, fault: &io::Error) -> ShelfFault
-        ensures counted { ((result ≡ Memory) × (self.new ≡ self.old)) ⊎ ((result ≡ Failed) × (self.new ≡ raised self.old)) }
+        ensures memory { (result ≡ Memory) ↔ (error_kind fault.now ≡ ErrorKind.OutOfMemory) }
+        ensures counted { ((result ≡ Memory) × (self.new ≡ self.old))
+            ⊎ ((result ≡ Failed) × (self.new ≡ raised self.old)) }
         ensures never_falls { self.old ≤ self.new }
     {
         if fault.kind() == ErrorKind::OutOfMemory {
@@ -60,11 +63,9 @@ impl<'a, R: Files> DiskShelf<'a, R> {
 }
 
 impl<'a, R: Files> Shelf for DiskShelf<'a, R> {
-    ghost use Rattle.std.specs.Prelude.{None};
+    ghost use Rattle.adv_io.specs.Shelf.{disk_stock};
 
-    ghost files = { λ _. None };
-
-    ghost faults = { λ s. s };
+    ghost seen = { disk_stock };
 
     /// `TooLong` has one more than the limit, since no more bytes are read.
     fn load(&mut self, alloc: Global, name: &str, limit: usize) -> Result<Vec<u8>, ShelfFault>
@@ -72,10 +73,7 @@ impl<'a, R: Files> Shelf for DiskShelf<'a, R> {
         ensures counted { self.new ≡ count_after result self.old }
 
         // As every shelf.
-        ensures within { IfOk result (λ bytes. length bytes.items ≤ limit) }
-        ensures found { IfOk result (λ bytes. IsFile None name.now bytes.items) }
-        ensures refused { IfErr result (RefusesLoad None name.now limit self.old self.new) }
-        ensures never_falls { self.old ≤ self.new }
+        ensures every { Loads (disk_stock self.old) (disk_stock self.new) name.now limit result }
     {
         match read_file(self.rt, alloc, name, limit) {
             Ok(bytes) => {
@@ -94,9 +92,8 @@ impl<'a, R: Files> Shelf for DiskShelf<'a, R> {
         ensures counted { self.new ≡ count_after result self.old }
 
         // As every shelf.
-        ensures stored { OnOk result (None ≡ with_file None name.now bytes.now) }
-        ensures refused { IfErr result (RefusesStore None None name.now self.old self.new) }
-        ensures never_falls { self.old ≤ self.new }
+        ensures every { Stores (disk_stock self.old)
+            (disk_stock self.new) name.now bytes.now result }
     {
         let _ = alloc;
         match write_file(self.rt, name, bytes) {

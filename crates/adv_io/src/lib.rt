@@ -2,7 +2,8 @@
 //! lines, and the events of a play.
 #![tactic(auto)]
 
-// What passes: lines, events and faults.
+// What passes: bytes, lines, events and faults.
+pub mod bytes;
 pub mod events;
 pub mod faults;
 pub mod lines;
@@ -24,6 +25,7 @@ pub mod std_console;
 #[cfg(test)]
 mod tests;
 
+pub use bytes::is_whitespace;
 pub use consoles::{Console, Taken};
 pub use disk_shelf::DiskShelf;
 pub use events::Event;
@@ -31,7 +33,7 @@ pub use faults::{ConsoleFault, Memory, ShelfFault};
 pub use lines::Line;
 pub use memory_console::MemoryConsole;
 pub use memory_shelf::MemoryShelf;
-pub use saying::{Gathering, say_all, say_any};
+pub use saying::{SayBuffer, say_all, say_both, say_unless_empty};
 pub use script_console::ScriptConsole;
 pub use shelves::Shelf;
 pub use std_console::StdConsole;

@@ -28,7 +28,7 @@ impl Model for Line {
 }
 
 impl Line {
-    /// The line that was typed as `raw`: its first 120 bytes, in small letters, with a blank for each
+    /// The line that was typed as `raw`: its first 120 bytes, in lower case, with a space for each
     /// byte that is no printable ASCII.
     pub fn of(raw: &[u8]) -> Line
         ensures { result ≡ map line_byte (take 120 raw.now) }

@@ -1,10 +1,9 @@
-//! A console in memory: it tells its history and its lines, and fails where it is told to.
-ghost use Rattle.std.specs.Prelude.{◌≡◌, ◌≤◌, ◌<◌, ◌⊎◌, ◌↔◌, length, IsErr, IsTrue, IfOk, OnOk, OnErr, slice_get, List};
-ghost use Rattle.adv_io.specs.Faults.{HasCause};
-ghost use Rattle.adv_io.specs.History.{says, grown, GrewByPart, transcript, marks};
-ghost use Rattle.adv_io.specs.Console.{after_take, TakesFrom, Lowers, LeavesAtEnd};
-ghost use Rattle.adv_io.specs.Numbered.{fails_next};
-ghost use Rattle.adv_io.specs.Recorded.{unheard, with_said, with_taken, after_saying, after_taking};
+//! A console in memory: its history and its lines are known, and it fails at the calls that are given.
+ghost use Rattle.std.specs.Prelude.{◌≡◌, ◌≤◌, ◌<◌, ◌⊎◌, ◌↔◌, length, IsErr, IsTrue, IfOk, slice_get, List};
+ghost use Rattle.adv_io.specs.History.{says, transcript, marks};
+ghost use Rattle.adv_io.specs.Console.{Speaks, Takes};
+ghost use Rattle.adv_io.specs.CallCount.{fails_next};
+ghost use Rattle.adv_io.specs.Recorded.{seen_of, untouched, with_said, with_taken, after_saying, after_taking};
 
 use crate::calls::Calls;
 use crate::consoles::{Console, Taken};
@@ -53,7 +52,7 @@ impl MemoryConsole {
         failing: Vec<u64>,
         room: usize,
     ) -> Result<MemoryConsole, Memory>
-        ensures { IfOk result (λ console. console ≡ unheard lines.items failing.items room) }
+        ensures { IfOk result (λ console. console ≡ untouched lines.items failing.items room) }
     {
         let said = Vec::with_capacity(alloc, room)?;
         let marks = Vec::with_capacity(alloc, lines.len())?;
@@ -104,15 +103,9 @@ impl MemoryConsole {
 }
 
 impl Console for MemoryConsole {
-    ghost use Rattle.std.specs.Prelude.{length, Some};
+    ghost use Rattle.adv_io.specs.Recorded.{seen_of};
 
-    ghost history = { λ c. Some c.history };
-
-    ghost left = { λ c. Some c.left };
-
-    ghost bound = { λ c. length c.left };
-
-    ghost faults = { λ c. c.calls.faults };
+    ghost seen = { seen_of };
 
     fn say(&mut self, bytes: &[u8]) -> Result<(), ConsoleFault>
         // It fails at the calls that are to fail, and where there is too little room.
@@ -121,12 +114,7 @@ impl Console for MemoryConsole {
         ensures exact { self.new ≡ after_saying self.old bytes.now }
 
         // As every console.
-        ensures said { OnOk result (Some self.new.history ≡ grown (Some self.old.history) (says bytes.now)) }
-        ensures part { OnErr result
-            (GrewByPart (Some self.old.history) (Some self.new.history) (says bytes.now)) }
-        ensures lines_stay { Some self.new.left ≡ Some self.old.left }
-        ensures bounded { length self.new.left ≤ length self.old.left }
-        ensures cause { HasCause self.old.calls.faults self.new.calls.faults result }
+        ensures every { Speaks (seen_of self.old) (seen_of self.new) result (says bytes.now) }
     {
         if self.calls.next_fails() {
             return Err(ConsoleFault::Failed);
@@ -147,11 +135,7 @@ impl Console for MemoryConsole {
         ensures exact { self.new ≡ after_taking self.old }
 
         // As every console.
-        ensures taken { Some self.new.history ≡ after_take result line.new (Some self.old.history) }
-        ensures lines { TakesFrom (Some self.old.left) (Some self.new.left) result line.new }
-        ensures bounded { Lowers (length self.old.left) (length self.new.left) result }
-        ensures ended { LeavesAtEnd result line.old line.new self.old.calls.faults self.new.calls.faults }
-        ensures cause { HasCause self.old.calls.faults self.new.calls.faults result }
+        ensures every { Takes (seen_of self.old) (seen_of self.new) result line.old line.new }
     {
         if self.calls.next_fails() {
             return Err(ConsoleFault::Failed);

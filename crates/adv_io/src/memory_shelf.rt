@@ -1,11 +1,11 @@
-//! A shelf in memory: it tells its files, and fails where it is told to.
-ghost use Rattle.std.specs.Prelude.{◌≡◌, ◌≤◌, ◌↔◌, length, IsTrue, IfOk, IfErr, OnOk, IsErrOf, OnErr, bytes_eq, string_bytes};
+//! A shelf in memory: its files are known, and it fails at the calls that are given.
+ghost use Rattle.std.specs.Prelude.{◌≡◌, ◌↔◌, IsTrue, OnOk, IsErrOf, OnErr, bytes_eq, string_bytes};
 ghost use Rattle.std.specs.Option.{option_copied};
 ghost use Rattle.std.specs.List.{position};
 ghost use Rattle.std.specs.FinMap as map;
-ghost use Rattle.adv_io.specs.Shelf.{IsFile, with_file, RefusesLoad, RefusesStore};
-ghost use Rattle.adv_io.specs.Numbered.{fails_next};
-ghost use Rattle.adv_io.specs.Shelved.{shelved, names_differ, called, loaded, AnswersLoad, LeavesStored};
+ghost use Rattle.adv_io.specs.Shelf.{Loads, Stores};
+ghost use Rattle.adv_io.specs.CallCount.{fails_next};
+ghost use Rattle.adv_io.specs.Shelved.{stock_of, shelved, names_differ, called, loaded, AnswersLoad, LeavesStored};
 
 use crate::calls::Calls;
 use crate::faults::ShelfFault;
@@ -83,11 +83,9 @@ fn place_of(files: &[(String, Vec<u8>)], name: &str) -> Option<usize>
 }
 
 impl Shelf for MemoryShelf {
-    ghost use Rattle.std.specs.Prelude.{Some};
+    ghost use Rattle.adv_io.specs.Shelved.{stock_of};
 
-    ghost files = { λ s. Some s.files };
-
-    ghost faults = { λ s. s.calls.faults };
+    ghost seen = { stock_of };
 
     fn load(&mut self, alloc: Global, name: &str, limit: usize) -> Result<Vec<u8>, ShelfFault>
         // It fails at the calls that are to fail, and counts each call.
@@ -96,11 +94,7 @@ impl Shelf for MemoryShelf {
         ensures counted { self.new ≡ called self.old }
 
         // As every shelf.
-        ensures within { IfOk result (λ bytes. length bytes.items ≤ limit) }
-        ensures found { IfOk result (λ bytes. IsFile (Some self.old.files) name.now bytes.items) }
-        ensures refused { IfErr result (RefusesLoad (Some self.old.files) name.now limit self.old.calls.faults self.new.calls.faults) }
-        ensures files_stay { Some self.new.files ≡ Some self.old.files }
-        ensures never_falls { self.old.calls.faults ≤ self.new.calls.faults }
+        ensures every { Loads (stock_of self.old) (stock_of self.new) name.now limit result }
     {
         if self.calls.next_fails() {
             return Err(ShelfFault::Failed);
@@ -123,11 +117,7 @@ impl Shelf for MemoryShelf {
         ensures exact { LeavesStored self.old name.now bytes.now result self.new }
 
         // As every shelf.
-        ensures stored { OnOk result
-            (Some self.new.files ≡ with_file (Some self.old.files) name.now bytes.now) }
-        ensures refused { IfErr result
-            (RefusesStore (Some self.old.files) (Some self.new.files) name.now self.old.calls.faults self.new.calls.faults) }
-        ensures never_falls { self.old.calls.faults ≤ self.new.calls.faults }
+        ensures every { Stores (stock_of self.old) (stock_of self.new) name.now bytes.now result }
     {
         if self.calls.next_fails() {
             return Err(ShelfFault::Failed);

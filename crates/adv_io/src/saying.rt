@@ -1,26 +1,26 @@
-//! Saying several texts, one behind the other, in as few calls as may be.
-ghost use Rattle.std.specs.Prelude.{◌≡◌, ◌≤◌, ◌+◌, ◌⊎◌, OnOk, [], length};
+//! Saying several texts, one after the other, in as few calls as may be.
+ghost use Rattle.std.specs.Prelude.{◌≡◌, ◌≤◌, ◌+◌, ◌⊎◌, ◌++◌, OnOk, [], length};
 ghost use Rattle.adv_io.specs.History.{says};
-ghost use Rattle.adv_io.specs.Console.{Speaks, Gathers, joined};
+ghost use Rattle.adv_io.specs.Console.{Speaks, Buffers, pieces_text};
 
 use crate::consoles::Console;
 use crate::faults::ConsoleFault;
 use arrayvec::ArrayVec;
 use std::marker::Model;
 
-/// How many bytes are gathered before they are said.
-pub const GATHERED_LIMIT: usize = 1024;
+/// How many bytes are buffered before they are said.
+pub const BUFFER_LIMIT: usize = 1024;
 
-/// Bytes that are gathered and not said yet, for texts that are said one behind the other: each is
-/// given to `gather`, and `say` ends it. Texts of 1,024 bytes together are said in one call.
+/// Bytes that are buffered and not said yet, for texts that are said one after the other: each is
+/// given to `buffer_text`, and `say` ends it. Texts of 1,024 bytes together are said in one call.
 ///
-/// A clause sees the bytes that wait. After a failure a front of the whole was said.
+/// A clause sees the bytes that wait. After a failure a prefix of the whole was said.
 #[derive(Drop)]
-pub struct Gathering {
+pub struct SayBuffer {
     bytes: ArrayVec<u8, 1024>,
 }
 
-impl Model for Gathering {
+impl Model for SayBuffer {
     ghost use Rattle.std.specs.Prelude.{List, ℕ};
 
     ghost Value = { List ℕ };
@@ -28,23 +28,23 @@ impl Model for Gathering {
     ghost view = { λ g. g.bytes.items };
 }
 
-impl Gathering {
-    /// Nothing is gathered yet.
-    pub fn new() -> Gathering
+impl SayBuffer {
+    /// Nothing is buffered yet.
+    pub fn new() -> SayBuffer
         ensures { result ≡ [] }
     {
-        Gathering {
+        SayBuffer {
             bytes: ArrayVec::new(),
         }
     }
 
-    // Says what was gathered, where so many more bytes have no room behind it.
+    // Says what was buffered, where so many more bytes have no room after it.
     fn make_room<C: Console>(&mut self, more: usize, console: &mut C) -> Result<(), ConsoleFault>
-        ensures gathers { Gathers C.history C.left C.bound C.faults console.old console.new result
+        ensures buffers { Buffers (C.seen console.old) (C.seen console.new) result
             self.old self.new [] }
         ensures room { OnOk result ((length self.new + more ≤ 1024) ⊎ (self.new ≡ [])) }
     {
-        if more <= GATHERED_LIMIT - self.bytes.len() {
+        if more <= BUFFER_LIMIT - self.bytes.len() {
             return Ok(());
         }
         self.say(console)?;
@@ -52,10 +52,14 @@ impl Gathering {
         Ok(())
     }
 
-    /// Gathers one more text. Where it has no room, what was gathered is said first, and a text that
-    /// has none by itself is said behind it.
-    pub fn gather<C: Console>(&mut self, text: &[u8], console: &mut C) -> Result<(), ConsoleFault>
-        ensures { Gathers C.history C.left C.bound C.faults console.old console.new result
+    /// Buffers one more text. Where it has no room, what was buffered is said first, and a text that
+    /// has none by itself is said after it.
+    pub fn buffer_text<C: Console>(
+        &mut self,
+        text: &[u8],
+        console: &mut C,
+    ) -> Result<(), ConsoleFault>
+        ensures { Buffers (C.seen console.old) (C.seen console.new) result
             self.old self.new text.now }
     {
         self.make_room(text.len(), console)?;
@@ -65,18 +69,18 @@ impl Gathering {
         }
     }
 
-    /// Says what was gathered, and makes no call where that is nothing.
+    /// Says what was buffered, and makes no call where that is nothing.
     pub fn say<C: Console>(&self, console: &mut C) -> Result<(), ConsoleFault>
-        ensures { Speaks C.history C.left C.bound C.faults console.old console.new result
+        ensures { Speaks (C.seen console.old) (C.seen console.new) result
             (says self.now) }
     {
-        say_any(self.bytes.as_slice(), console)
+        say_unless_empty(self.bytes.as_slice(), console)
     }
 }
 
 /// Says a text, and makes no call where it is empty.
-pub fn say_any<C: Console>(text: &[u8], console: &mut C) -> Result<(), ConsoleFault>
-    ensures { Speaks C.history C.left C.bound C.faults console.old console.new result (says text.now) }
+pub fn say_unless_empty<C: Console>(text: &[u8], console: &mut C) -> Result<(), ConsoleFault>
+    ensures { Speaks (C.seen console.old) (C.seen console.new) result (says text.now) }
 {
     if text.is_empty() {
         Ok(())
@@ -85,17 +89,29 @@ pub fn say_any<C: Console>(text: &[u8], console: &mut C) -> Result<(), ConsoleFa
     }
 }
 
-/// Says the pieces, one behind the other. After a failure a front of the whole was said.
+/// Says the pieces, one after the other. After a failure a prefix of the whole was said.
 ///
-/// They are gathered first, so that pieces of 1,024 bytes together are said in one call.
+/// They are buffered first, so that pieces of 1,024 bytes together are said in one call.
 #[inline(never)]
 pub fn say_all<C: Console>(console: &mut C, pieces: &[&[u8]]) -> Result<(), ConsoleFault>
-    ensures { Speaks C.history C.left C.bound C.faults console.old console.new result
-        (says (joined pieces.now)) }
+    ensures { Speaks (C.seen console.old) (C.seen console.new) result
+        (says (pieces_text pieces.now)) }
 {
-    let mut gathering = Gathering::new();
+    let mut buffer = SayBuffer::new();
     for piece in pieces {
-        gathering.gather(piece, console)?;
+        buffer.buffer_text(piece, console)?;
     }
-    gathering.say(console)
+    buffer.say(console)
+}
+
+/// Says two texts, one after the other, as `say_all` does.
+pub fn say_both<'a, C: Console>(
+    first: &'a [u8],
+    second: &'a [u8],
+    console: &mut C,
+) -> Result<(), ConsoleFault>
+    ensures { Speaks (C.seen console.old) (C.seen console.new) result
+        (says (first.now ++ second.now)) }
+{
+    say_all(console, &[first, second])
 }

@@ -1,8 +1,8 @@
 //! A console that reads from a list of lines, and keeps nothing of what is said.
-ghost use Rattle.std.specs.Prelude.{◌≡◌, ◌≤◌, length, None, Some, List, ℕ, Option, IsOk, OnOk, OnErr};
-ghost use Rattle.adv_io.specs.Faults.{HasCause};
-ghost use Rattle.adv_io.specs.History.{says, grown, GrewByPart};
-ghost use Rattle.adv_io.specs.Console.{after_take, TakesFrom, Lowers, LeavesAtEnd};
+ghost use Rattle.std.specs.Prelude.{◌≡◌, length, IsOk};
+ghost use Rattle.adv_io.specs.History.{says};
+ghost use Rattle.adv_io.specs.Console.{Speaks, Takes};
+ghost use Rattle.adv_io.specs.Terminal.{script_seen};
 
 use crate::consoles::{Console, Taken};
 use crate::faults::ConsoleFault;
@@ -45,26 +45,17 @@ impl<'a> ScriptConsole<'a> {
 }
 
 impl<'a> Console for ScriptConsole<'a> {
-    ghost use Rattle.std.specs.Prelude.{length, None, Some};
+    ghost use Rattle.adv_io.specs.Terminal.{script_seen};
 
-    ghost history = { λ _. None };
-
-    ghost left = { λ c. Some c };
-
-    ghost bound = { λ c. length c };
-
-    ghost faults = { λ _. 0 };
+    ghost seen = { script_seen };
 
     fn say(&mut self, bytes: &[u8]) -> Result<(), ConsoleFault>
         ensures succeeds { IsOk result }
         ensures unchanged { self.new ≡ self.old }
 
         // As every console.
-        ensures said { OnOk result (None ≡ grown None (says bytes.now)) }
-        ensures part { OnErr result (GrewByPart None None (says bytes.now)) }
-        ensures lines_stay { Some self.new ≡ Some self.old }
-        ensures bounded { length self.new ≤ length self.old }
-        ensures cause { HasCause 0 0 result }
+        ensures every { Speaks (script_seen self.old) (script_seen self.new) result
+            (says bytes.now) }
     {
         let _ = bytes;
         Ok(())
@@ -74,11 +65,8 @@ impl<'a> Console for ScriptConsole<'a> {
         ensures succeeds { IsOk result }
 
         // As every console.
-        ensures taken { None ≡ after_take result line.new None }
-        ensures lines { TakesFrom (Some self.old) (Some self.new) result line.new }
-        ensures bounded { Lowers (length self.old) (length self.new) result }
-        ensures ended { LeavesAtEnd result line.old line.new 0 0 }
-        ensures cause { HasCause 0 0 result }
+        ensures every { Takes (script_seen self.old)
+            (script_seen self.new) result line.old line.new }
     {
         if self.taken == self.lines.len() {
             return Ok(Taken::End);

@@ -3,11 +3,10 @@
 //! Trusted here and only tested: that the runtime writes the bytes that it is given and reads those
 //! that were typed. No clause speaks of them. The runtime keeps no bytes back, and reads ahead only
 //! from what it can seek, so a take waits for no more than the line's end.
-ghost use Rattle.std.specs.Prelude.{◌≡◌, ◌≤◌, None, IsErr, OnOk, OnErr};
-ghost use Rattle.adv_io.specs.Faults.{HasCause};
-ghost use Rattle.adv_io.specs.History.{says, grown, GrewByPart};
-ghost use Rattle.adv_io.specs.Console.{after_take, TakesFrom, Lowers, LeavesAtEnd};
-ghost use Rattle.adv_io.specs.Terminal.{takes_left, after_saying, after_taking};
+ghost use Rattle.std.specs.Prelude.{◌≡◌, IsErr};
+ghost use Rattle.adv_io.specs.History.{says};
+ghost use Rattle.adv_io.specs.Console.{Speaks, Takes};
+ghost use Rattle.adv_io.specs.Terminal.{takes_left, terminal_seen, after_saying, after_taking};
 
 use crate::consoles::{Console, Taken};
 use crate::faults::ConsoleFault;
@@ -20,7 +19,7 @@ use std::marker::Model;
 /// The most bytes of a line that is read, its ending byte not counted.
 pub const RAW_LIMIT: u32 = 65_536;
 
-/// Standard output and input. It tells neither what was said nor which lines are left.
+/// Standard output and input. Neither what was said nor which lines are left is known.
 ///
 /// A clause sees how many lines were taken, at most 18446744073709551615, and the count of faults,
 /// which stays at that number once it is there.
@@ -65,25 +64,16 @@ impl<'a, R: Input + Print> StdConsole<'a, R> {
 }
 
 impl<'a, R: Input + Print> Console for StdConsole<'a, R> {
-    ghost use Rattle.std.specs.Prelude.{None};
-    ghost use Rattle.adv_io.specs.Terminal.{takes_left};
+    ghost use Rattle.adv_io.specs.Terminal.{terminal_seen};
 
-    ghost history = { λ _. None };
-
-    ghost left = { λ _. None };
-
-    ghost bound = { takes_left };
-
-    ghost faults = { λ c. c.faults };
+    ghost seen = { terminal_seen };
 
     fn say(&mut self, bytes: &[u8]) -> Result<(), ConsoleFault>
         ensures counted { self.new ≡ after_saying result self.old }
 
         // As every console.
-        ensures said { OnOk result (None ≡ grown None (says bytes.now)) }
-        ensures part { OnErr result (GrewByPart None None (says bytes.now)) }
-        ensures bounded { takes_left self.new ≤ takes_left self.old }
-        ensures cause { HasCause self.old.faults self.new.faults result }
+        ensures every { Speaks (terminal_seen self.old) (terminal_seen self.new) result
+            (says bytes.now) }
     {
         match write_out(self.rt, bytes) {
             Ok(()) => Ok(()),
@@ -95,17 +85,14 @@ impl<'a, R: Input + Print> Console for StdConsole<'a, R> {
     }
 
     /// It fails where the input fails, a line is longer than `RAW_LIMIT`, or no more lines can be
-    /// counted. After a line that is too long the next take goes on behind the bytes that were read.
+    /// counted. After a line that is too long the next take goes on after the bytes that were read.
     fn take(&mut self, line: &mut Line) -> Result<Taken, ConsoleFault>
         ensures spent { takes_left self.old ≡ 0 → IsErr result }
         ensures counted { self.new ≡ after_taking result self.old }
 
         // As every console.
-        ensures taken { None ≡ after_take result line.new None }
-        ensures lines { TakesFrom None None result line.new }
-        ensures bounded { Lowers (takes_left self.old) (takes_left self.new) result }
-        ensures ended { LeavesAtEnd result line.old line.new self.old.faults self.new.faults }
-        ensures cause { HasCause self.old.faults self.new.faults result }
+        ensures every { Takes (terminal_seen self.old)
+            (terminal_seen self.new) result line.old line.new }
     {
         if self.taken < u64::MAX {
             match next_line(&mut self.input) {
@@ -130,7 +117,7 @@ fn write_out<R: Print>(rt: &R, bytes: &[u8]) -> io::Result<()> {
 }
 
 // The next line, up to byte 10 or the end of the input, if there is one.
-fn next_line<I: BufRead>(input: &mut I) -> io::Result<Option<Line>> {
+pub(crate) fn next_line<I: BufRead>(input: &mut I) -> io::Result<Option<Line>> {
     let mut raw = ArrayVec::<u8, LINE_LIMIT>::new();
     for count in 0..=RAW_LIMIT {
         match next_byte(input)? {

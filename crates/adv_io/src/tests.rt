@@ -1,17 +1,18 @@
 //! What no clause says: that the calls succeed with ample memory, and what the adapters reach.
+use crate::std_console::next_line;
 use crate::{
     Console, ConsoleFault, DiskShelf, Line, MemoryConsole, MemoryShelf, ScriptConsole, Shelf,
     ShelfFault, StdConsole, Taken, say_all,
 };
 use std::alloc::{Allocator, Global};
 use std::fmt::Display;
-use std::io::{BufRead, ErrorKind, Lines};
+use std::io::{BufRead, ErrorKind, Lines, Read};
 use std::process::Abort;
 use std::test::Fail;
 use std::{fs, io};
 
 #[test]
-fn lines_keep_small_letters(rt: HostRuntime) {
+fn lines_keep_lower_case(rt: HostRuntime) {
     for (raw, want) in [
         (b"".as_slice(), b"".as_slice()),
         (b"Go NORTH", b"go north"),
@@ -198,8 +199,50 @@ fn a_shelf_of_real_files_stores_and_loads(rt: HostRuntime) -> Result<(), Fail> {
     expect_loaded(&rt, alloc, &mut shelf, name, 5, Err(ShelfFault::TooLong(6)));
     let failed = Err(ShelfFault::Failed);
     assert_eq!(rt; shelf.store(alloc, "no_such_folder/a.tmp", b""), failed);
+    // A file that can be opened and not read, a folder, and a disk that is full.
+    for unread in ["/proc/self/mem", "."] {
+        expect_loaded(&rt, alloc, &mut shelf, unread, 9, Err(ShelfFault::Failed));
+    }
+    assert_eq!(rt; shelf.store(alloc, "/dev/full", b"lost"), failed);
     fs::remove_file(&rt, name)?;
     Ok(())
+}
+
+// Bytes to read, after which reading fails.
+#[derive(Drop)]
+struct Broken<'a> {
+    bytes: &'a [u8],
+}
+
+impl<'a> Read for Broken<'a> {
+    fn read(&mut self, _buf: &mut [u8]) -> io::Result<usize> {
+        Err(io::Error::from(ErrorKind::BrokenPipe))
+    }
+}
+
+impl<'a> BufRead for Broken<'a> {
+    fn fill_buf(&mut self) -> io::Result<&[u8]> {
+        if self.bytes.is_empty() {
+            return Err(io::Error::from(ErrorKind::BrokenPipe));
+        }
+        Ok(self.bytes)
+    }
+
+    fn consume(&mut self, amount: usize) {
+        self.bytes = &self.bytes[amount.min(self.bytes.len())..];
+    }
+}
+
+// A read that fails in mid-line is a failure, and neither a line nor the end of the lines.
+#[test]
+fn input_that_fails_is_no_end(rt: HostRuntime) {
+    let mut input = Broken {
+        bytes: b"look\nget la",
+    };
+    assert!(rt; matches!(next_line(&mut input), Ok(Some(_))));
+    assert!(rt; next_line(&mut input).is_err());
+    let mut input = Broken { bytes: b"" };
+    assert!(rt; next_line(&mut input).is_err());
 }
 
 // A terminal at which some bytes were typed, and whose output may be closed.
@@ -287,7 +330,7 @@ fn a_line_of_standard_input_has_a_limit(rt: HostRuntime) -> Result<(), Fail> {
         };
         let mut console = StdConsole::new(&terminal);
         assert_eq!(rt; console.take(&mut line), answer, "at {length}");
-        assert_eq!(rt; console.take(&mut line), Ok(rest), "behind {length}");
+        assert_eq!(rt; console.take(&mut line), Ok(rest), "after {length}");
     }
     Ok(())
 }

@@ -1,4 +1,4 @@
-pub mod Blanks
+pub mod Whitespace
 pub mod Numbers
 pub mod Strings
 pub mod Written

@@ -2,14 +2,15 @@
 use Rattle.std.proofs.Common.{◌≡◌, ℕ, ◌+◌, ◌-◌, ◌*◌, ◌≤◌, ◌<◌, Bool, true, false, cond, ◌||◌, eqb, leb, ◌⊎◌, inl, inr, List, [], ◌∷◌, Result, Ok, Err, ℤ, pos, refl, sym, subst, arith}
 use Rattle.std.proofs.lemmas.Bool.{and_parts, and_right, or_from, or_left, or_right, both_ways, ne_eqb, leb-true, leb-false, le-leb, lt-leb, eqb-true}
 use Rattle.std.specs.Char.{is_ascii_digit}
-use Rattle.adv_text.specs.Spelling.{is_blank, NoDigit, Digits, last, digit, Amount, Signed, bare, plus, minus, signed, greatest, BeginsNumber, Number, NoNumber, BigNumber}
-use Rattle.adv_text.specs.Reading.{Spot, spot, Fault, no_number, big_number, no_quote, open_string, long_string, past_blanks, past_sign, digits_at, amount_at, number_at}
+use Rattle.adv_io.specs.Text.{is_whitespace}
+use Rattle.adv_text.specs.Spelling.{NoDigit, Digits, last, digit, Amount, Signed, bare, plus, minus, signed, greatest, BeginsNumber, Number, NoNumber, BigNumber}
+use Rattle.adv_text.specs.Reading.{Spot, spot, Fault, no_number, big_number, no_quote, open_string, long_string, past_whitespace, past_sign, digits_at, amount_at, number_at}
 use Rattle.adv_text.specs.Laws.{NumberIsSpelled, SpelledNumberIsRead, NumberFault, NumberFaultIsExact}
-use Rattle.adv_text.proofs.Blanks.{Skipped, skipped, found, NoBlank, NoBlank-past_blanks}
+use Rattle.adv_text.proofs.Whitespace.{Skipped, skipped, found, NoWhitespace, NoWhitespace-past_whitespace}
 
 -- ---- what is read is so spelled
 
--- the digits that stand behind an amount, and that they make no less of it
+-- the digits that stand after an amount, and that they make no less of it
 record MoreDigits (n : ℕ) (bytes : List ℕ) : Type 0 where
   total : ℕ
   rest : List ℕ
@@ -24,7 +25,7 @@ more_digits : (n : ℕ) (bytes : List ℕ) → MoreDigits n bytes
 more_digits n [] = record { total = n; rest = []; digits = last tt; grown = omega arith }
 more_digits n (b ∷ bytes) = more_digit n b bytes (is_ascii_digit b) refl (more_digits (n * 10 + (b - 48)) bytes)
 
--- what reading digits behind an amount tells of them
+-- what reading digits after an amount says of them
 abbrev DigitsTell : Bool → ℕ → ℕ → List ℕ → Result (ℤ × Spot) Fault → Type 0
 DigitsTell negative start n bytes (Ok x) = (m : ℕ) × Digits n m bytes x.1.rest × (m ≤ greatest negative) × (x.0 ≡ signed negative m)
 DigitsTell negative start n bytes (Err fault) = (fault ≡ big_number start) × (m : ℕ) × (rest : List ℕ) × Digits n m bytes rest × (greatest negative < m)
@@ -52,7 +53,7 @@ digits_tell negative start n at (b ∷ bytes) fits =
     tell_digit negative start n at b bytes (digits_at negative start (n * 10 + (b - 48)) (at + 1) bytes) (is_ascii_digit b) _ fits refl refl
     (λ m. digits_tell negative start (n * 10 + (b - 48)) (at + 1) bytes m)
 
--- what reading an amount tells of the bytes
+-- what reading an amount says of the bytes
 abbrev AmountTells : Bool → ℕ → List ℕ → Result (ℤ × Spot) Fault → Type 0
 AmountTells negative start bytes (Ok x) = (m : ℕ) × Amount m bytes x.1.rest × (m ≤ greatest negative) × (x.0 ≡ signed negative m)
 AmountTells negative start bytes (Err fault) =
@@ -77,7 +78,7 @@ amount_tells negative start at (b ∷ bytes) = by_first (is_ascii_digit b) refl
     by_first true e = tell_first negative start b bytes (digits_at negative start (b - 48) (at + 1) bytes) true e (digits_tell negative start (b - 48) (at + 1) bytes (digit_fits negative b e))
     by_first false e = inl (refl, e)
 
--- what reading a number without blanks tells of the bytes
+-- what reading a number without whitespace says of the bytes
 abbrev BytesTell : ℕ → List ℕ → Result (ℤ × Spot) Fault → Type 0
 BytesTell start bytes (Ok x) = BeginsNumber x.0 x.1.rest bytes
 BytesTell start bytes (Err fault) = ((fault ≡ no_number start) × NoNumber bytes) ⊎ ((fault ≡ big_number start) × BigNumber bytes)
@@ -96,7 +97,7 @@ tell_signed negative start whole bytes (Err fault) spelled missing (inr h) =
 abbrev from_sign : ℕ → Bool × Spot → Result (ℤ × Spot) Fault
 from_sign start sign = amount_at sign.0 start sign.1.at sign.1.rest
 
-sign_tells : (start at b : ℕ) (bytes : List ℕ) → is_blank b ≡ false → (m p : Bool) → eqb b 45 ≡ m → eqb b 43 ≡ p
+sign_tells : (start at b : ℕ) (bytes : List ℕ) → is_whitespace b ≡ false → (m p : Bool) → eqb b 45 ≡ m → eqb b 43 ≡ p
     → BytesTell start (b ∷ bytes) (from_sign start (cond m (true, spot (at + 1) bytes) (cond p (false, spot (at + 1) bytes) (false, spot at (b ∷ bytes)))))
 sign_tells start at b bytes first true p e f =
     let is45 : 45 ≡ b = sym (eqb-true _ _ e) in
@@ -113,27 +114,27 @@ sign_tells start at b bytes first false false e f =
     no_sign : (eqb b 43 || eqb b 45) ≡ true → ⊥
     no_sign sign = both_ways _ (or_from _ _ f e) sign
 
-bytes_tell : (start at : ℕ) (bytes : List ℕ) → NoBlank bytes → BytesTell start bytes (from_sign start (past_sign at bytes))
+bytes_tell : (start at : ℕ) (bytes : List ℕ) → NoWhitespace bytes → BytesTell start bytes (from_sign start (past_sign at bytes))
 bytes_tell start at [] first = inl (refl, tt)
 bytes_tell start at (b ∷ bytes) first = sign_tells start at b bytes first (eqb b 45) (eqb b 43) refl refl
 
--- what reading tells: a spelling, or a fault with its place
+-- what reading gives: a spelling, or a fault with its place
 abbrev NumberTells : Spot → Result (ℤ × Spot) Fault → Type 0
 NumberTells s (Ok x) = Number x.0 s.rest x.1.rest
 NumberTells s (Err fault) = NumberFault s fault
 
-tell_behind : (s start : Spot) (r : Result (ℤ × Spot) Fault) → ((P : List ℕ → Type 0) → Skipped P s.at s.rest start)
+tell_after : (s start : Spot) (r : Result (ℤ × Spot) Fault) → ((P : List ℕ → Type 0) → Skipped P s.at s.rest start)
     → BytesTell start.at start.rest r → NumberTells s r
-tell_behind s start (Ok x) blanks h = let k = blanks (BeginsNumber x.0 x.1.rest) in (k.count, k.behind h)
-tell_behind s start (Err fault) blanks (inl h) = let k = blanks NoNumber in subst (λ (f : Fault). NumberFault s f) (sym h.0) (k.count, k.behind h.1, k.place)
-tell_behind s start (Err fault) blanks (inr h) = let k = blanks BigNumber in subst (λ (f : Fault). NumberFault s f) (sym h.0) (k.count, k.behind h.1, k.place)
+tell_after s start (Ok x) whitespace h = let k = whitespace (BeginsNumber x.0 x.1.rest) in (k.count, k.after h)
+tell_after s start (Err fault) whitespace (inl h) = let k = whitespace NoNumber in subst (λ (f : Fault). NumberFault s f) (sym h.0) (k.count, k.after h.1, k.place)
+tell_after s start (Err fault) whitespace (inr h) = let k = whitespace BigNumber in subst (λ (f : Fault). NumberFault s f) (sym h.0) (k.count, k.after h.1, k.place)
 
 number_tells : (s : Spot) → NumberTells s (number_at s)
 unfolding number_at
 number_tells s =
-    let start = past_blanks s.at s.rest in
-    tell_behind s start (from_sign start.at (past_sign start.at start.rest)) (λ P. skipped P s.at s.rest)
-    (bytes_tell start.at start.at start.rest (NoBlank-past_blanks s.at s.rest))
+    let start = past_whitespace s.at s.rest in
+    tell_after s start (from_sign start.at (past_sign start.at start.rest)) (λ P. skipped P s.at s.rest)
+    (bytes_tell start.at start.at start.rest (NoWhitespace-past_whitespace s.at s.rest))
 
 pub number_is_spelled : NumberIsSpelled
 number_is_spelled s after z e = subst (λ (r : Result (ℤ × Spot) Fault). NumberTells s r) e (number_tells s)
@@ -188,11 +189,11 @@ module _ (negative : Bool) (start : ℕ) where
   amount_misses at [] h = refl
   amount_misses at (b ∷ bytes) h = rw h refl
 
--- a digit is neither a sign nor a blank
+-- a digit is neither a sign nor a byte of whitespace
 pub record IsNoSign (b : ℕ) : Type 0 where
   pub minus_no : eqb b 45 ≡ false
   pub plus_no : eqb b 43 ≡ false
-  pub blank_no : is_blank b ≡ false
+  pub space_no : is_whitespace b ≡ false
 
 pub digit_no_sign : (b : ℕ) → is_ascii_digit b ≡ true → IsNoSign b
 digit_no_sign b e =
@@ -200,7 +201,7 @@ digit_no_sign b e =
     record {
       minus_no = ne_eqb b 45 (λ (h : b ≡ 45). omega arith);
       plus_no = ne_eqb b 43 (λ (h : b ≡ 43). omega arith);
-      blank_no = or_from _ _ (and_right _ _ (lt-leb b 13 (omega arith))) (ne_eqb b 32 (λ (h : b ≡ 32). omega arith));
+      space_no = or_from _ _ (and_right _ _ (lt-leb b 13 (omega arith))) (ne_eqb b 32 (λ (h : b ≡ 32). omega arith));
     }
 
 sign_reads : {negative : Bool} {n : ℕ} {bytes rest : List ℕ} → Signed negative n bytes rest → n ≤ greatest negative → (start at : ℕ)
@@ -235,37 +236,37 @@ sign_misses start at (b ∷ bytes) h = by_sign (eqb b 45) (eqb b 43) refl refl
     by_sign false true e f = amount_misses false start (at + 1) bytes (h.2 (or_left _ _ f))
     by_sign false false e f = amount_misses false start at (b ∷ bytes) h.1
 
-NoBlank-signed : {negative : Bool} {n : ℕ} {bytes rest : List ℕ} → Signed negative n bytes rest → NoBlank bytes
-NoBlank-signed (plus a) = refl
-NoBlank-signed (minus a) = refl
-NoBlank-signed (bare {n = n} {bytes = bytes} {rest = rest} a) = of_amount n bytes rest a
+NoWhitespace-signed : {negative : Bool} {n : ℕ} {bytes rest : List ℕ} → Signed negative n bytes rest → NoWhitespace bytes
+NoWhitespace-signed (plus a) = refl
+NoWhitespace-signed (minus a) = refl
+NoWhitespace-signed (bare {n = n} {bytes = bytes} {rest = rest} a) = of_amount n bytes rest a
   where
-    of_amount : (n : ℕ) (bytes rest : List ℕ) → Amount n bytes rest → NoBlank bytes
+    of_amount : (n : ℕ) (bytes rest : List ℕ) → Amount n bytes rest → NoWhitespace bytes
     of_amount n [] rest a = absurd a
-    of_amount n (b ∷ bytes) rest a = (digit_no_sign b a.0).blank_no
+    of_amount n (b ∷ bytes) rest a = (digit_no_sign b a.0).space_no
 
--- what is read from the first byte behind the blanks on
-abbrev from_blanks : Spot → Result (ℤ × Spot) Fault
-from_blanks start = from_sign start.at (past_sign start.at start.rest)
+-- what is read from the first byte after the whitespace on
+abbrev from_whitespace : Spot → Result (ℤ × Spot) Fault
+from_whitespace start = from_sign start.at (past_sign start.at start.rest)
 
 pub spelled_number_is_read : SpelledNumberIsRead
 unfolding number_at
 spelled_number_is_read s z rest h =
-    let f = found (BeginsNumber z rest) (λ b bytes p. NoBlank-signed p.spelled) s.at h.1 in
+    let f = found (BeginsNumber z rest) (λ b bytes p. NoWhitespace-signed p.spelled) s.at h.1 in
     let read = sign_reads f.1.spelled f.1.fits (s.at + h.0) (s.at + h.0) in
-    let there : Reads z rest (from_blanks (spot (s.at + h.0) f.0)) = subst (λ (y : ℤ). Reads y rest (from_blanks (spot (s.at + h.0) f.0))) (sym f.1.value) read in
-    subst (λ (start : Spot). Reads z rest (from_blanks start)) (sym f.2) there
+    let there : Reads z rest (from_whitespace (spot (s.at + h.0) f.0)) = subst (λ (y : ℤ). Reads y rest (from_whitespace (spot (s.at + h.0) f.0))) (sym f.1.value) read in
+    subst (λ (start : Spot). Reads z rest (from_whitespace start)) (sym f.2) there
 
 exact : (s : Spot) (fault : Fault) → NumberFault s fault → number_at s ≡ Err fault
 unfolding number_at
 exact s (no_number place) h =
     let f = found NoNumber (λ b bytes p. p.0) s.at h.1 in
     let there = sign_misses (s.at + h.0) (s.at + h.0) f.0 f.1 in
-    rw h.2 (subst (λ (start : Spot). from_blanks start ≡ Err (no_number (s.at + h.0))) (sym f.2) there)
+    rw h.2 (subst (λ (start : Spot). from_whitespace start ≡ Err (no_number (s.at + h.0))) (sym f.2) there)
 exact s (big_number place) h =
-    let f = found BigNumber (λ b bytes p. NoBlank-signed p.spelled) s.at h.1 in
+    let f = found BigNumber (λ b bytes p. NoWhitespace-signed p.spelled) s.at h.1 in
     let there = sign_exceeds f.1.spelled f.1.exceeds (s.at + h.0) (s.at + h.0) in
-    rw h.2 (subst (λ (start : Spot). from_blanks start ≡ Err (big_number (s.at + h.0))) (sym f.2) there)
+    rw h.2 (subst (λ (start : Spot). from_whitespace start ≡ Err (big_number (s.at + h.0))) (sym f.2) there)
 exact s (no_quote place) h = absurd h
 exact s (open_string place) h = absurd h
 exact s (long_string place) h = absurd h

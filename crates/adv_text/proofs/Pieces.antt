@@ -80,9 +80,9 @@ accent-long opened kept at b rest no_quote no_return long =
 
 -- a fault for a string that is too long stands where reading gives it
 pub long-stands : {X : Type 0} (fault : TextFault) (opened size : ℕ) (read : Result X Fault) → IsLong fault opened size → (4096 < size → read ≡ Err (long_string opened)) → Stands fault read
-long-stands (answer.NoNumber at) opened size read is due = absurd is
-long-stands (answer.BigNumber at) opened size read is due = absurd is
-long-stands (answer.NoQuote at) opened size read is due = absurd is
-long-stands (answer.OpenString at) opened size read is due = absurd is
-long-stands (answer.LongString at) opened size read is due = due is.1 ∙ ap (λ place. Err (long_string place)) (sym is.0)
-long-stands answer.Memory opened size read is due = tt
+long-stands (answer.NoNumber at) opened size read is expected = absurd is
+long-stands (answer.BigNumber at) opened size read is expected = absurd is
+long-stands (answer.NoQuote at) opened size read is expected = absurd is
+long-stands (answer.OpenString at) opened size read is expected = absurd is
+long-stands (answer.LongString at) opened size read is expected = expected is.1 ∙ ap (λ place. Err (long_string place)) (sym is.0)
+long-stands answer.Memory opened size read is expected = tt

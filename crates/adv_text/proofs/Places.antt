@@ -2,8 +2,9 @@
 use Rattle.std.proofs.Common.{◌≡◌, ℕ, ◌+◌, ◌-◌, ◌*◌, Bool, true, false, cond, eqb, leb, ltb, List, [], ◌∷◌, ◌++◌, length, Result, Ok, Err, ℤ, refl, subst, arith}
 use Rattle.std.proofs.lemmas.Bool.{cond_both}
 use Rattle.std.specs.Char.{is_ascii_digit}
-use Rattle.adv_text.specs.Spelling.{is_blank, greatest}
-use Rattle.adv_text.specs.Reading.{Spot, spot, Fault, no_number, big_number, no_quote, long_string, past_blanks, past_sign, digits_at, amount_at, number_at, keep, inside_at, opening_at, quoted_at, SameEnd}
+use Rattle.adv_io.specs.Text.{is_whitespace}
+use Rattle.adv_text.specs.Spelling.{greatest}
+use Rattle.adv_text.specs.Reading.{Spot, spot, Fault, no_number, big_number, no_quote, long_string, past_whitespace, past_sign, digits_at, amount_at, number_at, keep, inside_at, opening_at, quoted_at, SameEnd}
 
 -- a reading that gives a value ends as far from the end as it should
 abbrev Counts : {X : Type 0} → ℕ → List ℕ → Result (X × Spot) Fault → Type 0
@@ -14,10 +15,10 @@ one_on : {X : Type 0} (at b : ℕ) (bytes : List ℕ) (r : Result (X × Spot) Fa
 one_on at b bytes (Ok x) h = omega (arith, h)
 one_on at b bytes (Err fault) h = tt
 
-past_blanks-count : (at : ℕ) (bytes : List ℕ) → SameEnd (spot at bytes) (past_blanks at bytes)
-past_blanks-count at [] = refl
-past_blanks-count at (b ∷ bytes) =
-    cond_both (is_blank b) _ _ (λ s. SameEnd (spot at (b ∷ bytes)) s) (λ e. omega (arith, past_blanks-count (at + 1) bytes)) (λ e. refl)
+past_whitespace-count : (at : ℕ) (bytes : List ℕ) → SameEnd (spot at bytes) (past_whitespace at bytes)
+past_whitespace-count at [] = refl
+past_whitespace-count at (b ∷ bytes) =
+    cond_both (is_whitespace b) _ _ (λ s. SameEnd (spot at (b ∷ bytes)) s) (λ e. omega (arith, past_whitespace-count (at + 1) bytes)) (λ e. refl)
 
 digits_count : (negative : Bool) (start n at : ℕ) (bytes : List ℕ) → Counts at bytes (digits_at negative start n at bytes)
 digits_count negative start n at [] = refl
@@ -46,16 +47,16 @@ sign_count start at (b ∷ bytes) =
     cond_both (eqb b 45) _ _ P (λ e. one_on at b bytes (amount_at true start (at + 1) bytes) (amount_count true start (at + 1) bytes))
     (λ e. cond_both (eqb b 43) _ _ P (λ f. one_on at b bytes (amount_at false start (at + 1) bytes) (amount_count false start (at + 1) bytes)) (λ f. here))
 
--- behind the blanks
-behind : {X : Type 0} (s start : Spot) (r : Result (X × Spot) Fault) → SameEnd s start → Counts start.at start.rest r → Counts s.at s.rest r
-behind s start (Ok x) e h = omega (arith, e, h)
-behind s start (Err fault) e h = tt
+-- after the whitespace
+later : {X : Type 0} (s start : Spot) (r : Result (X × Spot) Fault) → SameEnd s start → Counts start.at start.rest r → Counts s.at s.rest r
+later s start (Ok x) e h = omega (arith, e, h)
+later s start (Err fault) e h = tt
 
 number_count : (s : Spot) → Counts s.at s.rest (number_at s)
 unfolding number_at
 number_count s =
-    let start = past_blanks s.at s.rest in
-    behind s start (from_sign start.at (past_sign start.at start.rest)) (past_blanks-count s.at s.rest) (sign_count start.at start.at start.rest)
+    let start = past_whitespace s.at s.rest in
+    later s start (from_sign start.at (past_sign start.at start.rest)) (past_whitespace-count s.at s.rest) (sign_count start.at start.at start.rest)
 
 keep_count : (opened : ℕ) (kept : List ℕ) (b at : ℕ) (bytes : List ℕ) (go_on : List ℕ → Result (List ℕ × Spot) Fault)
     → ((k : List ℕ) → Counts at bytes (go_on k)) → Counts at bytes (keep opened kept b go_on)
@@ -90,8 +91,8 @@ opening_count at (b ∷ bytes) =
 string_count : (s : Spot) → Counts s.at s.rest (quoted_at s)
 unfolding quoted_at
 string_count s =
-    let start = past_blanks s.at s.rest in
-    behind s start (opening_at start.at start.rest) (past_blanks-count s.at s.rest) (opening_count start.at start.rest)
+    let start = past_whitespace s.at s.rest in
+    later s start (opening_at start.at start.rest) (past_whitespace-count s.at s.rest) (opening_count start.at start.rest)
 
 counted : {X : Type 0} (s after : Spot) (x : X) (r : Result (X × Spot) Fault) → Counts s.at s.rest r → r ≡ Ok (x, after) → SameEnd s after
 counted {X = X} s after x r h e = subst (λ (t : Result (X × Spot) Fault). Counts s.at s.rest t) e h

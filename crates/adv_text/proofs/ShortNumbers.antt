@@ -5,7 +5,8 @@ use Rattle.std.proofs.lemmas.Bool.{and_parts, le-leb, leb-true}
 use Rattle.std.proofs.lemmas.Int.{to_z_pos}
 use Rattle.std.proofs.Math.Nat.{pow-le-pow_right, pow-suc}
 use Rattle.std.specs.Char.{is_ascii_digit}
-use Rattle.adv_text.specs.Spelling.{is_blank, greatest, signed}
+use Rattle.adv_io.specs.Text.{is_whitespace}
+use Rattle.adv_text.specs.Spelling.{greatest, signed}
 use Rattle.adv_text.specs.Reading.{spot, digits_at, amount_at, number_at}
 use Rattle.adv_text.proofs.Numbers.{digit_no_sign}
 
@@ -55,24 +56,24 @@ ends bytes n k within digit before negative start at =
     ∙ ap (digits_at negative start n (at + k)) (drop_more bytes k 0 within)
     ∙ rw digit (ap (λ rest. Ok (signed negative n, spot (at + k) rest)) (sym (drop_more bytes k 0 within)))
 
--- a digit behind a blank begins a number without a sign
-pub from_digit : (b at : ℕ) (digits : List ℕ) → is_blank b ≡ true → is_ascii_digit (get_or digits 0 0) ≡ true
+-- a digit after a byte of whitespace begins a number without a sign
+pub from_digit : (b at : ℕ) (digits : List ℕ) → is_whitespace b ≡ true → is_ascii_digit (get_or digits 0 0) ≡ true
     → number_at (spot at (b ∷ digits)) ≡ amount_at false (at + 1) (at + 1) digits
 unfolding number_at
-from_digit b at [] blank digit = rw blank refl
-from_digit b at (d ∷ digits) blank digit = let h = digit_no_sign d digit in rw (blank, h.blank_no, h.minus_no, h.plus_no) refl
+from_digit b at [] space digit = rw space refl
+from_digit b at (d ∷ digits) space digit = let h = digit_no_sign d digit in rw (space, h.space_no, h.minus_no, h.plus_no) refl
 
 -- and it is the one that is read there
-pub read_behind : (bytes digits : List ℕ) (at n k : ℕ) → digits ≡ drop 1 bytes → 1 ≤ length bytes → is_blank (get_or bytes 0 0) ≡ true → is_ascii_digit (get_or digits 0 0) ≡ true → n < 1000000
+pub read_after : (bytes digits : List ℕ) (at n k : ℕ) → digits ≡ drop 1 bytes → 1 ≤ length bytes → is_whitespace (get_or bytes 0 0) ≡ true → is_ascii_digit (get_or digits 0 0) ≡ true → n < 1000000
     → ((negative : Bool) (start at : ℕ) → amount_at negative start at digits ≡ Ok (signed negative n, spot (at + k) (drop k digits)))
     → number_at (spot at bytes) ≡ Ok (to_z w32 n, spot (at + (k + 1)) (drop (k + 1) bytes))
-read_behind [] digits at n k same some blank digit few read = absurd (omega (arith, some))
-read_behind (b ∷ bytes) digits at n k same some blank digit few read =
+read_after [] digits at n k same some space digit few read = absurd (omega (arith, some))
+read_after (b ∷ bytes) digits at n k same some space digit few read =
     let one : suc k ≡ k + 1 = omega arith in
-    let behind : drop k digits ≡ drop (k + 1) (b ∷ bytes) = ap (drop k) same ∙ ap (λ (m : ℕ). drop m (b ∷ bytes)) one in
+    let after : drop k digits ≡ drop (k + 1) (b ∷ bytes) = ap (drop k) same ∙ ap (λ (m : ℕ). drop m (b ∷ bytes)) one in
     ap (λ rest. number_at (spot at (b ∷ rest))) (sym same)
-    ∙ from_digit b at digits blank digit
+    ∙ from_digit b at digits space digit
     ∙ read false (at + 1) (at + 1)
     ∙ ap (λ z. Ok (z, spot (at + 1 + k) (drop k digits))) (sym (to_z_pos w32 n (omega (arith, few))))
     ∙ ap (λ (place : ℕ). Ok (to_z w32 n, spot place (drop k digits))) (omega arith)
-    ∙ ap (λ rest. Ok (to_z w32 n, spot (at + (k + 1)) rest)) behind
+    ∙ ap (λ rest. Ok (to_z w32 n, spot (at + (k + 1)) rest)) after

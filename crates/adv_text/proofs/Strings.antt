@@ -2,28 +2,29 @@
 use Rattle.std.proofs.Common.{◌≡◌, ℕ, ◌+◌, ◌≤◌, ◌<◌, Bool, true, false, cond, ◌||◌, eqb, ltb, ◌⊎◌, inl, inr, List, [], ◌∷◌, ◌++◌, length, Result, Ok, Err, refl, sym, ap, subst, ◌∙◌, append_assoc, arith}
 use Rattle.std.proofs.lemmas.Bool.{eqb-true, ltb-true, ltb-false, lt-ltb, or_from, or_parts, not-true, not_from_false}
 use Rattle.std.proofs.lemmas.List.{length_push, append-nil, length-append}
-use Rattle.adv_text.specs.Spelling.{is_blank, is_plain, Inside, here, plain, two_quotes, grave, return, NoQuote, Opened, Closes, Quoted, NoString, Unclosed, Overlong}
-use Rattle.adv_text.specs.Reading.{Spot, spot, Fault, no_number, big_number, no_quote, open_string, long_string, past_blanks, keep, inside_at, opening_at, quoted_at}
+use Rattle.adv_io.specs.Text.{is_whitespace}
+use Rattle.adv_text.specs.Spelling.{is_plain, Inside, here, plain, two_quotes, grave, return, NoQuote, Opened, Closes, Quoted, NoString, Unclosed, Overlong}
+use Rattle.adv_text.specs.Reading.{Spot, spot, Fault, no_number, big_number, no_quote, open_string, long_string, past_whitespace, keep, inside_at, opening_at, quoted_at}
 use Rattle.adv_text.specs.Laws.{StringIsSpelled, SpelledStringIsRead, StringFault, StringFaultIsExact}
-use Rattle.adv_text.proofs.Blanks.{Skipped, skipped, found, NoBlank, NoBlank-past_blanks}
+use Rattle.adv_text.proofs.Whitespace.{Skipped, skipped, found, NoWhitespace, NoWhitespace-past_whitespace}
 
 -- ---- what is read is so spelled
 
 -- a quote that is held stands before the bytes
-abbrev behind_held : Bool → List ℕ → List ℕ
-behind_held true bytes = 34 ∷ bytes
-behind_held false bytes = bytes
+abbrev after_held : Bool → List ℕ → List ℕ
+after_held true bytes = 34 ∷ bytes
+after_held false bytes = bytes
 
 -- what reading inside a string tells, where some of its text is kept already
 abbrev InsideTells : ℕ → Bool → List ℕ → List ℕ → Result (List ℕ × Spot) Fault → Type 0
-InsideTells opened held kept bytes (Ok x) = (more : List ℕ) × (x.0 ≡ kept ++ more) × (length x.0 ≤ 4096) × Inside more (behind_held held bytes) (34 ∷ x.1.rest) × NoQuote x.1.rest
+InsideTells opened held kept bytes (Ok x) = (more : List ℕ) × (x.0 ≡ kept ++ more) × (length x.0 ≤ 4096) × Inside more (after_held held bytes) (34 ∷ x.1.rest) × NoQuote x.1.rest
 InsideTells opened held kept bytes (Err fault) =
-    ((fault ≡ open_string opened) × (more : List ℕ) × (length (kept ++ more) ≤ 4096) × Inside more (behind_held held bytes) [])
-    ⊎ ((fault ≡ long_string opened) × (more rest : List ℕ) × (length (kept ++ more) ≡ 4097) × Inside more (behind_held held bytes) rest)
+    ((fault ≡ open_string opened) × (more : List ℕ) × (length (kept ++ more) ≤ 4096) × Inside more (after_held held bytes) [])
+    ⊎ ((fault ≡ long_string opened) × (more rest : List ℕ) × (length (kept ++ more) ≡ 4097) × Inside more (after_held held bytes) rest)
 
 -- the bytes of a piece are kept as one byte more
 abbrev KeepsOne : Bool → List ℕ → List ℕ → ℕ → Type 0
-KeepsOne held piece bytes b = (text rest : List ℕ) → Inside text bytes rest → Inside (b ∷ text) (behind_held held piece) rest
+KeepsOne held piece bytes b = (text rest : List ℕ) → Inside text bytes rest → Inside (b ∷ text) (after_held held piece) rest
 
 tell_kept : (opened : ℕ) (held : Bool) (kept piece bytes : List ℕ) (b : ℕ) (r : Result (List ℕ × Spot) Fault) → KeepsOne held piece bytes b
     → InsideTells opened false (kept ++ b ∷ []) bytes r → InsideTells opened held kept piece r
@@ -44,9 +45,9 @@ tell_keep opened held kept piece bytes b go_on true t short step more =
 tell_keep opened held kept piece bytes b go_on false t short step more =
     inr (refl, b ∷ [], bytes, omega (arith, ltb-false _ _ t, length_push kept b), step [] bytes here)
 
--- the same bytes behind, with one less in front
+-- the same bytes after it, with one less before
 tell_moved : (opened : ℕ) (was held : Bool) (kept piece bytes : List ℕ) (r : Result (List ℕ × Spot) Fault)
-    → ((text rest : List ℕ) → Inside text (behind_held held bytes) rest → Inside text (behind_held was piece) rest)
+    → ((text rest : List ℕ) → Inside text (after_held held bytes) rest → Inside text (after_held was piece) rest)
     → InsideTells opened held kept bytes r → InsideTells opened was kept piece r
 tell_moved opened was held kept piece bytes (Ok x) step h = (h.0, h.1, h.2, step h.0 (34 ∷ x.1.rest) h.3, h.4)
 tell_moved opened was held kept piece bytes (Err fault) step (inl h) = inl (h.0, h.1, h.2, step h.1 [] h.3)
@@ -87,13 +88,13 @@ inside_tells opened false kept at [] short = inl (refl, [], rw append-nil short,
 inside_tells opened held kept at (b ∷ bytes) short =
     byte_tells opened at kept bytes short (λ h k less. inside_tells opened h k (at + 1) bytes less) b held (eqb b 34) (eqb b 13) (eqb b 96) refl refl refl
 
--- what reading a string without blanks tells of the bytes
+-- what reading a string without whitespace says of the bytes
 abbrev BytesTell : ℕ → List ℕ → Result (List ℕ × Spot) Fault → Type 0
 BytesTell start bytes (Ok x) = Opened (Closes x.0 x.1.rest) bytes
 BytesTell start bytes (Err fault) =
     ((fault ≡ no_quote start) × NoString bytes) ⊎ (((fault ≡ open_string start) × Opened Unclosed bytes) ⊎ ((fault ≡ long_string start) × Opened Overlong bytes))
 
-tell_opening : (start b : ℕ) (bytes : List ℕ) (r : Result (List ℕ × Spot) Fault) (q : Bool) → eqb b 34 ≡ q → is_blank b ≡ false
+tell_opening : (start b : ℕ) (bytes : List ℕ) (r : Result (List ℕ × Spot) Fault) (q : Bool) → eqb b 34 ≡ q → is_whitespace b ≡ false
     → InsideTells start false [] bytes r → BytesTell start (b ∷ bytes) (cond q r (Err (no_quote start)))
 tell_opening start b bytes (Ok x) true e first h =
     (e, record { inside = subst (λ (t : List ℕ). Inside t bytes (34 ∷ x.1.rest)) (sym h.1) h.3; closed = h.4; short = h.2 })
@@ -101,31 +102,31 @@ tell_opening start b bytes (Err fault) true e first (inl h) = inr (inl (h.0, (e,
 tell_opening start b bytes (Err fault) true e first (inr h) = inr (inr (h.0, (e, record { text = h.1; rest = h.2; inside = h.4; long = h.3 })))
 tell_opening start b bytes r false e first h = inl (refl, (first, e))
 
-bytes_tell : (at : ℕ) (bytes : List ℕ) → NoBlank bytes → BytesTell at bytes (opening_at at bytes)
+bytes_tell : (at : ℕ) (bytes : List ℕ) → NoWhitespace bytes → BytesTell at bytes (opening_at at bytes)
 bytes_tell at [] first = inl (refl, tt)
 bytes_tell at (b ∷ bytes) first =
     tell_opening at b bytes (inside_at at false [] (at + 1) bytes) (eqb b 34) refl first (inside_tells at false [] (at + 1) bytes (omega arith))
 
--- what reading tells: a spelling, or a fault with its place
+-- what reading gives: a spelling, or a fault with its place
 abbrev StringTells : Spot → Result (List ℕ × Spot) Fault → Type 0
 StringTells s (Ok x) = Quoted x.0 s.rest x.1.rest
 StringTells s (Err fault) = StringFault s fault
 
-tell_behind : (s start : Spot) (r : Result (List ℕ × Spot) Fault) → ((P : List ℕ → Type 0) → Skipped P s.at s.rest start)
+tell_after : (s start : Spot) (r : Result (List ℕ × Spot) Fault) → ((P : List ℕ → Type 0) → Skipped P s.at s.rest start)
     → BytesTell start.at start.rest r → StringTells s r
-tell_behind s start (Ok x) blanks h = let k = blanks (Opened (Closes x.0 x.1.rest)) in (k.count, k.behind h)
-tell_behind s start (Err fault) blanks (inl h) =
-    let k = blanks NoString in subst (λ (f : Fault). StringFault s f) (sym h.0) (k.count, k.behind h.1, k.place)
-tell_behind s start (Err fault) blanks (inr (inl h)) =
-    let k = blanks (Opened Unclosed) in subst (λ (f : Fault). StringFault s f) (sym h.0) (k.count, k.behind h.1, k.place)
-tell_behind s start (Err fault) blanks (inr (inr h)) =
-    let k = blanks (Opened Overlong) in subst (λ (f : Fault). StringFault s f) (sym h.0) (k.count, k.behind h.1, k.place)
+tell_after s start (Ok x) whitespace h = let k = whitespace (Opened (Closes x.0 x.1.rest)) in (k.count, k.after h)
+tell_after s start (Err fault) whitespace (inl h) =
+    let k = whitespace NoString in subst (λ (f : Fault). StringFault s f) (sym h.0) (k.count, k.after h.1, k.place)
+tell_after s start (Err fault) whitespace (inr (inl h)) =
+    let k = whitespace (Opened Unclosed) in subst (λ (f : Fault). StringFault s f) (sym h.0) (k.count, k.after h.1, k.place)
+tell_after s start (Err fault) whitespace (inr (inr h)) =
+    let k = whitespace (Opened Overlong) in subst (λ (f : Fault). StringFault s f) (sym h.0) (k.count, k.after h.1, k.place)
 
 string_tells : (s : Spot) → StringTells s (quoted_at s)
 unfolding quoted_at
 string_tells s =
-    let start = past_blanks s.at s.rest in
-    tell_behind s start (opening_at start.at start.rest) (λ P. skipped P s.at s.rest) (bytes_tell start.at start.rest (NoBlank-past_blanks s.at s.rest))
+    let start = past_whitespace s.at s.rest in
+    tell_after s start (opening_at start.at start.rest) (λ P. skipped P s.at s.rest) (bytes_tell start.at start.rest (NoWhitespace-past_whitespace s.at s.rest))
 
 pub string_is_spelled : StringIsSpelled
 string_is_spelled s after text e = subst (λ (r : Result (List ℕ × Spot) Fault). StringTells s r) e (string_tells s)
@@ -137,7 +138,7 @@ kept_more kept text b n h = rw append_assoc h
 
 -- reading goes through the inside of a string
 abbrev GoesOn : ℕ → List ℕ → ℕ → List ℕ → List ℕ → List ℕ → Type 0
-GoesOn opened kept at bytes text rest = (behind : ℕ) × (inside_at opened false kept at bytes ≡ inside_at opened false (kept ++ text) behind rest)
+GoesOn opened kept at bytes text rest = (later : ℕ) × (inside_at opened false kept at bytes ≡ inside_at opened false (kept ++ text) later rest)
 
 -- a byte is kept where there is room
 keeps_byte : (opened : ℕ) (kept : List ℕ) (b : ℕ) (go_on : List ℕ → Result (List ℕ × Spot) Fault) → length kept < 4096
@@ -157,7 +158,7 @@ module _ (opened : ℕ) where
       let others = or_parts (eqb b 13) (eqb b 96) no_quote_or.1 in
       rw (no_quote_or.0, others.0, others.1) refl
 
-  -- the byte that is kept, and the text behind it
+  -- the byte that is kept, and the text after it
   one_more : (kept : List ℕ) (at after b : ℕ) (bytes piece text rest : List ℕ) → length (kept ++ b ∷ text) ≤ 4096
       → inside_at opened false kept at piece ≡ keep opened kept b (λ k. inside_at opened false k after bytes)
       → GoesOn opened (kept ++ b ∷ []) after bytes text rest → GoesOn opened kept at piece (b ∷ text) rest
@@ -206,30 +207,30 @@ module _ (opened : ℕ) where
   closes kept at [] h = (spot (at + 1) [], refl, refl)
   closes kept at (b ∷ rest) h = (spot (at + 1) (b ∷ rest), refl, rw h refl)
 
--- behind an opening quote reading goes on inside
+-- after an opening quote reading goes on inside
 opens : (P : List ℕ → Type 0) (at : ℕ) (bytes : List ℕ) → Opened P bytes
     → (inside : List ℕ) × P inside × (opening_at at bytes ≡ inside_at at false [] (at + 1) inside)
 opens P at [] h = absurd h
 opens P at (b ∷ bytes) h = (bytes, h.1, rw h.0 refl)
 
--- no blank stands where a string opens
-NoBlank-opened : (P : List ℕ → Type 0) (b : ℕ) (bytes : List ℕ) → Opened P (b ∷ bytes) → is_blank b ≡ false
-NoBlank-opened P b bytes h = subst (λ (c : ℕ). is_blank c ≡ false) (sym (eqb-true b 34 h.0)) refl
+-- no whitespace stands where a string opens
+NoWhitespace-opened : (P : List ℕ → Type 0) (b : ℕ) (bytes : List ℕ) → Opened P (b ∷ bytes) → is_whitespace b ≡ false
+NoWhitespace-opened P b bytes h = subst (λ (c : ℕ). is_whitespace c ≡ false) (sym (eqb-true b 34 h.0)) refl
 
--- what is read from the first byte behind the blanks on
-abbrev from_blanks : Spot → Result (List ℕ × Spot) Fault
-from_blanks start = opening_at start.at start.rest
+-- what is read from the first byte after the whitespace on
+abbrev from_whitespace : Spot → Result (List ℕ × Spot) Fault
+from_whitespace start = opening_at start.at start.rest
 
 pub spelled_string_is_read : SpelledStringIsRead
 unfolding quoted_at
 spelled_string_is_read s text rest h =
     let P : List ℕ → Type 0 = Closes text rest in
-    let f = found (Opened P) (NoBlank-opened P) s.at h.1 in
+    let f = found (Opened P) (NoWhitespace-opened P) s.at h.1 in
     let place = s.at + h.0 in
     let o = opens P place f.0 f.1 in
     let through = goes_on place o.1.inside [] (place + 1) o.1.short in
     let end = closes place text through.0 rest o.1.closed in
-    subst (λ (start : Spot). Reads text rest (from_blanks start)) (sym f.2) (end.0, end.1, o.2 ∙ through.1 ∙ end.2)
+    subst (λ (start : Spot). Reads text rest (from_whitespace start)) (sym f.2) (end.0, end.1, o.2 ∙ through.1 ∙ end.2)
 
 exact : (s : Spot) (fault : Fault) → StringFault s fault → quoted_at s ≡ Err fault
 unfolding quoted_at
@@ -237,21 +238,21 @@ exact s (no_number place) h = absurd h
 exact s (big_number place) h = absurd h
 exact s (no_quote place) h =
     let f = found NoString (λ b bytes p. p.0) s.at h.1 in
-    rw h.2 (subst (λ (start : Spot). from_blanks start ≡ Err (no_quote (s.at + h.0))) (sym f.2) (misses (s.at + h.0) f.0 f.1))
+    rw h.2 (subst (λ (start : Spot). from_whitespace start ≡ Err (no_quote (s.at + h.0))) (sym f.2) (misses (s.at + h.0) f.0 f.1))
   where
     misses : (at : ℕ) (bytes : List ℕ) → NoString bytes → opening_at at bytes ≡ Err (no_quote at)
     misses at [] n = refl
     misses at (b ∷ bytes) n = rw n.1 refl
 exact s (open_string place) h =
-    let f = found (Opened Unclosed) (NoBlank-opened Unclosed) s.at h.1 in
+    let f = found (Opened Unclosed) (NoWhitespace-opened Unclosed) s.at h.1 in
     let o = opens Unclosed (s.at + h.0) f.0 f.1 in
     let through = goes_on (s.at + h.0) o.1.inside [] (s.at + h.0 + 1) o.1.short in
-    rw h.2 (subst (λ (start : Spot). from_blanks start ≡ Err (open_string (s.at + h.0))) (sym f.2) (o.2 ∙ through.1))
+    rw h.2 (subst (λ (start : Spot). from_whitespace start ≡ Err (open_string (s.at + h.0))) (sym f.2) (o.2 ∙ through.1))
 exact s (long_string place) h =
-    let f = found (Opened Overlong) (NoBlank-opened Overlong) s.at h.1 in
+    let f = found (Opened Overlong) (NoWhitespace-opened Overlong) s.at h.1 in
     let o = opens Overlong (s.at + h.0) f.0 f.1 in
     let long = grows_long (s.at + h.0) o.1.inside [] (s.at + h.0 + 1) (omega arith) (omega (arith, o.1.long)) in
-    rw h.2 (subst (λ (start : Spot). from_blanks start ≡ Err (long_string (s.at + h.0))) (sym f.2) (o.2 ∙ long))
+    rw h.2 (subst (λ (start : Spot). from_whitespace start ≡ Err (long_string (s.at + h.0))) (sym f.2) (o.2 ∙ long))
 
 pub string_fault_is_exact : StringFaultIsExact
 string_fault_is_exact s fault =

@@ -10,32 +10,33 @@ use Rattle.std.proofs.lemmas.Str.Parse.{IsNumeralModel, numerals_by_fold}
 use Rattle.std.proofs.lemmas.Fmt.{digits_decimal, digits_value-decimal, decimal_nonempty}
 use Rattle.std.proofs.lemmas.Int.{ints}
 use Rattle.adv_text.specs.Spelling.{here, NoDigit, Digits, last, digit, Amount, bare, minus, Inside, plain, two_quotes}
-use Rattle.adv_text.specs.Writing.{byte_text, is_text_byte}
+use Rattle.adv_io.specs.Text.{is_text_byte}
+use Rattle.adv_text.specs.Writing.{byte_text}
 use Rattle.adv_text.specs.Laws.{WrittenNumberIsSpelled, WrittenStringIsSpelled}
 
 -- ---- numbers
 
 -- what digits make of an amount before them
-abbrev value_behind : ℕ → List ℕ → ℕ
-value_behind n [] = n
-value_behind n (b ∷ bytes) = value_behind (n * 10 + (b - 48)) bytes
+abbrev value_after : ℕ → List ℕ → ℕ
+value_after n [] = n
+value_after n (b ∷ bytes) = value_after (n * 10 + (b - 48)) bytes
 
-own : IsNumeralModel (λ ds. all_ascii_digits ds ≡ true) (value_behind 0)
-own = numerals_by_fold _ (search rules) value_behind (search rules)
+own : IsNumeralModel (λ ds. all_ascii_digits ds ≡ true) (value_after 0)
+own = numerals_by_fold _ (search rules) value_after (search rules)
 
--- digits, and no digit behind them, are a spelling of what they make
-Digits-all : (ds rest : List ℕ) (n : ℕ) → all_ascii_digits ds ≡ true → NoDigit rest → Digits n (value_behind n ds) (ds ++ rest) rest
+-- digits, and no digit after them, are a spelling of what they make
+Digits-all : (ds rest : List ℕ) (n : ℕ) → all_ascii_digits ds ≡ true → NoDigit rest → Digits n (value_after n ds) (ds ++ rest) rest
 Digits-all [] rest n all h = last h
 Digits-all (b ∷ ds) rest n all h =
     let parts = and_parts (is_ascii_digit b) (all_ascii_digits ds) all in
     digit parts.0 (Digits-all ds rest (n * 10 + (b - 48)) parts.1 h)
 
-Amount-all : (ds rest : List ℕ) → all_ascii_digits ds ≡ true → 0 < length ds → NoDigit rest → Amount (value_behind 0 ds) (ds ++ rest) rest
+Amount-all : (ds rest : List ℕ) → all_ascii_digits ds ≡ true → 0 < length ds → NoDigit rest → Amount (value_after 0 ds) (ds ++ rest) rest
 Amount-all [] rest all long h = absurd (omega arith)
 Amount-all (b ∷ ds) rest all long h =
     let parts = and_parts (is_ascii_digit b) (all_ascii_digits ds) all in
     let first : 0 * 10 + (b - 48) ≡ b - 48 = omega arith in
-    (parts.0, subst (λ (n : ℕ). Digits (b - 48) (value_behind n ds) (ds ++ rest) rest) (sym first) (Digits-all ds rest (b - 48) parts.1 h))
+    (parts.0, subst (λ (n : ℕ). Digits (b - 48) (value_after n ds) (ds ++ rest) rest) (sym first) (Digits-all ds rest (b - 48) parts.1 h))
 
 Amount-decimal : (n : ℕ) (rest : List ℕ) → n < 2 ^ 64 → NoDigit rest → Amount n (decimal n ++ rest) rest
 Amount-decimal n rest small h =

@@ -2,9 +2,10 @@
 -- written reads back.
 use Rattle.std.specs.Prelude.{ℕ, Bool, nat_lt, ◌≡◌, ◌+◌, ◌↔◌, ◌≤ℤ◌, List, ◌++◌, ℤ, pos, negsuc, IsTrue, Ok, Err}
 use Rattle.std.specs.List.{list_all}
-use Rattle.adv_text.specs.Spelling.{Behind, Number, NoNumber, BigNumber, NoDigit, Quoted, NoString, Opened, Unclosed, Overlong, NoQuote}
+use Rattle.adv_text.specs.Spelling.{AfterWhitespace, Number, NoNumber, BigNumber, NoDigit, Quoted, NoString, Opened, Unclosed, Overlong, NoQuote}
 use Rattle.adv_text.specs.Reading.{Spot, SameEnd, Fault, no_number, big_number, no_quote, open_string, long_string, number_at, quoted_at}
-use Rattle.adv_text.specs.Writing.{number_text, quoted_text, is_text}
+use Rattle.adv_io.specs.Text.{is_text}
+use Rattle.adv_text.specs.Writing.{number_text, quoted_text}
 
 -- ---- values
 
@@ -12,7 +13,7 @@ use Rattle.adv_text.specs.Writing.{number_text, quoted_text, is_text}
 abbrev pub NumberIsSpelled : Type 0
 NumberIsSpelled = (s after : Spot) (z : ℤ) → number_at s ≡ Ok (z, after) → Number z s.rest after.rest
 
--- a number that is spelled so is read, and the spot behind it has the rest
+-- a number that is spelled so is read, and the spot after it has the rest
 abbrev pub SpelledNumberIsRead : Type 0
 SpelledNumberIsRead = (s : Spot) (z : ℤ) (rest : List ℕ) → Number z s.rest rest
     → (after : Spot) × (after.rest ≡ rest) × (number_at s ≡ Ok (z, after))
@@ -24,7 +25,7 @@ abbrev pub SpelledStringIsRead : Type 0
 SpelledStringIsRead = (s : Spot) (text rest : List ℕ) → Quoted text s.rest rest
     → (after : Spot) × (after.rest ≡ rest) × (quoted_at s ≡ Ok (text, after))
 
--- the spot behind a number that is read has moved by just the bytes that were taken
+-- the spot after a number that is read has moved by just the bytes that were taken
 abbrev pub NumberEnds : Type 0
 NumberEnds = (s after : Spot) (z : ℤ) → number_at s ≡ Ok (z, after) → SameEnd s after
 
@@ -33,25 +34,25 @@ StringEnds = (s after : Spot) (text : List ℕ) → quoted_at s ≡ Ok (text, af
 
 -- ---- faults
 
--- what stands k blanks behind a spot is at this place
-abbrev pub BehindBlanks : (List ℕ → Type 0) → Spot → ℕ → Type 0
-BehindBlanks P s place = (k : ℕ) × Behind P k s.rest × (place ≡ s.at + k)
+-- what stands k bytes of whitespace after a spot is at this place
+abbrev pub PastWhitespace : (List ℕ → Type 0) → Spot → ℕ → Type 0
+PastWhitespace P s place = (k : ℕ) × AfterWhitespace P k s.rest × (place ≡ s.at + k)
 
--- why no number stands at a spot, with the place behind the blanks
+-- why no number stands at a spot, with the place after the whitespace
 abbrev pub NumberFault : Spot → Fault → Type 0
-NumberFault s (no_number place) = BehindBlanks NoNumber s place
-NumberFault s (big_number place) = BehindBlanks BigNumber s place
+NumberFault s (no_number place) = PastWhitespace NoNumber s place
+NumberFault s (big_number place) = PastWhitespace BigNumber s place
 NumberFault s (no_quote place) = ⊥
 NumberFault s (open_string place) = ⊥
 NumberFault s (long_string place) = ⊥
 
--- why no string stands at a spot, with the place behind the blanks
+-- why no string stands at a spot, with the place after the whitespace
 abbrev pub StringFault : Spot → Fault → Type 0
 StringFault s (no_number place) = ⊥
 StringFault s (big_number place) = ⊥
-StringFault s (no_quote place) = BehindBlanks NoString s place
-StringFault s (open_string place) = BehindBlanks (Opened Unclosed) s place
-StringFault s (long_string place) = BehindBlanks (Opened Overlong) s place
+StringFault s (no_quote place) = PastWhitespace NoString s place
+StringFault s (open_string place) = PastWhitespace (Opened Unclosed) s place
+StringFault s (long_string place) = PastWhitespace (Opened Overlong) s place
 
 -- a fault is answered exactly where it stands
 abbrev pub NumberFaultIsExact : Type 0

@@ -1,12 +1,14 @@
--- Reading from left to right, with the first fault that is met.
+-- Reading from left to right, with the first fault that is reached.
 use Rattle.std.specs.Prelude.{ℕ, ◌≡◌, ◌+◌, ◌-◌, ◌*◌, ◌≤◌, ◌<◌, ◌⊎◌, ◌==◌, nat_le, nat_lt, Bool, true, false, if◌then◌else◌, Option, Some, None, drop, List, [], ◌∷◌, ◌++◌, length, ℤ, Result, Ok, Err}
 use Rattle.std.specs.Global.{Vec}
 use Rattle.std.specs.Char.{is_ascii_digit}
-use Rattle.adv_text.specs.Spelling.{is_blank, signed, greatest}
+use Rattle.adv_io.specs.Answers.{IsExpected, IsExactly, IsErrOr}
+use Rattle.adv_io.specs.Text.{carriage_return, quote, plus_sign, minus_sign, grave_accent, is_whitespace, text_limit}
+use Rattle.adv_text.specs.Spelling.{signed, greatest}
 use Rattle.adv_text.specs.declared.faults.TextFault.{TextFault}
 use Rattle.adv_text.specs.declared.faults.TextFault.TheVariants as answer
 
--- a place, counted from the front of all bytes, and the bytes from there on
+-- a place, counted from the beginning of all bytes, and the bytes from there on
 pub record Spot : Type 0 where
   pub at : ℕ
   pub rest : List ℕ
@@ -26,22 +28,22 @@ pub data Fault : Type 0 where
   open_string : ℕ → Fault
   long_string : ℕ → Fault
 
--- the spot behind the blanks
-abbrev pub past_blanks : ℕ → List ℕ → Spot
-past_blanks at [] = spot at []
-past_blanks at (b ∷ bytes) = if is_blank b then past_blanks (at + 1) bytes else spot at (b ∷ bytes)
+-- the spot after the whitespace
+abbrev pub past_whitespace : ℕ → List ℕ → Spot
+past_whitespace at [] = spot at []
+past_whitespace at (b ∷ bytes) = if is_whitespace b then past_whitespace (at + 1) bytes else spot at (b ∷ bytes)
 
 -- ---- numbers
 
--- whether a minus stands there, and the spot behind a sign
+-- whether a minus stands there, and the spot after a sign
 abbrev pub past_sign : ℕ → List ℕ → Bool × Spot
 past_sign at [] = (false, spot at [])
 past_sign at (b ∷ bytes) =
-    if b == 45 then (true, spot (at + 1) bytes)
-    else if b == 43 then (false, spot (at + 1) bytes)
+    if b == minus_sign then (true, spot (at + 1) bytes)
+    else if b == plus_sign then (false, spot (at + 1) bytes)
     else (false, spot at (b ∷ bytes))
 
--- digits go on behind an amount; start is where the number began
+-- digits go on after an amount; start is where the number began
 abbrev pub digits_at : Bool → ℕ → ℕ → ℕ → List ℕ → Result (ℤ × Spot) Fault
 digits_at negative start n at [] = Ok (signed negative n, spot at [])
 digits_at negative start n at (b ∷ bytes) =
@@ -57,10 +59,10 @@ amount_at negative start at [] = Err (no_number start)
 amount_at negative start at (b ∷ bytes) =
     if is_ascii_digit b then digits_at negative start (b - 48) (at + 1) bytes else Err (no_number start)
 
--- the number at a spot, and the spot behind it
+-- the number at a spot, and the spot after it
 unfoldable pub number_at : Spot → Result (ℤ × Spot) Fault
 number_at s =
-    let start = past_blanks s.at s.rest in
+    let start = past_whitespace s.at s.rest in
     let sign = past_sign start.at start.rest in
     amount_at sign.0 start.at sign.1.at sign.1.rest
 
@@ -68,55 +70,54 @@ number_at s =
 
 -- one more byte is kept, unless there are 4,096 already
 abbrev pub keep : ℕ → List ℕ → ℕ → (List ℕ → Result (List ℕ × Spot) Fault) → Result (List ℕ × Spot) Fault
-keep opened kept b go_on = if nat_lt (length kept) 4096 then go_on (kept ++ b ∷ []) else Err (long_string opened)
+keep opened kept b go_on = if nat_lt (length kept) text_limit then go_on (kept ++ b ∷ []) else Err (long_string opened)
 
 -- inside a string; held tells that the byte before was a quote, which ends it unless a second follows
 abbrev pub inside_at : ℕ → Bool → List ℕ → ℕ → List ℕ → Result (List ℕ × Spot) Fault
 inside_at opened held kept at [] = if held then Ok (kept, spot at []) else Err (open_string opened)
 inside_at opened held kept at (b ∷ bytes) =
-    if b == 34 then (if held
-    then keep opened kept 34 (λ more. inside_at opened false more (at + 1) bytes)
+    if b == quote then (if held
+    then keep opened kept quote (λ more. inside_at opened false more (at + 1) bytes)
     else inside_at opened true kept (at + 1) bytes)
     else if held then Ok (kept, spot at (b ∷ bytes))
-    else if b == 13 then inside_at opened false kept (at + 1) bytes
-    else keep opened kept (if b == 96 then 34 else b) (λ more. inside_at opened false more (at + 1) bytes)
+    else if b == carriage_return then inside_at opened false kept (at + 1) bytes
+    else keep opened kept (if b == grave_accent then quote else b) (λ more. inside_at opened false more (at + 1) bytes)
 
 -- the opening quote
 abbrev pub opening_at : ℕ → List ℕ → Result (List ℕ × Spot) Fault
 opening_at at [] = Err (no_quote at)
-opening_at at (b ∷ bytes) = if b == 34 then inside_at at false [] (at + 1) bytes else Err (no_quote at)
+opening_at at (b ∷ bytes) = if b == quote then inside_at at false [] (at + 1) bytes else Err (no_quote at)
 
--- the text of the string at a spot, and the spot behind it
+-- the text of the string at a spot, and the spot after it
 unfoldable pub quoted_at : Spot → Result (List ℕ × Spot) Fault
-quoted_at s = let start = past_blanks s.at s.rest in opening_at start.at start.rest
+quoted_at s = let start = past_whitespace s.at s.rest in opening_at start.at start.rest
 
 -- ---- what the program answers
 
 -- the program's fault for a fault of reading
-abbrev pub told : Fault → TextFault
-told (no_number at) = answer.NoNumber at
-told (big_number at) = answer.BigNumber at
-told (no_quote at) = answer.NoQuote at
-told (open_string at) = answer.OpenString at
-told (long_string at) = answer.LongString at
+abbrev pub fault_answer : Fault → TextFault
+fault_answer (no_number at) = answer.NoNumber at
+fault_answer (big_number at) = answer.BigNumber at
+fault_answer (no_quote at) = answer.NoQuote at
+fault_answer (open_string at) = answer.OpenString at
+fault_answer (long_string at) = answer.LongString at
+
+-- the fault of reading that an answer of the program is; want of memory is none
+abbrev pub fault_of : TextFault → Option Fault
+fault_of (answer.NoNumber at) = Some (no_number at)
+fault_of (answer.BigNumber at) = Some (big_number at)
+fault_of (answer.NoQuote at) = Some (no_quote at)
+fault_of (answer.OpenString at) = Some (open_string at)
+fault_of (answer.LongString at) = Some (long_string at)
+fault_of answer.Memory = None
 
 -- a fault of the program is the one that reading gives, unless memory ran out
 abbrev pub Stands : {X : Type 0} → TextFault → Result X Fault → Type 0
-Stands (answer.NoNumber at) read = read ≡ Err (no_number at)
-Stands (answer.BigNumber at) read = read ≡ Err (big_number at)
-Stands (answer.NoQuote at) read = read ≡ Err (no_quote at)
-Stands (answer.OpenString at) read = read ≡ Err (open_string at)
-Stands (answer.LongString at) read = read ≡ Err (long_string at)
-Stands answer.Memory read = Unit {0}
+Stands fault read = IsExpected fault_of fault read
 
 -- the same, where no memory is taken
 abbrev pub IsFaultOf : {X : Type 0} → TextFault → Result X Fault → Type 0
-IsFaultOf (answer.NoNumber at) read = read ≡ Err (no_number at)
-IsFaultOf (answer.BigNumber at) read = read ≡ Err (big_number at)
-IsFaultOf (answer.NoQuote at) read = read ≡ Err (no_quote at)
-IsFaultOf (answer.OpenString at) read = read ≡ Err (open_string at)
-IsFaultOf (answer.LongString at) read = read ≡ Err (long_string at)
-IsFaultOf answer.Memory read = ⊥
+IsFaultOf fault read = IsExactly fault_of fault read
 
 -- the text was read, unless memory ran out
 abbrev pub IsText : Result (Vec ℕ) TextFault → List ℕ → Type 0
@@ -125,7 +126,7 @@ IsText (Err fault) text = fault ≡ answer.Memory
 
 -- this fault was answered, unless memory ran out
 abbrev pub IsErrOrMemory : Result (Vec ℕ) TextFault → TextFault → Type 0
-IsErrOrMemory r fault = (r ≡ Err fault) ⊎ (r ≡ Err answer.Memory)
+IsErrOrMemory r fault = IsErrOr answer.Memory r fault
 
 -- more bytes of the string that was opened at this place make it longer than 4,096, unless memory ran out
 abbrev pub IsLong : TextFault → ℕ → ℕ → Type 0
@@ -133,10 +134,10 @@ IsLong (answer.NoNumber at) opened size = ⊥
 IsLong (answer.BigNumber at) opened size = ⊥
 IsLong (answer.NoQuote at) opened size = ⊥
 IsLong (answer.OpenString at) opened size = ⊥
-IsLong (answer.LongString at) opened size = (at ≡ opened) × (4096 < size)
+IsLong (answer.LongString at) opened size = (at ≡ opened) × (text_limit < size)
 IsLong answer.Memory opened size = Unit {0}
 
--- From any place: a piece of a string takes bytes, and what was kept by then goes on behind it; or the string ends here, or the file.
+-- From any place: a piece of a string takes bytes, and what was kept by then goes on after it; or the string ends here, or the file.
 abbrev pub GoesOn : ℕ → Bool → List ℕ → List ℕ → List ℕ → Option (ℕ × Bool) → Type 0
 GoesOn opened held kept rest more None =
     (more ≡ kept) × ((at : ℕ) → inside_at opened held kept at rest ≡ (if held then Ok (kept, spot at rest) else Err (open_string opened)))

@@ -1,13 +1,6 @@
 //! What a single byte is to a scan.
 ghost use Rattle.std.specs.Prelude.{◌≡◌};
-ghost use Rattle.adv_text.specs.Spelling.{is_blank, is_plain};
-
-/// Whether a byte is a blank.
-pub fn is_blank(byte: u8) -> bool
-    ensures { result ≡ is_blank byte }
-{
-    matches!(byte, 9..=13 | b' ')
-}
+ghost use Rattle.adv_text.specs.Spelling.{is_plain};
 
 /// Whether a byte of a string is kept as it is.
 pub fn is_plain(byte: u8) -> bool

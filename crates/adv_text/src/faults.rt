@@ -4,14 +4,14 @@ ghost use Rattle.adv_text.specs.declared.faults.TextFault.TheVariants.{Memory};
 
 use std::alloc::{AllocError, AllocFailed};
 
-/// What is wrong at the scan, with the byte at which it is wrong, counted from the front.
+/// What is wrong at the scan, with the byte at which it is wrong, counted from the beginning.
 #[derive(Clone, Copy, Debug, PartialEq, Eq)]
 pub enum TextFault {
-    /// No digits stand where a number is due; the place behind the blanks.
+    /// No digits stand where a number is due; the place after the whitespace.
     NoNumber(usize),
     /// A number lies outside 32 bits with a sign; the place of its first byte.
     BigNumber(usize),
-    /// No quote stands where a string is due; the place behind the blanks.
+    /// No quote stands where a string is due; the place after the whitespace.
     NoQuote(usize),
     /// The file ends in a string of at most 4,096 kept bytes; the place of its opening quote.
     OpenString(usize),

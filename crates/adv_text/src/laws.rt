@@ -6,7 +6,7 @@ pub fn number_is_spelled()
     ensures { NumberIsSpelled }
 {}
 
-/// A number that is spelled so is read, and reading goes on behind it.
+/// A number that is spelled so is read, and reading goes on after it.
 pub fn spelled_number_is_read()
     ensures { SpelledNumberIsRead }
 {}
@@ -21,7 +21,7 @@ pub fn string_is_spelled()
     ensures { StringIsSpelled }
 {}
 
-/// A string that is spelled so is read, and reading goes on behind it.
+/// A string that is spelled so is read, and reading goes on after it.
 pub fn spelled_string_is_read()
     ensures { SpelledStringIsRead }
 {}
@@ -31,12 +31,12 @@ pub fn string_fault_is_exact()
     ensures { StringFaultIsExact }
 {}
 
-/// Reading goes on behind a number just as many bytes further as it took.
+/// Reading goes on after a number just as many bytes further as it took.
 pub fn number_ends()
     ensures { NumberEnds }
 {}
 
-/// Reading goes on behind a string just as many bytes further as it took.
+/// Reading goes on after a string just as many bytes further as it took.
 pub fn string_ends()
     ensures { StringEnds }
 {}

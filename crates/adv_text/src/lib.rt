@@ -2,11 +2,11 @@
 #![tactic(auto)]
 
 mod bytes;
+mod fast;
 pub mod faults;
 pub mod laws;
 mod quoted;
 pub mod scan;
-mod usual;
 pub mod writing;
 
 pub use adv_io::Memory;

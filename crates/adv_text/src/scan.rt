@@ -1,19 +1,19 @@
 //! A scan over the bytes of a file.
-ghost use Rattle.std.specs.Prelude.{◌≡◌, ◌≢◌, ◌+◌, List, ℕ, ℤ, IfOk, IfErr, OnErr, OnOk, ◌<◌, ◌≤◌, ◌-◌, length, Ok, Err, MatchResult, ◌↔◌, true, false};
+ghost use Rattle.std.specs.Prelude.{◌≡◌, ◌≢◌, ◌+◌, List, ℕ, ℤ, IfOk, IfErr, OnErr, OnOk, ◌<◌, ◌≤◌, ◌-◌, ◌^◌, length, drop, Ok, Err, MatchResult, ◌↔◌, true, false};
 ghost use Rattle.adv_text.specs.Spelling.{greatest, signed, Number, Quoted};
-ghost use Rattle.adv_text.specs.Reading.{Spot, spot, SameEnd, past_blanks, past_sign, amount_at, number_at, quoted_at, opening_at, Stands, IsFaultOf, Fault, told, IsText, IsErrOrMemory};
+ghost use Rattle.adv_text.specs.Reading.{Spot, spot, SameEnd, past_whitespace, past_sign, amount_at, number_at, quoted_at, opening_at, Stands, IsFaultOf, Fault, fault_answer, IsText, IsErrOrMemory};
 ghost use Rattle.adv_text.specs.Laws.{NumberFault, StringFault};
 
-use crate::bytes::is_blank;
+use crate::fast::{plain_string, short_amount, short_number};
 use crate::faults::TextFault;
 use crate::quoted::next_piece;
-use crate::usual::{plain_string, short_amount, short_number};
+use adv_io::is_whitespace;
 use std::alloc::Global;
 use std::marker::Model;
 
 /// A scan: a place in the bytes of a file, from which it reads on.
 ///
-/// A clause sees a `Spot`: the place, counted from the front, and the bytes from there on.
+/// A clause sees a `Spot`: the place, counted from the beginning, and the bytes from there on.
 #[derive(Drop)]
 pub struct Scan<'a> {
     at: usize,
@@ -51,21 +51,38 @@ fn signed(negative: bool, amount: u64) -> i32
 }
 
 impl<'a> Scan<'a> {
-    /// A scan that stands at the front of the bytes.
+    /// A scan that stands at the beginning of the bytes.
     pub fn new(bytes: &'a [u8]) -> Scan<'a>
         ensures { result ≡ spot 0 bytes.now }
     {
         Scan { at: 0, rest: bytes }
     }
 
-    /// The place of the scan, counted from the front.
+    /// The place of the scan, counted from the beginning.
     pub fn at(&self) -> usize
         ensures { result ≡ self.now.at }
     {
         self.at
     }
 
-    /// Reads a number: blanks, a sign or none, and decimal digits up to the first byte that is none.
+    /// The bytes from the place of the scan on.
+    pub fn rest(&self) -> &'a [u8]
+        ensures value { result.now ≡ self.now.rest }
+        ensures fits { self.now.at + length self.now.rest < 2 ^ 64 }
+    {
+        self.rest
+    }
+
+    /// Passes over so many bytes, of which there are as many.
+    pub fn pass(&mut self, count: usize)
+        requires { count ≤ length self.old.rest }
+        ensures { self.new ≡ spot (self.old.at + count) (drop count self.old.rest) }
+    {
+        self.at += count;
+        self.rest = &self.rest[count..];
+    }
+
+    /// Reads a number: whitespace, a sign or none, and decimal digits up to the first byte that is none.
     ///
     /// Its value lies within 32 bits with a sign. The faults are `NoNumber` and `BigNumber`. This call
     /// takes no memory. docs/FORMAT.md has the rule.
@@ -73,11 +90,13 @@ impl<'a> Scan<'a> {
     pub fn number(&mut self) -> Result<i32, TextFault>
         // What is read is spelled so, and what is spelled so is read.
         ensures spelled { IfOk result (λ z. Number z self.old.rest self.new.rest) }
-        ensures only { (z : ℤ) (rest : List ℕ) → Number z self.old.rest rest → (result ≡ Ok z) × (self.new.rest ≡ rest) }
+        ensures only { (z : ℤ) (rest : List ℕ) → Number z self.old.rest rest
+            → (result ≡ Ok z) × (self.new.rest ≡ rest) }
         ensures place { OnOk result (SameEnd self.old self.new) }
 
         // A fault is answered exactly where it stands, and the scan stays.
-        ensures exact { (fault : Fault) → (result ≡ Err (told fault)) ↔ NumberFault self.old fault }
+        ensures exact { (fault : Fault)
+            → (result ≡ Err (fault_answer fault)) ↔ NumberFault self.old fault }
         ensures no_memory { result ≢ Err TextFault.Memory }
         ensures stays { OnErr result (self.new ≡ self.old) }
 
@@ -88,7 +107,7 @@ impl<'a> Scan<'a> {
         self.next_number()
     }
 
-    /// Reads a string: blanks, a quote, and all up to the next quote that isn't directly followed by
+    /// Reads a string: whitespace, a quote, and all up to the next quote that isn't directly followed by
     /// another. Inside, two quotes and a grave accent are one quote each, and a return is dropped.
     ///
     /// At most 4,096 bytes are kept. The faults are `NoQuote`, `LongString`, `OpenString` and `Memory`.
@@ -97,12 +116,15 @@ impl<'a> Scan<'a> {
     pub fn quoted(&mut self, alloc: Global) -> Result<Vec<u8>, TextFault>
         // What is read is spelled so, and what is spelled so is read, unless memory runs out.
         ensures spelled { IfOk result (λ text. Quoted text.items self.old.rest self.new.rest) }
-        ensures only { (text rest : List ℕ) → Quoted text self.old.rest rest → IsText result text × OnOk result (self.new.rest ≡ rest) }
+        ensures only { (text rest : List ℕ) → Quoted text self.old.rest rest
+            → IsText result text × OnOk result (self.new.rest ≡ rest) }
         ensures place { OnOk result (SameEnd self.old self.new) }
 
         // A fault but `Memory` is answered only where it stands, and there, and the scan stays.
-        ensures exact { (fault : Fault) → result ≡ Err (told fault) → StringFault self.old fault }
-        ensures due { (fault : Fault) → StringFault self.old fault → IsErrOrMemory result (told fault) }
+        ensures exact { (fault : Fault) → result ≡ Err (fault_answer fault)
+            → StringFault self.old fault }
+        ensures expected { (fault : Fault) → StringFault self.old fault
+            → IsErrOrMemory result (fault_answer fault) }
         ensures stays { OnErr result (self.new ≡ self.old) }
 
         // The same as a function of the spot.
@@ -137,10 +159,10 @@ impl<'a> Scan<'a> {
         ensures fault { IfErr result (λ fault. IsFaultOf fault (number_at self.old)) }
         ensures stays { OnErr result (self.new ≡ self.old) }
     {
-        let start = self.behind_blanks();
-        let (negative, digits) = start.behind_sign();
-        let (number, behind) = digits.amount(negative, start.at)?;
-        *self = behind;
+        let start = self.after_whitespace();
+        let (negative, digits) = start.after_sign();
+        let (number, after) = digits.amount(negative, start.at)?;
+        *self = after;
         Ok(number)
     }
 
@@ -171,20 +193,20 @@ impl<'a> Scan<'a> {
         ensures fault { IfErr result (λ fault. Stands fault (quoted_at self.old)) }
         ensures stays { OnErr result (self.new ≡ self.old) }
     {
-        let start = self.behind_blanks();
-        let (text, behind) = start.string(alloc)?;
-        *self = behind;
+        let start = self.after_whitespace();
+        let (text, after) = start.string(alloc)?;
+        *self = after;
         Ok(text)
     }
 
-    // The scan behind the blanks.
-    fn behind_blanks(&self) -> Scan<'a>
-        ensures { result ≡ past_blanks self.now.at self.now.rest }
+    // The scan after the whitespace.
+    fn after_whitespace(&self) -> Scan<'a>
+        ensures { result ≡ past_whitespace self.now.at self.now.rest }
     {
         let mut at = self.at;
         let mut rest = self.rest;
         while let [byte, more @ ..] = rest {
-            if !is_blank(*byte) {
+            if !is_whitespace(*byte) {
                 break;
             }
             at += 1;
@@ -193,8 +215,8 @@ impl<'a> Scan<'a> {
         Scan { at, rest }
     }
 
-    // Whether a minus stands here, and the scan behind a sign.
-    fn behind_sign(&self) -> (bool, Scan<'a>)
+    // Whether a minus stands here, and the scan after a sign.
+    fn after_sign(&self) -> (bool, Scan<'a>)
         ensures { result ≡ past_sign self.now.at self.now.rest }
     {
         match self.rest {
@@ -222,16 +244,18 @@ impl<'a> Scan<'a> {
         }
     }
 
-    // The number of the digits here, and the scan behind them. The number began at `start`.
+    // The number of the digits here, and the scan after them. The number began at `start`.
     fn amount(&self, negative: bool, start: usize) -> Result<(i32, Scan<'a>), TextFault>
-        ensures { MatchResult result (λ x. amount_at negative start self.now.at self.now.rest ≡ Ok x) (λ fault. IsFaultOf fault (amount_at negative start self.now.at self.now.rest)) }
+        ensures { MatchResult result
+            (λ x. amount_at negative start self.now.at self.now.rest ≡ Ok x)
+            (λ fault. IsFaultOf fault (amount_at negative start self.now.at self.now.rest)) }
     {
         if let Some((amount, size)) = short_amount(self.rest) {
-            let behind = Scan {
+            let after = Scan {
                 at: self.at + size,
                 rest: &self.rest[size..],
             };
-            return Ok((signed(negative, u64::from(amount)), behind));
+            return Ok((signed(negative, u64::from(amount)), after));
         }
         let [first, more @ ..] = self.rest else {
             return Err(TextFault::NoNumber(start));
@@ -256,10 +280,12 @@ impl<'a> Scan<'a> {
         Ok((signed(negative, amount), Scan { at, rest }))
     }
 
-    // The text of the string that opens here, and the scan behind it.
+    // The text of the string that opens here, and the scan after it.
     fn string(&self, alloc: Global) -> Result<(Vec<u8>, Scan<'a>), TextFault>
-        ensures read { IfOk result (λ x. opening_at self.now.at self.now.rest ≡ Ok (x.0.items, x.1)) }
-        ensures fault { IfErr result (λ fault. Stands fault (opening_at self.now.at self.now.rest)) }
+        ensures read { IfOk result
+            (λ x. opening_at self.now.at self.now.rest ≡ Ok (x.0.items, x.1)) }
+        ensures fault { IfErr result
+            (λ fault. Stands fault (opening_at self.now.at self.now.rest)) }
     {
         let [b'"', more @ ..] = self.rest else {
             return Err(TextFault::NoQuote(self.at));
@@ -268,7 +294,7 @@ impl<'a> Scan<'a> {
         let mut held = false;
         let mut at = self.at + 1;
         let mut rest = more;
-        while let Some((length, quote)) = next_piece(&mut text, held, rest, self.at)? {
+        while let Some((length, quote)) = next_piece(alloc, &mut text, held, rest, self.at)? {
             at += length;
             rest = &rest[length..];
             held = quote;

@@ -1,12 +1,13 @@
 //! Writing numbers and strings.
 ghost use Rattle.std.specs.Prelude.{◌≡◌, ◌++◌, OnOk, OnErr, IsTrue};
-ghost use Rattle.adv_text.specs.Writing.{number_text, quoted_text, is_text};
+ghost use Rattle.adv_io.specs.Text.{is_text};
+ghost use Rattle.adv_text.specs.Writing.{number_text, quoted_text};
 
 use adv_io::Memory;
 use itoa::{Buffer, Integer};
 use std::alloc::Global;
 
-/// Writes an integer of any type at the end: its decimal digits without leading zeros, behind `-` where
+/// Writes an integer of any type at the end: its decimal digits without leading zeros, after `-` where
 /// it is negative.
 ///
 /// After a fault nothing was written.

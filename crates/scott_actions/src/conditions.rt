@@ -3,7 +3,7 @@ ghost use Rattle.std.specs.Prelude.{◌≡◌, ◌<◌, ◌==◌};
 ghost use Rattle.scott_types.specs.Condition.{condition_of};
 ghost use Rattle.scott_types.specs.State.{Fits, place_of};
 ghost use Rattle.scott_rules.specs.Conditions.{start_place, holds};
-ghost use Rattle.scott_rules.specs.Lines.{condition_holds, passes};
+ghost use Rattle.scott_rules.specs.Actions.{condition_holds, passes};
 
 use scott_types::{Action, Condition, Db, State};
 

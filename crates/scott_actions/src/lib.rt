@@ -10,13 +10,14 @@ mod items;
 mod rooms;
 
 // What it says, and all that it does.
-mod deeds;
-mod lines;
+mod actions;
+mod effects;
 mod messages;
 
+pub use actions::perform;
 pub use conditions::{holds, passes};
 pub use items::is_full;
-pub use lines::perform;
+pub use scott_types::Ran;
 
 #[cfg(test)]
 mod tests;

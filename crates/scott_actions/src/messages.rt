@@ -6,29 +6,17 @@ ghost use Rattle.scott_types.specs.Phrase.{text_of};
 ghost use Rattle.adv_io.specs.History.{says};
 ghost use Rattle.adv_io.specs.Console.{Speaks};
 ghost use Rattle.scott_types.specs.State.{Fits};
-ghost use Rattle.scott_rules.specs.Opcodes.{said_message, talk, told};
+ghost use Rattle.scott_rules.specs.Opcodes.{said_message, talk, opcode_text};
 ghost use Rattle.scott_rules.specs.Looking.{looked, scored};
 
-use adv_io::{Console, ConsoleFault, say_all};
+use adv_io::{Console, ConsoleFault, say_both};
 use itoa::Buffer;
-use scott_light::{inventory, look, look_behind, score};
+use scott_light::{inventory, look, look_after, score};
 use scott_types::{Db, Opcode, Phrase, State, TalkOp};
-
-// Says two texts, one behind the other.
-fn say_both<'a, C: Console>(
-    first: &'a [u8],
-    second: &'a [u8],
-    console: &mut C,
-) -> Result<(), ConsoleFault>
-    ensures { Speaks C.history C.left C.bound C.faults console.old console.new result
-        (says (first.now ++ second.now)) }
-{
-    say_all(console, &[first, second])
-}
 
 // Says a text and the end of its line.
 fn say_line<C: Console>(text: &[u8], console: &mut C) -> Result<(), ConsoleFault>
-    ensures { Speaks C.history C.left C.bound C.faults console.old console.new result
+    ensures { Speaks (C.seen console.old) (C.seen console.new) result
         (says (text.now ++ text_of Newline)) }
 {
     say_both(text, Phrase::Newline.text(), console)
@@ -36,14 +24,14 @@ fn say_line<C: Console>(text: &[u8], console: &mut C) -> Result<(), ConsoleFault
 
 // Says nothing, and makes no call.
 fn say_nothing<C: Console>(console: &mut C) -> Result<(), ConsoleFault>
-    ensures { Speaks C.history C.left C.bound C.faults console.old console.new result (says []) }
+    ensures { Speaks (C.seen console.old) (C.seen console.new) result (says []) }
 {
     Ok(())
 }
 
 // Says a message, or nothing where it isn't there.
 fn say_message<C: Console>(db: &Db, message: u32, console: &mut C) -> Result<(), ConsoleFault>
-    ensures { Speaks C.history C.left C.bound C.faults console.old console.new result
+    ensures { Speaks (C.seen console.old) (C.seen console.new) result
         (says (said_message db.now message)) }
 {
     let messages = db.messages();
@@ -55,7 +43,7 @@ fn say_message<C: Console>(db: &Db, message: u32, console: &mut C) -> Result<(),
 }
 
 fn say_number<C: Console>(number: i16, console: &mut C) -> Result<(), ConsoleFault>
-    ensures { Speaks C.history C.left C.bound C.faults console.old console.new result
+    ensures { Speaks (C.seen console.old) (C.seen console.new) result
         (says (signed_decimal number)) }
 {
     let mut buffer = Buffer::new();
@@ -71,7 +59,7 @@ fn talk<C: Console>(
     console: &mut C,
 ) -> Result<(), ConsoleFault>
     requires { Fits db.now state.now }
-    ensures { Speaks C.history C.left C.bound C.faults console.old console.new result
+    ensures { Speaks (C.seen console.old) (C.seen console.new) result
         (says (talk db.now noun.now op state.now)) }
 {
     match op {
@@ -88,16 +76,16 @@ fn talk<C: Console>(
 // The last words, and a look from where the dead wake.
 fn say_death<C: Console>(db: &Db, state: &State, console: &mut C) -> Result<(), ConsoleFault>
     requires { Fits db.now state.now }
-    ensures { Speaks C.history C.left C.bound C.faults console.old console.new result
+    ensures { Speaks (C.seen console.old) (C.seen console.new) result
         (says (text_of Dead ++ looked db.now state.now)) }
 {
-    look_behind(Phrase::Dead.text(), db, state, console)
+    look_after(Phrase::Dead.text(), db, state, console)
 }
 
 // The score, whatever it is.
 fn say_score<C: Console>(db: &Db, state: &State, console: &mut C) -> Result<(), ConsoleFault>
     requires { Fits db.now state.now }
-    ensures { Speaks C.history C.left C.bound C.faults console.old console.new result
+    ensures { Speaks (C.seen console.old) (C.seen console.new) result
         (says (scored db.now state.now)) }
 {
     let _all = score(db, state, console)?;
@@ -106,7 +94,7 @@ fn say_score<C: Console>(db: &Db, state: &State, console: &mut C) -> Result<(), 
 
 // A refusal where the hands are full, and nothing otherwise.
 fn say_refusal<C: Console>(full: bool, console: &mut C) -> Result<(), ConsoleFault>
-    ensures { Speaks C.history C.left C.bound C.faults console.old console.new result
+    ensures { Speaks (C.seen console.old) (C.seen console.new) result
         (says (if full then text_of TooMuch else [])) }
 {
     if full {
@@ -118,7 +106,7 @@ fn say_refusal<C: Console>(full: bool, console: &mut C) -> Result<(), ConsoleFau
 
 /// Says what an opcode says, in the state that it leaves; `full` tells whether the hands were full
 /// before it.
-pub fn tell<C: Console>(
+pub fn say_opcode_text<C: Console>(
     db: &Db,
     state: &State,
     noun: &[u8],
@@ -127,8 +115,8 @@ pub fn tell<C: Console>(
     console: &mut C,
 ) -> Result<(), ConsoleFault>
     requires { Fits db.now state.now }
-    ensures { Speaks C.history C.left C.bound C.faults console.old console.new result
-        (says (told db.now noun.now opcode full state.now)) }
+    ensures { Speaks (C.seen console.old) (C.seen console.new) result
+        (says (opcode_text db.now noun.now opcode full state.now)) }
 {
     match opcode {
         Opcode::Say(message) => say_message(db, message, console),

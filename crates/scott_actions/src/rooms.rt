@@ -17,7 +17,11 @@ fn go_to(db: &Db, state: &mut State, room: u32)
 }
 
 fn swap_saved(state: &mut State)
-    ensures { state.new ≡ record state.old { room = state.old.saved; saved = state.old.room; redraw = true } }
+    ensures { state.new ≡ record state.old {
+      room = state.old.saved;
+      saved = state.old.room;
+      redraw = true;
+    } }
 {
     let room = state.room;
     state.room = state.saved;

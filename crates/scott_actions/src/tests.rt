@@ -1,5 +1,5 @@
 //! What action lines do with ample memory, on a hall with a rug and a pin that is carried.
-use crate::lines::perform;
+use crate::actions::perform;
 use adv_io::{Memory, MemoryConsole};
 use scott_types::{Action, Db, Header, Item, Parts, Ran, Room, State, Text, Trailer, Word};
 use std::alloc::{AllocError, Global};

@@ -6,27 +6,27 @@ use Rattle.std.proofs.lemmas.Bool.{and_parts, and_from, le-leb}
 use Rattle.std.proofs.lemmas.List.Concat.{flat_map-cons}
 use Rattle.std.proofs.lemmas.Int.{ints}
 use Rattle.adv_text.specs.Laws.{Fits32}
-use Rattle.adv_text.specs.Writing.{is_text_byte as is_kept_byte}
-use Rattle.adv_text.specs.Writing.{is_text as is_kept}
-use Rattle.scott_types.specs.Limits.{is_text, is_text_byte, is_number}
+use Rattle.adv_io.specs.Text.{is_text_byte as is_kept_byte}
+use Rattle.adv_io.specs.Text.{is_text as is_kept}
+use Rattle.scott_types.specs.Limits.{is_file_text, is_file_byte, is_number}
 use Rattle.scott_format.specs.Plan.{Plan, done, check, number, quoted, perhaps, ◌>>=◌, many, Spelled}
 use Rattle.scott_format.specs.Canon.{Token, line_text, lines_text}
 
--- ---- one plan behind another
+-- ---- one plan after another
 
-pub Spelled-then : {X Y : Type 0} (p : Plan X) (f : X → Plan Y) (x : X) (y : Y) (bytes behind rest : List ℕ) → Spelled p x bytes behind → Spelled (f x) y behind rest
+pub Spelled-then : {X Y : Type 0} (p : Plan X) (f : X → Plan Y) (x : X) (y : Y) (bytes remaining rest : List ℕ) → Spelled p x bytes remaining → Spelled (f x) y remaining rest
     → Spelled (p >>= f) y bytes rest
-Spelled-then (done z) f x y bytes behind rest h next =
-    subst (λ (b : List ℕ). Spelled (f z) y b rest) (sym h.1) (subst (λ v. Spelled (f v) y behind rest) (sym h.0) next)
-Spelled-then (check test fault p) f x y bytes behind rest h next = (h.0, Spelled-then p f x y bytes behind rest h.1 next)
-Spelled-then (number p) f x y bytes behind rest h next = (h.0, h.1, h.2, Spelled-then (p h.0) f x y h.1 behind rest h.3 next)
-Spelled-then (quoted p) f x y bytes behind rest h next = (h.0, h.1, h.2, Spelled-then (p h.0) f x y h.1 behind rest h.3 next)
-Spelled-then (perhaps p) f x y bytes behind rest (inl h) next = inl (h.0, h.1, h.2, Spelled-then (p (Some h.0)) f x y h.1 behind rest h.3 next)
-Spelled-then (perhaps p) f x y bytes behind rest (inr h) next = inr (h.0, Spelled-then (p None) f x y bytes behind rest h.1 next)
+Spelled-then (done z) f x y bytes remaining rest h next =
+    subst (λ (b : List ℕ). Spelled (f z) y b rest) (sym h.1) (subst (λ v. Spelled (f v) y remaining rest) (sym h.0) next)
+Spelled-then (check test fault p) f x y bytes remaining rest h next = (h.0, Spelled-then p f x y bytes remaining rest h.1 next)
+Spelled-then (number p) f x y bytes remaining rest h next = (h.0, h.1, h.2, Spelled-then (p h.0) f x y h.1 remaining rest h.3 next)
+Spelled-then (quoted p) f x y bytes remaining rest h next = (h.0, h.1, h.2, Spelled-then (p h.0) f x y h.1 remaining rest h.3 next)
+Spelled-then (perhaps p) f x y bytes remaining rest (inl h) next = inl (h.0, h.1, h.2, Spelled-then (p (Some h.0)) f x y h.1 remaining rest h.3 next)
+Spelled-then (perhaps p) f x y bytes remaining rest (inr h) next = inr (h.0, Spelled-then (p None) f x y bytes remaining rest h.1 next)
 
 -- ---- a list
 
--- an entry's line, behind a line's end
+-- an entry's line, after a line's end
 abbrev pub EntrySpelled : {X : Type 0} → Plan X → (X → List Token) → X → Type 0
 EntrySpelled p line x = (rest : List ℕ) → Spelled p x (10 ∷ (line_text (line x) ++ rest)) (10 ∷ rest)
 
@@ -37,11 +37,11 @@ unfolding many
 many_spelled piece line ok each [] k all rest = (refl, refl)
 many_spelled piece line ok each (x ∷ xs) k all rest =
     let parts = and_parts (ok x) (list_all ok xs) all in
-    let behind = 10 ∷ (lines_text line xs ++ rest) in
-    let others = Spelled-then (many piece (k + 1) (length xs)) (λ ys. done (x ∷ ys)) xs (x ∷ xs) behind (10 ∷ rest) (10 ∷ rest)
+    let remaining = 10 ∷ (lines_text line xs ++ rest) in
+    let others = Spelled-then (many piece (k + 1) (length xs)) (λ ys. done (x ∷ ys)) xs (x ∷ xs) remaining (10 ∷ rest) (10 ∷ rest)
     (many_spelled piece line ok each xs (k + 1) parts.1 rest) (refl, refl) in
     let whole = Spelled-then (piece k) (λ y. many piece (k + 1) (length xs) >>= λ ys. done (y ∷ ys)) x (x ∷ xs)
-    (10 ∷ (line_text (line x) ++ (lines_text line xs ++ rest))) behind (10 ∷ rest) (each k x parts.0 (lines_text line xs ++ rest)) others in
+    (10 ∷ (line_text (line x) ++ (lines_text line xs ++ rest))) remaining (10 ∷ rest) (each k x parts.0 (lines_text line xs ++ rest)) others in
     rw (flat_map-cons, append_assoc) whole
 
 -- ---- tests
@@ -59,11 +59,11 @@ natural_fits n h = (omega (arith, ints), omega (arith, ints))
 pub within : (least most n : ℕ) → least ≤ n → n ≤ most → (int_le (pos least) (pos n) && int_le (pos n) (pos most)) ≡ true
 within least most n low high = and_from _ _ (le-leb least n low) (le-leb n most high)
 
-kept_bytes : (t : List ℕ) → list_all is_text_byte t ≡ true → list_all is_kept_byte t ≡ true
+kept_bytes : (t : List ℕ) → list_all is_file_byte t ≡ true → list_all is_kept_byte t ≡ true
 kept_bytes [] h = refl
 kept_bytes (b ∷ t) h =
-    let parts = and_parts (is_text_byte b) (list_all is_text_byte t) h in
+    let parts = and_parts (is_file_byte b) (list_all is_file_byte t) h in
     and_from _ _ (and_parts (ltb b 256) (is_kept_byte b) parts.0).1 (kept_bytes t parts.1)
 
-pub kept : (t : List ℕ) → is_text t ≡ true → is_kept t ≡ true
-kept t h = let parts = and_parts (leb (length t) 4096) (list_all is_text_byte t) h in and_from _ _ parts.0 (kept_bytes t parts.1)
+pub kept : (t : List ℕ) → is_file_text t ≡ true → is_kept t ≡ true
+kept t h = let parts = and_parts (leb (length t) 4096) (list_all is_file_byte t) h in and_from _ _ parts.0 (kept_bytes t parts.1)

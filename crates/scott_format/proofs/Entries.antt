@@ -10,7 +10,7 @@ use Rattle.scott_types.specs.declared.parts.Word.{Word}
 use Rattle.scott_types.specs.declared.parts.Room.{Room}
 use Rattle.scott_types.specs.declared.parts.Item.{Item}
 use Rattle.scott_types.specs.declared.parts.Trailer.{Trailer}
-use Rattle.scott_types.specs.Limits.{is_text, is_number, is_natural, is_action, is_word, is_room, is_item, is_trailer}
+use Rattle.scott_types.specs.Limits.{is_file_text, is_number, is_natural, is_action, is_word, is_room, is_item, is_trailer}
 use Rattle.scott_format.specs.Plan.{Plan, done, Spelled}
 use Rattle.scott_format.specs.Sections.{action, word, room, string, item, trailer, low_byte}
 use Rattle.scott_format.specs.Canon.{Token, num, str, line_text, action_line, word_line, room_line, string_line, item_line, trailer_line}
@@ -98,17 +98,17 @@ module _ (laws : TextLaws) where
   pub word_spelled : (w : Word) → is_word w ≡ true → EntrySpelled word word_line w
   unfolding word
   word_spelled w ok =
-      let h = and_parts (is_text w.verb) (is_text w.noun) ok in
+      let h = and_parts (is_file_text w.verb) (is_file_text w.noun) ok in
       entry word (str w.verb) (str w.noun ∷ []) w (a_string (kept w.verb h.0) (a_string (kept w.noun h.1) fed))
 
-  pub string_spelled : (t : List ℕ) → is_text t ≡ true → EntrySpelled string string_line t
+  pub string_spelled : (t : List ℕ) → is_file_text t ≡ true → EntrySpelled string string_line t
   string_spelled t ok = entry string (str t) [] t (a_string (kept t ok) fed)
 
   pub room_spelled : (r : Room) → is_room r ≡ true → EntrySpelled room room_line r
   unfolding room
   room_spelled r ok =
       let length_is = and_parts (eqb (length r.exits) 6) _ ok in
-      let parts = and_parts (list_all is_number r.exits) (is_text r.text) length_is.1 in
+      let parts = and_parts (list_all is_number r.exits) (is_file_text r.text) length_is.1 in
       let e = six r.exits (eqb-true (length r.exits) 6 length_is.0) in
       let IsSpelled : List ℤ → Type 0 = λ xs. list_all is_number xs ≡ true → EntrySpelled room room_line (record { exits = xs; text = r.text }) in
       let plain : IsSpelled (e.0 ∷ e.1 ∷ e.2 ∷ e.3 ∷ e.4 ∷ e.5 ∷ []) =
@@ -128,7 +128,7 @@ module _ (laws : TextLaws) where
   pub item_spelled : (i : Item) → is_item i ≡ true → EntrySpelled item item_line i
   unfolding item
   item_spelled i ok =
-      let h = and_parts (is_text i.text) (leb i.place 255) ok in
+      let h = and_parts (is_file_text i.text) (leb i.place 255) ok in
       let place : i.place ≤ 255 = leb-true i.place 255 h.1 in
       let same : low_byte (pos i.place) ≡ i.place = omega arith in
       let read : Item = record { text = i.text; place = low_byte (pos i.place) } in

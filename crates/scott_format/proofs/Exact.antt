@@ -44,13 +44,13 @@ module _ (laws : TextLaws) where
   run-spelled (check test fault p) s after x e =
       let h = check-ok test fault (run p s) (x, after) e in (h.0, run-spelled p s after x h.1)
   run-spelled (number next) s after x e =
-      let h = onward-ok (number_at s) (λ z behind. run (next z) behind) (x, after) e in
+      let h = onward-ok (number_at s) (λ z remaining. run (next z) remaining) (x, after) e in
       (h.0, h.1.rest, laws.number_is_spelled s h.1 h.0 h.2, run-spelled (next h.0) h.1 after x h.3)
   run-spelled (quoted next) s after x e =
-      let h = onward-ok (quoted_at s) (λ t behind. run (next t) behind) (x, after) e in
+      let h = onward-ok (quoted_at s) (λ t remaining. run (next t) remaining) (x, after) e in
       (h.0, h.1.rest, laws.string_is_spelled s h.1 h.0 h.2, run-spelled (next h.0) h.1 after x h.3)
   run-spelled (perhaps next) s after x e =
-      elim (perhaps-ok (number_at s) s (λ o behind. run (next o) behind) (x, after) e) [
+      elim (perhaps-ok (number_at s) s (λ o remaining. run (next o) remaining) (x, after) e) [
         | inl h ↦ inl (h.0, h.1.rest, laws.number_is_spelled s h.1 h.0 h.2, run-spelled (next (Some h.0)) h.1 after x h.3)
         | inr h ↦ let missing = (laws.number_fault_is_exact s (no_number h.0)).0 h.1 in inr ((missing.0, missing.1), run-spelled (next None) s after x h.2)
       ]
@@ -67,16 +67,16 @@ module _ (laws : TextLaws) where
   spelled-run (number next) s x rest h =
       let r = laws.spelled_number_is_read s h.0 h.1 h.2 in
       let more = spelled-run (next h.0) r.0 x rest (subst (λ (b : List ℕ). Spelled (next h.0) x b rest) (sym r.1) h.3) in
-      (more.0, more.1, ap (λ t. onward t (λ z behind. run (next z) behind)) r.2 ∙ more.2)
+      (more.0, more.1, ap (λ t. onward t (λ z remaining. run (next z) remaining)) r.2 ∙ more.2)
   spelled-run (quoted next) s x rest h =
       let r = laws.spelled_string_is_read s h.0 h.1 h.2 in
       let more = spelled-run (next h.0) r.0 x rest (subst (λ (b : List ℕ). Spelled (next h.0) x b rest) (sym r.1) h.3) in
-      (more.0, more.1, ap (λ t. onward t (λ z behind. run (next z) behind)) r.2 ∙ more.2)
+      (more.0, more.1, ap (λ t. onward t (λ z remaining. run (next z) remaining)) r.2 ∙ more.2)
   spelled-run (perhaps next) s x rest (inl h) =
       let r = laws.spelled_number_is_read s h.0 h.1 h.2 in
       let more = spelled-run (next (Some h.0)) r.0 x rest (subst (λ (b : List ℕ). Spelled (next (Some h.0)) x b rest) (sym r.1) h.3) in
-      (more.0, more.1, ap (λ t. onward_perhaps t s (λ o behind. run (next o) behind)) r.2 ∙ more.2)
+      (more.0, more.1, ap (λ t. onward_perhaps t s (λ o remaining. run (next o) remaining)) r.2 ∙ more.2)
   spelled-run (perhaps next) s x rest (inr h) =
       let r = (laws.number_fault_is_exact s (no_number (s.at + h.0.0))).1 (h.0.0, h.0.1, refl) in
       let more = spelled-run (next None) s x rest h.1 in
-      (more.0, more.1, ap (λ t. onward_perhaps t s (λ o behind. run (next o) behind)) r ∙ more.2)
+      (more.0, more.1, ap (λ t. onward_perhaps t s (λ o remaining. run (next o) remaining)) r ∙ more.2)

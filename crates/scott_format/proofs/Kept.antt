@@ -4,13 +4,13 @@ use Rattle.std.specs.Prelude.{IfSome, IsTrue, int_le, unsigned_abs, unwrap_or}
 use Rattle.std.proofs.lemmas.Bool.{and_parts, and_from, leb-true, le-leb}
 use Rattle.std.proofs.lemmas.Int.{ints}
 use Rattle.adv_text.specs.Laws.{Fits32}
-use Rattle.scott_types.specs.Limits.{is_text, is_number, is_natural, is_action, is_word, is_room, is_item, is_trailer, KeepsLimits}
+use Rattle.scott_types.specs.Limits.{is_file_text, is_number, is_natural, is_action, is_word, is_room, is_item, is_trailer, KeepsLimits}
 use Rattle.scott_types.specs.Database.{Database}
 use Rattle.scott_format.specs.declared.header.Sizes.{Sizes}
-use Rattle.scott_format.specs.declared.header.Course.{Course}
+use Rattle.scott_format.specs.declared.header.PlayNumbers.{PlayNumbers}
 use Rattle.scott_format.specs.declared.header.Closing.{Closing}
 use Rattle.scott_format.specs.Plan.{Plan, ◌>>=◌, many}
-use Rattle.scott_format.specs.Sections.{sizes, course, closing, action, word, room, string, item, trailer, low_byte}
+use Rattle.scott_format.specs.Sections.{sizes, play_numbers, closing, action, word, room, string, item, trailer, low_byte}
 use Rattle.scott_format.specs.File.{file, body, header_of}
 use Rattle.scott_format.proofs.Always.{Always, Always-then, Always-many, AreAll}
 
@@ -49,7 +49,7 @@ sizes_keep = λ unused u items i items-in actions a actions-in words w words-in 
   rooms = (natural_range 0 254 rooms rooms-in).1;
 }
 
-record IsCourse (rooms : ℕ) (c : Course) : Type 0 where
+record ArePlayNumbers (rooms : ℕ) (c : PlayNumbers) : Type 0 where
   carry : is_number c.carry ≡ true
   start : c.start ≤ rooms
   treasures : is_number c.treasures ≡ true
@@ -60,9 +60,9 @@ record IsCourse (rooms : ℕ) (c : Course) : Type 0 where
 light_from : (z : ℤ) → int_le (negsuc 0) z ≡ true → negsuc 0 ≤ℤ z
 light_from z e = grind (arith, ints)
 
-course_keep : (rooms : ℕ) → Always (course rooms) (IsCourse rooms)
-unfolding course
-course_keep rooms = λ carry c start s start-in treasures t length n length-in light l light-in. record {
+play_numbers_keep : (rooms : ℕ) → Always (play_numbers rooms) (ArePlayNumbers rooms)
+unfolding play_numbers
+play_numbers_keep rooms = λ carry c start s start-in treasures t length n length-in light l light-in. record {
   carry = is_number-fits carry c;
   start = (natural_range 0 rooms start start-in).1;
   treasures = is_number-fits treasures t;
@@ -95,12 +95,12 @@ word_keep = λ verb v noun n. and_from _ _ v n
 
 room_keep : Always room (λ r. IsTrue (is_room r))
 unfolding room
-room_keep = λ north n south s east e west w up u down d t is_text.
+room_keep = λ north n south s east e west w up u down d t is_file_text.
     let exits = and_from _ _ (is_number-fits north n) (and_from _ _ (is_number-fits south s) (and_from _ _ (is_number-fits east e)
     (and_from _ _ (is_number-fits west w) (and_from _ _ (is_number-fits up u) (and_from _ _ (is_number-fits down d) refl))))) in
-    and_from _ _ refl (and_from _ _ exits is_text)
+    and_from _ _ refl (and_from _ _ exits is_file_text)
 
-string_keep : Always string (λ t. IsTrue (is_text t))
+string_keep : Always string (λ t. IsTrue (is_file_text t))
 string_keep = λ t h. h
 
 low_byte-le : (z : ℤ) → low_byte z ≤ 255
@@ -109,7 +109,7 @@ low_byte-le (negsuc n) = omega arith
 
 item_keep : Always item (λ i. IsTrue (is_item i))
 unfolding item
-item_keep = λ t is_text place p. and_from _ _ is_text (le-leb _ _ (low_byte-le place))
+item_keep = λ t is_file_text place p. and_from _ _ is_file_text (le-leb _ _ (low_byte-le place))
 
 third_fits : (o : Option ℤ) → IfSome o Fits32 → is_number (unwrap_or o (pos 0)) ≡ true
 third_fits (Some z) fits = is_number-fits z fits
@@ -123,38 +123,38 @@ trailer_keep = λ version v adventure a third t.
 -- ---- the whole
 
 -- what is known of the parts of a file
-record PartsKeep (front : Sizes) (middle : Course) (end : Closing) (db : Database) : Type 0 where
-  sizes_in : AreSizes front
-  course_in : IsCourse front.rooms middle
+record PartsKeep (counts : Sizes) (numbers : PlayNumbers) (end : Closing) (db : Database) : Type 0 where
+  sizes_in : AreSizes counts
+  numbers_in : ArePlayNumbers counts.rooms numbers
   closing_in : IsClosing end
-  header : db.header ≡ header_of front middle end
-  actions : AreAll is_action (front.actions + 1) db.actions
-  words : AreAll is_word (front.words + 1) db.words
-  rooms : AreAll is_room (front.rooms + 1) db.rooms
-  messages : AreAll is_text (end.messages + 1) db.messages
-  items : AreAll is_item (front.items + 1) db.items
-  comments : AreAll is_text (front.actions + 1) db.comments
+  header : db.header ≡ header_of counts numbers end
+  actions : AreAll is_action (counts.actions + 1) db.actions
+  words : AreAll is_word (counts.words + 1) db.words
+  rooms : AreAll is_room (counts.rooms + 1) db.rooms
+  messages : AreAll is_file_text (end.messages + 1) db.messages
+  items : AreAll is_item (counts.items + 1) db.items
+  comments : AreAll is_file_text (counts.actions + 1) db.comments
   trailer : IsTrue (is_trailer db.trailer)
 
 list_fits : {X : Type 0} (test : X → Bool) (xs : List X) (highest most : ℕ) → AreAll test (highest + 1) xs → highest + 1 ≤ most
     → (leb 1 (length xs) && leb (length xs) most) ≡ true
 list_fits test xs highest most h le = and_from _ _ (le-leb 1 (length xs) (omega (arith, h.1))) (le-leb (length xs) most (omega (arith, h.1)))
 
-keeps : (front : Sizes) (middle : Course) (end : Closing) (db : Database) → PartsKeep front middle end db → KeepsLimits db
-keeps front middle end db h = record {
+keeps : (counts : Sizes) (numbers : PlayNumbers) (end : Closing) (db : Database) → PartsKeep counts numbers end db → KeepsLimits db
+keeps counts numbers end db h = record {
   header = rw h.header (record {
-    length_range = h.course_in.length_range;
-    light_range = h.course_in.light_range;
-    start_there = omega (arith, h.course_in.start, h.rooms.1);
-    numbers = and_from _ _ h.sizes_in.unused (and_from _ _ h.course_in.carry (and_from _ _ h.course_in.treasures
-        (and_from _ _ h.course_in.light (and_from _ _ h.closing_in.home refl))));
+    length_range = h.numbers_in.length_range;
+    light_range = h.numbers_in.light_range;
+    start_there = omega (arith, h.numbers_in.start, h.rooms.1);
+    numbers = and_from _ _ h.sizes_in.unused (and_from _ _ h.numbers_in.carry (and_from _ _ h.numbers_in.treasures
+        (and_from _ _ h.numbers_in.light (and_from _ _ h.closing_in.home refl))));
   });
   sizes = record {
-    actions = list_fits is_action db.actions front.actions 5000 h.actions (omega (arith, h.sizes_in.actions));
-    words = list_fits is_word db.words front.words 1000 h.words (omega (arith, h.sizes_in.words));
-    rooms = list_fits is_room db.rooms front.rooms 255 h.rooms (omega (arith, h.sizes_in.rooms));
-    messages = list_fits is_text db.messages end.messages 1000 h.messages (omega (arith, h.closing_in.messages));
-    items = list_fits is_item db.items front.items 255 h.items (omega (arith, h.sizes_in.items));
+    actions = list_fits is_action db.actions counts.actions 5000 h.actions (omega (arith, h.sizes_in.actions));
+    words = list_fits is_word db.words counts.words 1000 h.words (omega (arith, h.sizes_in.words));
+    rooms = list_fits is_room db.rooms counts.rooms 255 h.rooms (omega (arith, h.sizes_in.rooms));
+    messages = list_fits is_file_text db.messages end.messages 1000 h.messages (omega (arith, h.closing_in.messages));
+    items = list_fits is_item db.items counts.items 255 h.items (omega (arith, h.sizes_in.items));
   };
   entries = record {
     actions = h.actions.0;
@@ -174,19 +174,19 @@ then Q f p h next = Always-then Q KeepsLimits f p h next
 pub file_keeps : Always file KeepsLimits
 unfolding file body
 file_keeps =
-    then AreSizes _ sizes sizes_keep (λ front s.
-    then (IsCourse front.rooms) _ (course front.rooms) (course_keep front.rooms) (λ middle c.
+    then AreSizes _ sizes sizes_keep (λ counts s.
+    then (ArePlayNumbers counts.rooms) _ (play_numbers counts.rooms) (play_numbers_keep counts.rooms) (λ numbers c.
     then IsClosing _ closing closing_keep (λ end e.
-    then (AreAll is_action (front.actions + 1)) _ (many action 0 (front.actions + 1)) (Always-many is_action action action_keep 0 (front.actions + 1)) (λ actions a.
-    then (AreAll is_word (front.words + 1)) _ (many (λ k. word) 0 (front.words + 1)) (Always-many is_word (λ k. word) (λ k. word_keep) 0 (front.words + 1)) (λ words w.
-    then (AreAll is_room (front.rooms + 1)) _ (many (λ k. room) 0 (front.rooms + 1)) (Always-many is_room (λ k. room) (λ k. room_keep) 0 (front.rooms + 1)) (λ rooms r.
-    then (AreAll is_text (end.messages + 1)) _ (many (λ k. string) 0 (end.messages + 1)) (Always-many is_text (λ k. string) (λ k. string_keep) 0 (end.messages + 1)) (λ messages m.
-    then (AreAll is_item (front.items + 1)) _ (many (λ k. item) 0 (front.items + 1)) (Always-many is_item (λ k. item) (λ k. item_keep) 0 (front.items + 1)) (λ items i.
-    then (AreAll is_text (front.actions + 1)) _ (many (λ k. string) 0 (front.actions + 1)) (Always-many is_text (λ k. string) (λ k. string_keep) 0 (front.actions + 1)) (λ comments t.
+    then (AreAll is_action (counts.actions + 1)) _ (many action 0 (counts.actions + 1)) (Always-many is_action action action_keep 0 (counts.actions + 1)) (λ actions a.
+    then (AreAll is_word (counts.words + 1)) _ (many (λ k. word) 0 (counts.words + 1)) (Always-many is_word (λ k. word) (λ k. word_keep) 0 (counts.words + 1)) (λ words w.
+    then (AreAll is_room (counts.rooms + 1)) _ (many (λ k. room) 0 (counts.rooms + 1)) (Always-many is_room (λ k. room) (λ k. room_keep) 0 (counts.rooms + 1)) (λ rooms r.
+    then (AreAll is_file_text (end.messages + 1)) _ (many (λ k. string) 0 (end.messages + 1)) (Always-many is_file_text (λ k. string) (λ k. string_keep) 0 (end.messages + 1)) (λ messages m.
+    then (AreAll is_item (counts.items + 1)) _ (many (λ k. item) 0 (counts.items + 1)) (Always-many is_item (λ k. item) (λ k. item_keep) 0 (counts.items + 1)) (λ items i.
+    then (AreAll is_file_text (counts.actions + 1)) _ (many (λ k. string) 0 (counts.actions + 1)) (Always-many is_file_text (λ k. string) (λ k. string_keep) 0 (counts.actions + 1)) (λ comments t.
     then (λ l. IsTrue (is_trailer l)) _ trailer trailer_keep (λ last l.
-    keeps front middle end _ (record {
+    keeps counts numbers end _ (record {
       sizes_in = s;
-      course_in = c;
+      numbers_in = c;
       closing_in = e;
       header = refl;
       actions = a;

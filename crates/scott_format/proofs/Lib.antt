@@ -3,7 +3,7 @@ pub mod Loop
 pub mod Exact
 pub mod Always
 pub mod Kept
-pub mod Told
+pub mod Answered
 pub mod Tokens
 pub mod CanonText
 pub mod Entries

@@ -54,7 +54,7 @@ module _ {X Y : Type 0} (f : X → Plan Y) where
   perhaps-then (Err (open_string at)) s go_on then e = refl
   perhaps-then (Err (long_string at)) s go_on then e = refl
 
-  -- a plan and then another are read one behind the other
+  -- a plan and then another are read one after the other
   pub run-then : (p : Plan X) (s : Spot) → run (p >>= f) s ≡ and_then (run p s) next
   run-then (done x) s = refl
   run-then (check test fault p) s = check-then test fault (run p s) (run (p >>= f) s) (run-then p s)

@@ -4,43 +4,43 @@ use Rattle.std.specs.List.{flat_map}
 use Rattle.std.proofs.lemmas.List.{map-append}
 use Rattle.std.proofs.lemmas.List.Concat.{flat_map-cons}
 use Rattle.adv_text.specs.Writing.{number_text, quoted_text}
-use Rattle.scott_format.specs.Canon.{Token, num, str, token_text, line_text, number_and_blank}
+use Rattle.scott_format.specs.Canon.{Token, num, str, token_text, line_text, number_and_space}
 
 line_more : (t : Token) (ts : List Token) (u : Token) (us : List Token) → line_text (t ∷ (ts ++ u ∷ us)) ≡ token_text t ++ 32 ∷ line_text (ts ++ u ∷ us)
 line_more t [] u us = refl
 line_more t (x ∷ ts) u us = refl
 
--- numbers at the front of a line have a blank behind each
+-- numbers at the start of a line have a space after each
 pub numbers_first : {X : Type 0} (value : X → ℤ) (xs : List X) (u : Token) (us : List Token)
-    → line_text (map (λ x. num (value x)) xs ++ u ∷ us) ≡ flat_map (λ x. number_and_blank (value x)) xs ++ line_text (u ∷ us)
+    → line_text (map (λ x. num (value x)) xs ++ u ∷ us) ≡ flat_map (λ x. number_and_space (value x)) xs ++ line_text (u ∷ us)
 numbers_first value [] u us = refl
 numbers_first value (x ∷ xs) u us =
     line_more (num (value x)) (map (λ x. num (value x)) xs) u us
     ∙ ap (λ (t : List ℕ). number_text (value x) ++ 32 ∷ t) (numbers_first value xs u us)
-    ∙ sym (append_assoc (number_text (value x)) (32 ∷ []) (flat_map (λ x. number_and_blank (value x)) xs ++ line_text (u ∷ us)))
-    ∙ sym (append_assoc (number_and_blank (value x)) (flat_map (λ x. number_and_blank (value x)) xs) (line_text (u ∷ us)))
-    ∙ ap (λ (t : List ℕ). t ++ line_text (u ∷ us)) (sym (flat_map-cons (λ x. number_and_blank (value x)) x xs))
+    ∙ sym (append_assoc (number_text (value x)) (32 ∷ []) (flat_map (λ x. number_and_space (value x)) xs ++ line_text (u ∷ us)))
+    ∙ sym (append_assoc (number_and_space (value x)) (flat_map (λ x. number_and_space (value x)) xs) (line_text (u ∷ us)))
+    ∙ ap (λ (t : List ℕ). t ++ line_text (u ∷ us)) (sym (flat_map-cons (λ x. number_and_space (value x)) x xs))
 
 -- exits and a text, as they were written
-pub room_written : (out a b : List ℕ) (exits : List ℤ) (text : List ℕ) → a ≡ out ++ flat_map number_and_blank exits → b ≡ a ++ (quoted_text text ++ 10 ∷ [])
+pub room_written : (out a b : List ℕ) (exits : List ℤ) (text : List ℕ) → a ≡ out ++ flat_map number_and_space exits → b ≡ a ++ (quoted_text text ++ 10 ∷ [])
     → b ≡ out ++ line_text (map num exits ++ str text ∷ [])
 room_written out a b exits text e f =
-    f ∙ ap (λ (t : List ℕ). t ++ (quoted_text text ++ 10 ∷ [])) e ∙ append_assoc out (flat_map number_and_blank exits) (quoted_text text ++ 10 ∷ [])
+    f ∙ ap (λ (t : List ℕ). t ++ (quoted_text text ++ 10 ∷ [])) e ∙ append_assoc out (flat_map number_and_space exits) (quoted_text text ++ 10 ∷ [])
     ∙ ap (λ (t : List ℕ). out ++ t) (sym (numbers_first (λ z. z) exits (str text) []))
 
 -- numbers on a line, as they were written
-pub numbers_written : (out a b : List ℕ) (zs : List ℤ) (z : ℤ) → a ≡ out ++ flat_map number_and_blank zs → b ≡ a ++ (number_text z ++ 10 ∷ [])
+pub numbers_written : (out a b : List ℕ) (zs : List ℤ) (z : ℤ) → a ≡ out ++ flat_map number_and_space zs → b ≡ a ++ (number_text z ++ 10 ∷ [])
     → b ≡ out ++ line_text (map num zs ++ num z ∷ [])
 numbers_written out a b zs z e f =
-    f ∙ ap (λ (t : List ℕ). t ++ (number_text z ++ 10 ∷ [])) e ∙ append_assoc out (flat_map number_and_blank zs) (number_text z ++ 10 ∷ [])
+    f ∙ ap (λ (t : List ℕ). t ++ (number_text z ++ 10 ∷ [])) e ∙ append_assoc out (flat_map number_and_space zs) (number_text z ++ 10 ∷ [])
     ∙ ap (λ (t : List ℕ). out ++ t) (sym (numbers_first (λ z. z) zs (num z) []))
 
 -- the line of an action's numbers
 numbers_text : (v p q : ℕ) (conds : List ℕ) → line_text (map (λ n. num (pos n)) (v ∷ (conds ++ p ∷ q ∷ [])))
-    ≡ number_and_blank (pos v) ++ (flat_map (λ n. number_and_blank (pos n)) conds ++ (number_and_blank (pos p) ++ (number_text (pos q) ++ 10 ∷ [])))
+    ≡ number_and_space (pos v) ++ (flat_map (λ n. number_and_space (pos n)) conds ++ (number_and_space (pos p) ++ (number_text (pos q) ++ 10 ∷ [])))
 numbers_text v p q conds =
     let f : ℕ → Token = λ n. num (pos n) in
-    let g : ℕ → List ℕ = λ n. number_and_blank (pos n) in
+    let g : ℕ → List ℕ = λ n. number_and_space (pos n) in
     let pair = num (pos p) ∷ num (pos q) ∷ [] in
     ap (λ (ts : List Token). line_text (f v ∷ ts)) (map-append f conds (p ∷ q ∷ []))
     ∙ numbers_first pos (v ∷ conds) (num (pos p)) (num (pos q) ∷ [])
@@ -48,19 +48,19 @@ numbers_text v p q conds =
     ∙ append_assoc (g v) (flat_map g conds) (line_text pair)
     ∙ ap (λ (t : List ℕ). g v ++ (flat_map g conds ++ t)) (sym (append_assoc (number_text (pos p)) (32 ∷ []) (number_text (pos q) ++ 10 ∷ [])))
 
--- four pieces, written one behind another
+-- four pieces, written one after another
 four_written : (out a b c d x y z w : List ℕ) → a ≡ out ++ x → b ≡ a ++ y → c ≡ b ++ z → d ≡ c ++ w → d ≡ out ++ (x ++ (y ++ (z ++ w)))
 four_written out a b c d x y z w ea eb ec ed =
     ed ∙ ap (λ (t : List ℕ). t ++ w) (ec ∙ ap (λ (t : List ℕ). t ++ z) (eb ∙ ap (λ (t : List ℕ). t ++ y) ea)) ∙ simp append_assoc
 
 -- a vocabulary number, conditions and two pairs, as they were written
 pub action_written : (out a b c d : List ℕ) (v : ℕ) (conds pairs : List ℕ) → length pairs ≡ 2
-    → a ≡ out ++ number_and_blank (pos v) → b ≡ a ++ flat_map (λ n. number_and_blank (pos n)) conds
-    → c ≡ b ++ number_and_blank (pos (get_or pairs 0 0)) → d ≡ c ++ (number_text (pos (get_or pairs 1 0)) ++ 10 ∷ [])
+    → a ≡ out ++ number_and_space (pos v) → b ≡ a ++ flat_map (λ n. number_and_space (pos n)) conds
+    → c ≡ b ++ number_and_space (pos (get_or pairs 0 0)) → d ≡ c ++ (number_text (pos (get_or pairs 1 0)) ++ 10 ∷ [])
     → d ≡ out ++ line_text (map (λ n. num (pos n)) (v ∷ (conds ++ pairs)))
 action_written out a b c d v conds [] e ea eb ec ed = absurd (omega arith)
 action_written out a b c d v conds (p ∷ []) e ea eb ec ed = absurd (omega arith)
 action_written out a b c d v conds (p ∷ q ∷ []) e ea eb ec ed =
-    four_written out a b c d (number_and_blank (pos v)) (flat_map (λ n. number_and_blank (pos n)) conds) (number_and_blank (pos p)) (number_text (pos q) ++ 10 ∷ []) ea eb ec ed
+    four_written out a b c d (number_and_space (pos v)) (flat_map (λ n. number_and_space (pos n)) conds) (number_and_space (pos p)) (number_text (pos q) ++ 10 ∷ []) ea eb ec ed
     ∙ ap (λ (t : List ℕ). out ++ t) (sym (numbers_text v p q conds))
 action_written out a b c d v conds (p ∷ q ∷ r ∷ pairs) e ea eb ec ed = absurd (omega arith)

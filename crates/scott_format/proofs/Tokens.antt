@@ -1,9 +1,11 @@
 -- A line of tokens is read by the plan that they fit.
 use Rattle.std.proofs.Common.{◌≡◌, ℕ, suc, Bool, List, [], ◌∷◌, ◌++◌, Option, Some, ℤ, inl, refl, sym, ap, subst, ◌∙◌, append_assoc}
 use Rattle.std.specs.Prelude.{IsTrue}
-use Rattle.adv_text.specs.Spelling.{is_blank, Behind, blank, NoDigit, NoQuote}
+use Rattle.adv_io.specs.Text.{is_whitespace}
+use Rattle.adv_text.specs.Spelling.{AfterWhitespace, space, NoDigit, NoQuote}
 use Rattle.adv_text.specs.Laws.{Fits32}
-use Rattle.adv_text.specs.Writing.{number_text, quoted_text, is_text}
+use Rattle.adv_io.specs.Text.{is_text}
+use Rattle.adv_text.specs.Writing.{number_text, quoted_text}
 use Rattle.scott_format.specs.Faults.{Fault}
 use Rattle.scott_format.specs.Plan.{Plan, check, number, quoted, perhaps, Spelled}
 use Rattle.scott_format.specs.Canon.{Token, num, str, token_text, line_text}
@@ -17,7 +19,7 @@ pub data Feeds (X : Type 0) : Plan X → List Token → Plan X → Type 0 where
   a_string : {t : List ℕ} {next : List ℕ → Plan X} {q : Plan X} {ts : List Token} → IsTrue (is_text t) → Feeds X (next t) ts q → Feeds X (quoted next) (str t ∷ ts) q
   one_perhaps : {z : ℤ} {next : Option ℤ → Plan X} {q : Plan X} {ts : List Token} → Fits32 z → Feeds X (next (Some z)) ts q → Feeds X (perhaps next) (num z ∷ ts) q
 
--- each token behind a blank, but the first behind a lead, and byte 10
+-- each token after a byte of whitespace, but the first after a lead, and byte 10
 abbrev row : List ℕ → List Token → List ℕ → List ℕ
 row lead [] rest = 10 ∷ rest
 row lead (t ∷ ts) rest = lead ++ (token_text t ++ row (32 ∷ []) ts rest)
@@ -36,14 +38,14 @@ NoQuote-row : (ts : List Token) (rest : List ℕ) → NoQuote (row (32 ∷ []) t
 NoQuote-row [] rest = refl
 NoQuote-row (t ∷ ts) rest = refl
 
--- at most one blank
+-- at most one space
 pub data Lead : List ℕ → Type 0 where
   none : Lead []
-  one : {b : ℕ} → IsTrue (is_blank b) → Lead (b ∷ [])
+  one : {b : ℕ} → IsTrue (is_whitespace b) → Lead (b ∷ [])
 
-behind_lead : (P : List ℕ → Type 0) {lead : List ℕ} → Lead lead → (bytes : List ℕ) → (k : ℕ) × Behind P k bytes → (k : ℕ) × Behind P k (lead ++ bytes)
-behind_lead P none bytes h = h
-behind_lead P (one e) bytes h = (suc h.0, blank e h.1)
+after_lead : (P : List ℕ → Type 0) {lead : List ℕ} → Lead lead → (bytes : List ℕ) → (k : ℕ) × AfterWhitespace P k bytes → (k : ℕ) × AfterWhitespace P k (lead ++ bytes)
+after_lead P none bytes h = h
+after_lead P (one e) bytes h = (suc h.0, space e h.1)
 
 module _ (laws : TextLaws) where
   -- a plan that is fed with tokens spells their row
@@ -52,25 +54,25 @@ module _ (laws : TextLaws) where
   row_spelled x lead rest end fed at h = h
   row_spelled x lead rest end (checked e f) at h = (e, row_spelled x lead rest end f at h)
   row_spelled x lead rest end (a_number {z = z} {ts = ts} fits f) at h =
-      let behind = row (32 ∷ []) ts rest in (
+      let remaining = row (32 ∷ []) ts rest in (
         z,
-        behind,
-        behind_lead _ at (number_text z ++ behind) (laws.written_number_is_spelled z behind fits (NoDigit-row ts rest)),
+        remaining,
+        after_lead _ at (number_text z ++ remaining) (laws.written_number_is_spelled z remaining fits (NoDigit-row ts rest)),
         row_spelled x (32 ∷ []) rest end f (one refl) h,
       )
   row_spelled x lead rest end (a_string {t = t} {ts = ts} fits f) at h =
-      let behind = row (32 ∷ []) ts rest in (
+      let remaining = row (32 ∷ []) ts rest in (
         t,
-        behind,
-        behind_lead _ at (quoted_text t ++ behind) (laws.written_string_is_spelled t behind fits (NoQuote-row ts rest)),
+        remaining,
+        after_lead _ at (quoted_text t ++ remaining) (laws.written_string_is_spelled t remaining fits (NoQuote-row ts rest)),
         row_spelled x (32 ∷ []) rest end f (one refl) h,
       )
   row_spelled x lead rest end (one_perhaps {z = z} {ts = ts} fits f) at h =
-      let behind = row (32 ∷ []) ts rest in
+      let remaining = row (32 ∷ []) ts rest in
       inl (
         z,
-        behind,
-        behind_lead _ at (number_text z ++ behind) (laws.written_number_is_spelled z behind fits (NoDigit-row ts rest)),
+        remaining,
+        after_lead _ at (number_text z ++ remaining) (laws.written_number_is_spelled z remaining fits (NoDigit-row ts rest)),
         row_spelled x (32 ∷ []) rest end f (one refl) h,
       )
 

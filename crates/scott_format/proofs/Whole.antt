@@ -4,13 +4,13 @@ use Rattle.std.specs.Prelude.{int_le}
 use Rattle.std.specs.List.{list_all}
 use Rattle.std.proofs.lemmas.Bool.{and_parts, leb-true}
 use Rattle.std.proofs.lemmas.Int.{ints}
-use Rattle.scott_types.specs.Limits.{is_text, is_number, is_action, is_word, is_room, is_item, is_list_of, KeepsLimits}
+use Rattle.scott_types.specs.Limits.{is_file_text, is_number, is_action, is_word, is_room, is_item, is_list_of, KeepsLimits}
 use Rattle.scott_types.specs.Database.{Database}
 use Rattle.scott_format.specs.declared.header.Sizes.{Sizes}
-use Rattle.scott_format.specs.declared.header.Course.{Course}
+use Rattle.scott_format.specs.declared.header.PlayNumbers.{PlayNumbers}
 use Rattle.scott_format.specs.declared.header.Closing.{Closing}
 use Rattle.scott_format.specs.Plan.{Plan, ◌>>=◌, many, Spelled}
-use Rattle.scott_format.specs.Sections.{sizes, course, closing, action, word, room, string, item, trailer}
+use Rattle.scott_format.specs.Sections.{sizes, play_numbers, closing, action, word, room, string, item, trailer}
 use Rattle.scott_format.specs.File.{file, body}
 use Rattle.scott_format.specs.Canon.{Token, line_text, lines_text, header_line, action_line, word_line, room_line, string_line, item_line, trailer_line, canon}
 use Rattle.scott_format.specs.Laws.{WrittenTextIsText}
@@ -25,11 +25,11 @@ use Rattle.scott_format.proofs.Entries.{action_spelled, word_spelled, room_spell
 abbrev last_of : {X : Type 0} → List X → ℕ
 last_of xs = length xs - 1
 
-abbrev front_of : Database → Sizes
-front_of db = record { unused = db.header.unused; items = last_of db.items; actions = last_of db.actions; words = last_of db.words; rooms = last_of db.rooms }
+abbrev counts_of : Database → Sizes
+counts_of db = record { unused = db.header.unused; items = last_of db.items; actions = last_of db.actions; words = last_of db.words; rooms = last_of db.rooms }
 
-abbrev middle_of : Database → Course
-middle_of db = record { carry = db.header.carry; start = db.header.start; treasures = db.header.treasures; length = db.header.length; light = db.header.light }
+abbrev numbers_of : Database → PlayNumbers
+numbers_of db = record { carry = db.header.carry; start = db.header.start; treasures = db.header.treasures; length = db.header.length; light = db.header.light }
 
 abbrev end_of : Database → Closing
 end_of db = record { messages = last_of db.messages; home = db.header.home }
@@ -47,8 +47,8 @@ at_least : (a b : ℤ) → a ≤ℤ b → int_le a b ≡ true
 at_least a b h = grind (arith, ints)
 
 -- the numbers of the header are read as its three sections
-header_fed : (db : Database) → KeepsLimits db → Feeds Database file (header_line db) (body (front_of db) (middle_of db) (end_of db))
-unfolding file sizes course closing
+header_fed : (db : Database) → KeepsLimits db → Feeds Database file (header_line db) (body (counts_of db) (numbers_of db) (end_of db))
+unfolding file sizes play_numbers closing
 header_fed db h =
     let u = and_parts (is_number db.header.unused) _ h.header.numbers in
     let c = and_parts (is_number db.header.carry) _ u.1 in
@@ -96,16 +96,16 @@ module _ (laws : TextLaws) where
       lines_text action_line db.actions ++ (lines_text word_line db.words ++ (lines_text room_line db.rooms ++ (lines_text string_line db.messages
       ++ (lines_text item_line db.items ++ (lines_text string_line db.comments ++ (line_text (trailer_line db.trailer) ++ rest))))))
 
-  body_spelled : (db : Database) → KeepsLimits db → (rest : List ℕ) → Spelled (body (front_of db) (middle_of db) (end_of db)) db (10 ∷ body_text db rest) (10 ∷ rest)
+  body_spelled : (db : Database) → KeepsLimits db → (rest : List ℕ) → Spelled (body (counts_of db) (numbers_of db) (end_of db)) db (10 ∷ body_text db rest) (10 ∷ rest)
   unfolding body
   body_spelled db h rest =
-      let texts = and_parts (list_all is_text db.messages) (list_all is_text db.comments) h.entries.texts in
+      let texts = and_parts (list_all is_file_text db.messages) (list_all is_file_text db.comments) h.entries.texts in
       list_then action action_line is_action (action_spelled laws) db.actions _ _ db _ _ (last_then 5000 db.actions h.sizes.actions) h.entries.actions
       (list_then (λ k. word) word_line is_word (λ k. word_spelled laws) db.words _ _ db _ _ (last_then 1000 db.words h.sizes.words) h.entries.words
       (list_then (λ k. room) room_line is_room (λ k. room_spelled laws) db.rooms _ _ db _ _ (last_then 255 db.rooms h.sizes.rooms) h.entries.rooms
-      (list_then (λ k. string) string_line is_text (λ k. string_spelled laws) db.messages _ _ db _ _ (last_then 1000 db.messages h.sizes.messages) texts.0
+      (list_then (λ k. string) string_line is_file_text (λ k. string_spelled laws) db.messages _ _ db _ _ (last_then 1000 db.messages h.sizes.messages) texts.0
       (list_then (λ k. item) item_line is_item (λ k. item_spelled laws) db.items _ _ db _ _ (last_then 255 db.items h.sizes.items) h.entries.items
-      (list_then (λ k. string) string_line is_text (λ k. string_spelled laws) db.comments _ _ db _ _ (last_then 5000 db.actions h.sizes.actions ∙ sym h.commented) texts.1
+      (list_then (λ k. string) string_line is_file_text (λ k. string_spelled laws) db.comments _ _ db _ _ (last_then 5000 db.actions h.sizes.actions ∙ sym h.commented) texts.1
       (Spelled-then trailer _ db.trailer db _ (10 ∷ rest) (10 ∷ rest) (trailer_spelled laws db.trailer h.trailer rest) (refl, refl)))))))
 
   -- ---- the whole
@@ -117,5 +117,5 @@ module _ (laws : TextLaws) where
   written_text_is_text db rest h = (
     10 ∷ rest,
     subst (λ (b : List ℕ). Spelled file db b (10 ∷ rest)) (sym (regroup db rest))
-        (line_spelled laws file (body (front_of db) (middle_of db) (end_of db)) _ _ db [] (body_text db rest) (10 ∷ rest) (header_fed db h) none (body_spelled db h rest)),
+        (line_spelled laws file (body (counts_of db) (numbers_of db) (end_of db)) _ _ db [] (body_text db rest) (10 ∷ rest) (header_fed db h) none (body_spelled db h rest)),
   )

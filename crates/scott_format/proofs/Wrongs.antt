@@ -53,7 +53,7 @@ module _ (laws : TextLaws) where
       let r = laws.spelled_string_is_read s t after.rest to.0 in
       r.2 ∙ ap (λ (a : Spot). Ok (t, a)) (same_spot s r.0 after r.1 (laws.string_ends s r.0 t r.2) to.1)
 
-  -- the fault that is told is the first thing that is wrong
+  -- the fault that is known is the first thing that is wrong
   pub run-faulty : {X : Type 0} (p : Plan X) (s : Spot) (fault : Fault) → run p s ≡ Err fault → Faulty p s fault
   run-faulty (done x) s fault e = absurd cc
   run-faulty (check test own p) s fault e =
@@ -78,7 +78,7 @@ module _ (laws : TextLaws) where
         | inr (inr h) ↦ let missing = (laws.number_fault_is_exact s (no_number h.0)).0 h.1 in inr (inr ((missing.0, missing.1), run-faulty (next None) s fault h.2))
       ]
 
-  -- the first thing that is wrong is told
+  -- the first thing that is wrong is known
   pub faulty-run : {X : Type 0} (p : Plan X) (s : Spot) (fault : Fault) → Faulty p s fault → run p s ≡ Err fault
   faulty-run (done x) s fault h = absurd h
   faulty-run (check test own p) s fault (inl h) = rw (h.0, h.1) refl

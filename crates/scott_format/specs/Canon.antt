@@ -18,15 +18,15 @@ abbrev pub token_text : Token → List ℕ
 token_text (num z) = number_text z
 token_text (str t) = quoted_text t
 
--- tokens with one blank between, and byte 10
+-- tokens with one space between, and byte 10
 abbrev pub line_text : List Token → List ℕ
 line_text [] = 10 ∷ []
 line_text (t ∷ []) = token_text t ++ 10 ∷ []
 line_text (t ∷ u ∷ ts) = token_text t ++ 32 ∷ line_text (u ∷ ts)
 
--- a number with a blank behind it
-abbrev pub number_and_blank : ℤ → List ℕ
-number_and_blank z = number_text z ++ 32 ∷ []
+-- a number with a space after it
+abbrev pub number_and_space : ℤ → List ℕ
+number_and_space z = number_text z ++ 32 ∷ []
 
 -- ---- the lines
 

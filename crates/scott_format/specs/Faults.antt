@@ -16,15 +16,15 @@ pub data Fault : Type 0 where
   negative_action : ℕ → Fault
 
 -- the program's fault for a fault of the format
-abbrev pub told : Fault → FormatFault
-told (text (no_number at)) = answer.NoNumber at
-told (text (big_number at)) = answer.BigNumber at
-told (text (no_quote at)) = answer.NoQuote at
-told (text (open_string at)) = answer.OpenString at
-told (text (long_string at)) = answer.LongString at
-told (limit field value) = answer.Limit field value
-told (no_start value) = answer.NoStart value
-told (negative_action k) = answer.NegativeAction k
+abbrev pub fault_answer : Fault → FormatFault
+fault_answer (text (no_number at)) = answer.NoNumber at
+fault_answer (text (big_number at)) = answer.BigNumber at
+fault_answer (text (no_quote at)) = answer.NoQuote at
+fault_answer (text (open_string at)) = answer.OpenString at
+fault_answer (text (long_string at)) = answer.LongString at
+fault_answer (limit field value) = answer.Limit field value
+fault_answer (no_start value) = answer.NoStart value
+fault_answer (negative_action k) = answer.NegativeAction k
 
 -- the fault of the format for a fault of its text
 abbrev pub of_text : TextAnswer → FormatFault

@@ -1,11 +1,11 @@
 -- The laws of the format.
-use Rattle.std.specs.Prelude.{ℕ, ◌≡◌, ◌⊎◌, ◌↔◌, ◌++◌, List}
+use Rattle.std.specs.Prelude.{ℕ, ◌≡◌, ◌⊎◌, ◌↔◌, ◌++◌, List, Ok, Err}
 use Rattle.adv_text.specs.Reading.{spot}
 use Rattle.adv_text.specs.Laws.{AreBytes}
 use Rattle.scott_types.specs.Database.{Database}
 use Rattle.scott_types.specs.Limits.{KeepsLimits}
 use Rattle.scott_format.specs.Faults.{Fault}
-use Rattle.scott_format.specs.File.{file, DatText, DatFault}
+use Rattle.scott_format.specs.File.{file, DatText, DatFault, database_in}
 use Rattle.scott_format.specs.Faulty.{Faulty}
 use Rattle.scott_format.specs.Canon.{canon}
 
@@ -32,3 +32,11 @@ TextKeepsLimits = (bytes : List ℕ) (db : Database) → AreBytes bytes → DatT
 -- the text that is written of a database is one of it, whatever follows
 abbrev pub WrittenTextIsText : Type 0
 WrittenTextIsText = (db : Database) (rest : List ℕ) → KeepsLimits db → DatText (canon db ++ rest) db
+
+-- bytes read as a database exactly where they are a text of it
+abbrev pub DatabaseIn : Type 0
+DatabaseIn = (bytes : List ℕ) (db : Database) → (database_in bytes ≡ Ok db) ↔ DatText bytes db
+
+-- and as a fault exactly where it is their first one
+abbrev pub FaultIn : Type 0
+FaultIn = (bytes : List ℕ) (fault : Fault) → (database_in bytes ≡ Err fault) ↔ DatFault bytes fault

@@ -1,4 +1,5 @@
 pub mod Faults
+pub mod FaultTexts
 pub mod Plan
 pub mod Sections
 pub mod File

@@ -1,6 +1,6 @@
--- A format as data: what is read, one thing behind another.
+-- A format as data: what is read, one thing after another.
 use Rattle.std.specs.Prelude.{ℕ, zero, suc, ◌≡◌, ◌+◌, Bool, if◌then◌else◌, IsTrue, ◌⊎◌, List, [], ◌∷◌, Option, Some, None, ℤ, Result, Ok, Err}
-use Rattle.adv_text.specs.Spelling.{Behind, Number, NoNumber, Quoted}
+use Rattle.adv_text.specs.Spelling.{AfterWhitespace, Number, NoNumber, Quoted}
 use Rattle.adv_text.specs.Reading.{Spot, number_at, quoted_at, no_number, big_number, no_quote, open_string, long_string}
 use Rattle.adv_text.specs.Reading.{Fault as TextFault}
 use Rattle.scott_format.specs.Faults.{Fault, text}
@@ -33,28 +33,28 @@ many piece k (suc n) = piece k >>= λ x. many piece (k + 1) n >>= λ xs. done (x
 
 -- ---- spelling
 
--- neither digits nor a sign with digits stand behind the blanks
+-- neither digits nor a sign with digits stand after the whitespace
 abbrev pub NumberIsMissing : List ℕ → Type 0
-NumberIsMissing bytes = (k : ℕ) × Behind NoNumber k bytes
+NumberIsMissing bytes = (k : ℕ) × AfterWhitespace NoNumber k bytes
 
 -- the bytes spell the value by the plan, and then the rest follows
 abbrev pub Spelled : {X : Type 0} → Plan X → X → List ℕ → List ℕ → Type 0
 Spelled (done x) value bytes rest = (x ≡ value) × (bytes ≡ rest)
 Spelled (check test fault next) value bytes rest = IsTrue test × Spelled next value bytes rest
-Spelled (number next) value bytes rest = (z : ℤ) × (behind : List ℕ) × Number z bytes behind × Spelled (next z) value behind rest
-Spelled (quoted next) value bytes rest = (t : List ℕ) × (behind : List ℕ) × Quoted t bytes behind × Spelled (next t) value behind rest
+Spelled (number next) value bytes rest = (z : ℤ) × (remaining : List ℕ) × Number z bytes remaining × Spelled (next z) value remaining rest
+Spelled (quoted next) value bytes rest = (t : List ℕ) × (remaining : List ℕ) × Quoted t bytes remaining × Spelled (next t) value remaining rest
 Spelled (perhaps next) value bytes rest =
-    ((z : ℤ) × (behind : List ℕ) × Number z bytes behind × Spelled (next (Some z)) value behind rest)
+    ((z : ℤ) × (remaining : List ℕ) × Number z bytes remaining × Spelled (next (Some z)) value remaining rest)
     ⊎ (NumberIsMissing bytes × Spelled (next None) value bytes rest)
 
 -- ---- reading
 
--- reading goes on behind a number or a string that was read
+-- reading goes on after a number or a string that was read
 abbrev pub onward : {A X : Type 0} → Result (A × Spot) TextFault → (A → Spot → Result (X × Spot) Fault) → Result (X × Spot) Fault
 onward (Ok x) go_on = go_on x.0 x.1
 onward (Err fault) go_on = Err (text fault)
 
--- reading goes on behind a number, or where it stood if no number stands there
+-- reading goes on after a number, or where it stood if no number stands there
 abbrev pub onward_perhaps : {X : Type 0} → Result (ℤ × Spot) TextFault → Spot → (Option ℤ → Spot → Result (X × Spot) Fault) → Result (X × Spot) Fault
 onward_perhaps (Ok x) s go_on = go_on (Some x.0) x.1
 onward_perhaps (Err (no_number at)) s go_on = go_on None s
@@ -63,7 +63,7 @@ onward_perhaps (Err (no_quote at)) s go_on = Err (text (no_quote at))
 onward_perhaps (Err (open_string at)) s go_on = Err (text (open_string at))
 onward_perhaps (Err (long_string at)) s go_on = Err (text (long_string at))
 
--- what the plan reads at a spot: a value and the spot behind it, or the first fault
+-- what the plan reads at a spot: a value and the spot after it, or the first fault
 abbrev pub run : {X : Type 0} → Plan X → Spot → Result (X × Spot) Fault
 run (done x) s = Ok (x, s)
 run (check test fault next) s = if test then run next s else Err fault

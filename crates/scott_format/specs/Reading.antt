@@ -1,5 +1,6 @@
 -- What a function of the reader answers, held to a plan.
-use Rattle.std.specs.Prelude.{◌≡◌, ◌⊎◌, Result, Ok, Err}
+use Rattle.std.specs.Prelude.{◌≡◌, Option, Some, None, Result, Ok, Err}
+use Rattle.adv_io.specs.Answers.{IsExpected, IsErrOr}
 use Rattle.adv_text.specs.Reading.{Spot, no_number, big_number, no_quote, open_string, long_string}
 use Rattle.scott_format.specs.declared.faults.FormatFault.{FormatFault}
 use Rattle.scott_format.specs.declared.faults.FormatFault.TheVariants as answer
@@ -8,17 +9,21 @@ use Rattle.scott_types.specs.declared.databases.Db.{Db}
 use Rattle.scott_format.specs.Faults.{Fault, text, limit, no_start, negative_action}
 use Rattle.scott_format.specs.Plan.{Plan, run}
 
--- a fault of the program is the one that the plan meets, unless memory ran out
+-- the fault of the format that an answer of the program is; want of memory is none
+abbrev pub fault_of : FormatFault → Option Fault
+fault_of (answer.NoNumber at) = Some (text (no_number at))
+fault_of (answer.BigNumber at) = Some (text (big_number at))
+fault_of (answer.NoQuote at) = Some (text (no_quote at))
+fault_of (answer.OpenString at) = Some (text (open_string at))
+fault_of (answer.LongString at) = Some (text (long_string at))
+fault_of (answer.Limit field value) = Some (limit field value)
+fault_of (answer.NoStart value) = Some (no_start value)
+fault_of (answer.NegativeAction k) = Some (negative_action k)
+fault_of answer.Memory = None
+
+-- a fault of the program is the one that the plan reaches, unless memory ran out
 abbrev pub Stands : {X : Type 0} → FormatFault → Result X Fault → Type 0
-Stands (answer.NoNumber at) read = read ≡ Err (text (no_number at))
-Stands (answer.BigNumber at) read = read ≡ Err (text (big_number at))
-Stands (answer.NoQuote at) read = read ≡ Err (text (no_quote at))
-Stands (answer.OpenString at) read = read ≡ Err (text (open_string at))
-Stands (answer.LongString at) read = read ≡ Err (text (long_string at))
-Stands (answer.Limit field value) read = read ≡ Err (limit field value)
-Stands (answer.NoStart value) read = read ≡ Err (no_start value)
-Stands (answer.NegativeAction k) read = read ≡ Err (negative_action k)
-Stands answer.Memory read = Unit {0}
+Stands fault read = IsExpected fault_of fault read
 
 -- from a spot to another, a function gives what the plan reads, seen by view
 abbrev pub Gives : {X Y : Type 0} → (X → Y) → Plan Y → Spot → Result X FormatFault → Spot → Type 0
@@ -36,4 +41,4 @@ IsDb (Err fault) db = fault ≡ answer.Memory
 
 -- this fault was answered, unless memory ran out
 abbrev pub IsErrOrMemory : Result Db FormatFault → FormatFault → Type 0
-IsErrOrMemory r fault = (r ≡ Err fault) ⊎ (r ≡ Err answer.Memory)
+IsErrOrMemory r fault = IsErrOr answer.Memory r fault

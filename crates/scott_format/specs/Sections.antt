@@ -8,7 +8,7 @@ use Rattle.scott_types.specs.declared.parts.Trailer.{Trailer}
 use Rattle.scott_format.specs.declared.faults.Field.{Field}
 use Rattle.scott_format.specs.declared.faults.Field.TheVariants.{HighestItem, HighestAction, HighestWord, HighestRoom, WordLength, LightTime, HighestMessage}
 use Rattle.scott_format.specs.declared.header.Sizes.{Sizes}
-use Rattle.scott_format.specs.declared.header.Course.{Course}
+use Rattle.scott_format.specs.declared.header.PlayNumbers.{PlayNumbers}
 use Rattle.scott_format.specs.declared.header.Closing.{Closing}
 use Rattle.scott_format.specs.Faults.{Fault, limit, no_start, negative_action}
 use Rattle.scott_format.specs.Plan.{Plan, done, check, number, quoted, perhaps, ◌>>=◌}
@@ -42,8 +42,8 @@ abbrev pub light_time : Plan ℤ
 light_time = number (λ z. check (int_le (negsuc 0) z) (limit LightTime z) (done z))
 
 -- the next five: most carried, start room, treasures, word length, light time
-unfoldable pub course : ℕ → Plan Course
-course rooms = do
+unfoldable pub play_numbers : ℕ → Plan PlayNumbers
+play_numbers rooms = do
   carry ← any_number
   start ← natural 0 rooms no_start
   treasures ← any_number

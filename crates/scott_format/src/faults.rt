@@ -21,14 +21,14 @@ pub enum Field {
     HighestMessage,
 }
 
-/// The first fault of a text in the order of the file. Places are counted in bytes from the front.
+/// The first fault of a text in the order of the file. Places are counted in bytes from the start.
 #[derive(Clone, Copy, Debug, PartialEq, Eq)]
 pub enum FormatFault {
-    /// No digits stand where a number is due; the place behind the blanks.
+    /// No digits stand where a number is due; the place after the whitespace.
     NoNumber(usize),
     /// A number lies outside 32 bits with a sign; the place of its first byte.
     BigNumber(usize),
-    /// No quote stands where a string is due; the place behind the blanks.
+    /// No quote stands where a string is due; the place after the whitespace.
     NoQuote(usize),
     /// The file ends in a string of at most 4,096 kept bytes; the place of its opening quote.
     OpenString(usize),

@@ -19,7 +19,7 @@ pub struct Sizes {
 
 /// The next five numbers, which say how a game goes.
 #[derive(Clone, Copy)]
-pub struct Course {
+pub struct PlayNumbers {
     pub carry: i32,
     /// 0..highest room.
     pub start: u8,
@@ -62,21 +62,21 @@ impl Sizes {
     }
 }
 
-impl Course {
-    ghost use Rattle.scott_format.specs.Sections.{course};
+impl PlayNumbers {
+    ghost use Rattle.scott_format.specs.Sections.{play_numbers};
     ghost use Rattle.scott_format.specs.Reading.{Follows};
 
     /// Reads these numbers, of a database with this highest room.
-    #[tactic(auto, unfolding(crate::specs::Sections::course))]
-    pub fn read(scan: &mut Scan, rooms: u8) -> Result<Course, FormatFault>
-        ensures { Follows (course rooms) scan.old result scan.new }
+    #[tactic(auto, unfolding(crate::specs::Sections::play_numbers))]
+    pub fn read(scan: &mut Scan, rooms: u8) -> Result<PlayNumbers, FormatFault>
+        ensures { Follows (play_numbers rooms) scan.old result scan.new }
     {
         let carry = number(scan)?;
         let start = start_room(scan, rooms)?;
         let treasures = number(scan)?;
         let length = limited(scan, Field::WordLength, 1, 20)? as u8;
         let light = light_time(scan)?;
-        Ok(Course {
+        Ok(PlayNumbers {
             carry,
             start,
             treasures,

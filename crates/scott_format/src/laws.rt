@@ -1,5 +1,5 @@
 //! The laws of the format. Each is the contract of a function that does nothing else.
-ghost use Rattle.scott_format.specs.Laws.{TextOrFault, NeverBoth, FirstFault, OneDatabase, TextKeepsLimits, WrittenTextIsText};
+ghost use Rattle.scott_format.specs.Laws.{TextOrFault, NeverBoth, FirstFault, OneDatabase, TextKeepsLimits, WrittenTextIsText, DatabaseIn, FaultIn};
 
 use crate::text_laws::text_laws;
 
@@ -41,6 +41,20 @@ pub fn text_keeps_limits()
 /// The text that is written of a database is one of it, whatever follows.
 pub fn written_text_is_text()
     ensures { WrittenTextIsText }
+{
+    text_laws();
+}
+
+/// What bytes read as is a database exactly where they are a text of it.
+pub fn database_in()
+    ensures { DatabaseIn }
+{
+    text_laws();
+}
+
+/// What bytes read as is a fault exactly where it is their first one.
+pub fn fault_in()
+    ensures { FaultIn }
 {
     text_laws();
 }

@@ -1,6 +1,7 @@
-//! The text of a database: reading one, with the first fault that is met, and writing one.
+//! The text of a database: reading one, with the first fault that is reached, and writing one.
 #![tactic(auto)]
 
+mod fault_texts;
 mod faults;
 mod header;
 pub mod laws;
@@ -13,7 +14,7 @@ mod text_laws;
 mod writing;
 
 pub use faults::{Field, FormatFault};
-pub use reading::read_db;
+pub use reading::{DATABASE_LIMIT, read_db};
 pub use writing::write_db;
 
 #[cfg(test)]

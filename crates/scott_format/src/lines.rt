@@ -2,8 +2,8 @@
 ghost use Rattle.std.specs.Prelude.{◌≡◌, ◌++◌, ◌∷◌, [], Bool, List, ℤ, ℕ, pos, map, IsTrue, OnOk};
 ghost use Rattle.std.specs.List.{flat_map, list_all};
 ghost use Rattle.adv_text.specs.Writing.{number_text, quoted_text};
-ghost use Rattle.scott_types.specs.Limits.{is_text, is_natural, is_action, is_word, is_room, is_item};
-ghost use Rattle.scott_format.specs.Canon.{Token, line_text, lines_text, number_and_blank, action_line, word_line, room_line, string_line, item_line};
+ghost use Rattle.scott_types.specs.Limits.{is_file_text, is_natural, is_action, is_word, is_room, is_item};
+ghost use Rattle.scott_format.specs.Canon.{Token, line_text, lines_text, number_and_space, action_line, word_line, room_line, string_line, item_line};
 
 use adv_io::Memory;
 use adv_text::{put_number, put_quoted};
@@ -24,7 +24,7 @@ pub trait Line {
         ensures { OnOk result (out.new.items ≡ out.old.items ++ line_text (line self.now)) };
 }
 
-/// Writes a number and the byte behind it.
+/// Writes a number and the byte after it.
 pub fn put_number_and(alloc: Global, out: &mut Vec<u8>, number: i32, end: u8) -> Result<(), Memory>
     ensures { OnOk result (out.new.items ≡ out.old.items ++ (number_text number ++ end ∷ [])) }
 {
@@ -33,17 +33,18 @@ pub fn put_number_and(alloc: Global, out: &mut Vec<u8>, number: i32, end: u8) ->
     Ok(())
 }
 
-// Writes a number that isn't negative, and the byte behind it.
+// Writes a number that isn't negative, and the byte after it.
 fn put_natural_and(alloc: Global, out: &mut Vec<u8>, number: u32, end: u8) -> Result<(), Memory>
     requires { IsTrue (is_natural number) }
-    ensures { OnOk result (out.new.items ≡ out.old.items ++ (number_text (pos number) ++ end ∷ [])) }
+    ensures { OnOk result
+        (out.new.items ≡ out.old.items ++ (number_text (pos number) ++ end ∷ [])) }
 {
     put_number_and(alloc, out, number as i32, end)
 }
 
-// Writes a string and the byte behind it.
+// Writes a string and the byte after it.
 fn put_text_and(alloc: Global, out: &mut Vec<u8>, text: &Text, end: u8) -> Result<(), Memory>
-    requires { IsTrue (is_text text.now) }
+    requires { IsTrue (is_file_text text.now) }
     ensures { OnOk result (out.new.items ≡ out.old.items ++ (quoted_text text.now ++ end ∷ [])) }
 {
     put_quoted(alloc, out, text.bytes())?;
@@ -51,9 +52,9 @@ fn put_text_and(alloc: Global, out: &mut Vec<u8>, text: &Text, end: u8) -> Resul
     Ok(())
 }
 
-/// Writes numbers, each with a blank behind it.
+/// Writes numbers, each with a space after it.
 pub fn put_numbers(alloc: Global, out: &mut Vec<u8>, numbers: &[i32]) -> Result<(), Memory>
-    ensures { OnOk result (out.new.items ≡ out.old.items ++ flat_map number_and_blank numbers.now) }
+    ensures { OnOk result (out.new.items ≡ out.old.items ++ flat_map number_and_space numbers.now) }
 {
     for number in numbers {
         put_number_and(alloc, out, *number, b' ')?;
@@ -61,10 +62,11 @@ pub fn put_numbers(alloc: Global, out: &mut Vec<u8>, numbers: &[i32]) -> Result<
     Ok(())
 }
 
-// Writes numbers that aren't negative, each with a blank behind it.
+// Writes numbers that aren't negative, each with a space after it.
 fn put_naturals(alloc: Global, out: &mut Vec<u8>, numbers: &[u32]) -> Result<(), Memory>
     requires { IsTrue (list_all is_natural numbers.now) }
-    ensures { OnOk result (out.new.items ≡ out.old.items ++ flat_map (λ n. number_and_blank (pos n)) numbers.now) }
+    ensures { OnOk result (out.new.items ≡ out.old.items ++ flat_map
+        (λ n. number_and_space (pos n)) numbers.now) }
 {
     for number in numbers {
         put_natural_and(alloc, out, *number, b' ')?;
@@ -114,7 +116,7 @@ impl Line for Room {
 impl Line for Text {
     ghost line = { string_line };
 
-    ghost fits = { is_text };
+    ghost fits = { is_file_text };
 
     fn put(&self, alloc: Global, out: &mut Vec<u8>) -> Result<(), Memory> {
         put_text_and(alloc, out, self, b'\n')

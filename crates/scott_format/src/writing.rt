@@ -42,7 +42,8 @@ fn header_numbers(parts: &Parts) -> [i32; 11]
 // Writes the line of the header.
 fn put_header(alloc: Global, out: &mut Vec<u8>, parts: &Parts) -> Result<(), Memory>
     requires { KeepsLimits (database_of parts.now) }
-    ensures { OnOk result (out.new.items ≡ out.old.items ++ line_text (header_line (database_of parts.now))) }
+    ensures { OnOk result (out.new.items ≡ out.old.items ++ line_text
+        (header_line (database_of parts.now))) }
 {
     put_numbers(alloc, out, &header_numbers(parts))?;
     put_number_and(alloc, out, parts.header.home, b'\n')?;
@@ -59,7 +60,7 @@ fn put_trailer(alloc: Global, out: &mut Vec<u8>, trailer: &Trailer) -> Result<()
     Ok(())
 }
 
-/// Writes a database's text: each header, entry and trailer on a line, with one blank between numbers
+/// Writes a database's text: each header, entry and trailer on a line, with one space between numbers
 /// and strings.
 ///
 /// The text reads back as the database, whatever follows it. docs/FORMAT.md has the rule.

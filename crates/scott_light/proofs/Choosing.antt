@@ -46,7 +46,7 @@ zip-take (x ∷ xs) [] n h = ap (zip (x ∷ xs)) (take_all n [] (omega arith))
 zip-take (x ∷ xs) (y ∷ ys) zero h = absurd (omega arith)
 zip-take (x ∷ xs) (y ∷ ys) (suc n) h = ap (λ pairs. (x, y) ∷ pairs) (zip-take xs ys n (omega arith))
 
--- partners behind the last entry choose nothing
+-- partners after the last entry choose nothing
 pub chosen-whole : {A B : Type 0} (passes : B → Bool) (text : A → List ℕ) (xs : List A) (ys : List B) (n : ℕ) → length xs ≤ n
     → chosen passes text (take n xs) (take n ys) ≡ chosen passes text xs ys
 chosen-whole passes text xs ys n h =

@@ -1,9 +1,9 @@
 -- Texts that are joined, by the first one and the others.
 use Rattle.std.proofs.Common.{◌≡◌, ◌∙◌, ℕ, ◌-◌, ◌≤◌, List, [], ◌∷◌, ◌++◌, length, take, drop, get_or, map, sym, ap, arith}
+use Rattle.adv_io.specs.Text.{joined}
 use Rattle.std.specs.Prelude.{flat_map}
 use Rattle.std.proofs.lemmas.List.{take_all}
 use Rattle.std.proofs.lemmas.List.Folds.{flat_map-map}
-use Rattle.scott_rules.specs.Looking.{joined}
 
 pub joined-parts : {X : Type 0} (text : X → List ℕ) (separator : List ℕ) (xs : List X) (d : X) → 1 ≤ length xs
     → text (get_or xs 0 d) ++ flat_map (λ x. separator ++ text x) (take (length xs - 1) (drop 1 xs)) ≡ joined separator (map text xs)

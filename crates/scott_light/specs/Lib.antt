@@ -1,3 +1,3 @@
-pub mod Gathered
-pub mod Numbered
+pub mod PageText
+pub mod ItemTexts
 pub mod Pieces

@@ -5,7 +5,7 @@ ghost use Rattle.adv_io.specs.Console.{Speaks};
 ghost use Rattle.scott_types.specs.State.{Fits};
 ghost use Rattle.scott_rules.specs.Light.{is_burning, said_near, is_dim, light_seen, light_counted};
 
-use adv_io::{Console, ConsoleFault, say_any};
+use adv_io::{Console, ConsoleFault, say_unless_empty};
 use scott_rules::laws::light_fits;
 use scott_types::places::{LAMP, OUT_FLAG};
 use scott_types::{Db, Phrase, State};
@@ -64,12 +64,12 @@ pub fn count_light<C: Console>(
     console: &mut C,
 ) -> Result<(), ConsoleFault>
     requires { Fits db.now state.old }
-    ensures spoken { Speaks C.history C.left C.bound C.faults console.old console.new result
+    ensures spoken { Speaks (C.seen console.old) (C.seen console.new) result
         (says (light_counted state.old).events) }
     ensures state { state.new ≡ (light_counted state.old).value }
     ensures fits { Fits db.now state.new }
 {
     light_fits();
     let _limits = db.parts();
-    say_any(light_text(state), console)
+    say_unless_empty(light_text(state), console)
 }

@@ -3,7 +3,7 @@ ghost use Rattle.std.specs.Prelude.{◌≡◌, ◌≤◌, ◌<◌, List, length,
 ghost use Rattle.std.specs.List.{All};
 ghost use Rattle.scott_types.specs.declared.parts.Item.{Item};
 ghost use Rattle.scott_rules.specs.Looking.{items_at_place, exit_names};
-ghost use Rattle.scott_light.specs.Numbered.{texts_of};
+ghost use Rattle.scott_light.specs.ItemTexts.{texts_of};
 
 use arrayvec::ArrayVec;
 use scott_types::{Db, Phrase, exit};

@@ -1,13 +1,14 @@
 //! The look and the inventory.
 ghost use Rattle.std.specs.Prelude.{◌≡◌, ◌≤◌, ◌<◌, ◌+◌, ◌++◌, length, map};
+ghost use Rattle.adv_io.specs.Text.{joined_or};
 ghost use Rattle.std.specs.List.{All};
 ghost use Rattle.adv_io.specs.History.{says};
 ghost use Rattle.adv_io.specs.Console.{Speaks};
 ghost use Rattle.scott_types.specs.declared.phrases.Phrase.TheVariants.{BetweenItems, NothingCarried};
 ghost use Rattle.scott_types.specs.Phrase.{text_of};
 ghost use Rattle.scott_types.specs.State.{Fits};
-ghost use Rattle.scott_rules.specs.Looking.{joined_or, described, exits_listed, items_at, items_seen, seen_in_light, looked, inventory};
-ghost use Rattle.scott_light.specs.Numbered.{texts_of};
+ghost use Rattle.scott_rules.specs.Looking.{described, exits_listed, items_at, items_seen, seen_in_light, looked, inventory};
+ghost use Rattle.scott_light.specs.ItemTexts.{texts_of};
 
 use crate::listing::{exit_names, numbers_at};
 use crate::pages::Page;
@@ -33,7 +34,8 @@ fn add_room<'a>(page: &mut Page<'a>, text: &'a [u8])
 fn add_exits<'a>(page: &mut Page<'a>, names: &[&'a [u8]])
     requires room { page.old.pieces ≤ 10 }
     requires few { length names.now ≤ 6 }
-    ensures text { page.new.text ≡ page.old.text ++ exits_listed (map (λ name. name.now) names.now) }
+    ensures text { page.new.text ≡ page.old.text ++ exits_listed (map
+        (λ name. name.now) names.now) }
     ensures pieces { page.new.pieces ≤ page.old.pieces + 20 }
 {
     page.add(Phrase::ObviousExits.text());
@@ -64,7 +66,7 @@ fn add_items<'a>(page: &mut Page<'a>, items: &'a [Item], numbers: &'a [u8])
     }
 }
 
-// Says a text, and behind it what is seen in the light.
+// Says a text, and after it what is seen in the light.
 #[inline(never)]
 fn look_in_light<C: Console>(
     text: &[u8],
@@ -73,7 +75,7 @@ fn look_in_light<C: Console>(
     console: &mut C,
 ) -> Result<(), ConsoleFault>
     requires { Fits db.now state.now }
-    ensures { Speaks C.history C.left C.bound C.faults console.old console.new result
+    ensures { Speaks (C.seen console.old) (C.seen console.new) result
         (says (text.now ++ seen_in_light db.now state.now)) }
 {
     let numbers = numbers_in(db, state, state.room);
@@ -85,18 +87,18 @@ fn look_in_light<C: Console>(
     page.say(console)
 }
 
-/// Says a text, and behind it what a look says, as one text.
+/// Says a text, and after it what a look says, as one text.
 ///
 /// The console's fault alone is a refusal.
 #[inline(never)]
-pub fn look_behind<'a, C: Console>(
+pub fn look_after<'a, C: Console>(
     text: &'a [u8],
     db: &Db,
     state: &State,
     console: &mut C,
 ) -> Result<(), ConsoleFault>
     requires { Fits db.now state.now }
-    ensures { Speaks C.history C.left C.bound C.faults console.old console.new result
+    ensures { Speaks (C.seen console.old) (C.seen console.new) result
         (says (text.now ++ looked db.now state.now)) }
 {
     if state.is_dark() {
@@ -112,10 +114,10 @@ pub fn look_behind<'a, C: Console>(
 /// The console's fault alone is a refusal. docs/TURN.md has the texts.
 pub fn look<C: Console>(db: &Db, state: &State, console: &mut C) -> Result<(), ConsoleFault>
     requires { Fits db.now state.now }
-    ensures { Speaks C.history C.left C.bound C.faults console.old console.new result
+    ensures { Speaks (C.seen console.old) (C.seen console.new) result
         (says (looked db.now state.now)) }
 {
-    look_behind(&[], db, state, console)
+    look_after(&[], db, state, console)
 }
 
 // What is carried, or that it is nothing.
@@ -123,7 +125,8 @@ fn add_carried<'a>(page: &mut Page<'a>, items: &'a [Item], numbers: &'a [u8])
     requires room { page.old.pieces ≤ 30 }
     requires there { All (λ number. number < length items.now) numbers.now }
     ensures text { page.new.text ≡ page.old.text
-        ++ joined_or (text_of NothingCarried) (text_of BetweenItems) (texts_of items.now numbers.now) }
+        ++ joined_or (text_of NothingCarried) (text_of BetweenItems)
+        (texts_of items.now numbers.now) }
     ensures pieces { page.new.pieces ≡ page.old.pieces + 1 }
 {
     if numbers.is_empty() {
@@ -137,7 +140,7 @@ fn add_carried<'a>(page: &mut Page<'a>, items: &'a [Item], numbers: &'a [u8])
 #[inline(never)]
 pub fn inventory<C: Console>(db: &Db, state: &State, console: &mut C) -> Result<(), ConsoleFault>
     requires { Fits db.now state.now }
-    ensures { Speaks C.history C.left C.bound C.faults console.old console.new result
+    ensures { Speaks (C.seen console.old) (C.seen console.new) result
         (says (inventory db.now state.now)) }
 {
     let numbers = numbers_in(db, state, CARRIED);

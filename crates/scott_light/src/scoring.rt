@@ -76,7 +76,7 @@ fn add_score<'a>(page: &mut Page<'a>, stored: &'a [u8], hundredths: &'a [u8], fu
 #[inline(never)]
 fn say_score<C: Console>(treasures: i32, stored: usize, console: &mut C) -> Result<(), ConsoleFault>
     requires { stored ≤ 255 }
-    ensures { Speaks C.history C.left C.bound C.faults console.old console.new result
+    ensures { Speaks (C.seen console.old) (C.seen console.new) result
         (says (score_text treasures stored)) }
 {
     let mut count = Buffer::new();
@@ -116,7 +116,7 @@ fn treasures_of(db: &Db) -> i32
 
 fn say_scored<C: Console>(db: &Db, state: &State, console: &mut C) -> Result<(), ConsoleFault>
     requires { Fits db.now state.now }
-    ensures { Speaks C.history C.left C.bound C.faults console.old console.new result
+    ensures { Speaks (C.seen console.old) (C.seen console.new) result
         (says (scored db.now state.now)) }
 {
     say_score(treasures_of(db), stored_in(db, state), console)
@@ -130,12 +130,12 @@ pub fn are_all_stored(db: &Db, state: &State) -> bool
     is_full(treasures_of(db), stored_in(db, state))
 }
 
-/// Says the score, and tells whether all treasures are stored.
+/// Says the score, and answers whether all treasures are stored.
 ///
 /// The console's fault alone is a refusal. docs/TURN.md has the texts.
 pub fn score<C: Console>(db: &Db, state: &State, console: &mut C) -> Result<bool, ConsoleFault>
     requires { Fits db.now state.now }
-    ensures spoken { Speaks C.history C.left C.bound C.faults console.old console.new result
+    ensures spoken { Speaks (C.seen console.old) (C.seen console.new) result
         (says (scored db.now state.now)) }
     ensures all { IfOk result (λ all. all ≡ all_stored db.now state.now) }
 {

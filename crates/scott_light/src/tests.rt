@@ -1,5 +1,5 @@
 //! What a console gets with ample memory, on a hall with gold and a lamp, and a cave to the south.
-use crate::{count_light, inventory, look, look_behind, score};
+use crate::{count_light, inventory, look, look_after, score};
 use adv_io::{ConsoleFault, Memory, MemoryConsole};
 use itoa::Buffer;
 use scott_types::{Action, Db, Header, Item, Parts, Room, State, Text, Trailer, Word};
@@ -138,7 +138,7 @@ fn a_text_is_said_before_a_look(rt: HostRuntime) -> Result<(), Fail> {
         state.room = 2;
         state.flags[15] = dark;
         assert!(rt; state.fits(&db));
-        assert_eq!(rt; look_behind(b"Woe! ", &db, &state, &mut console), Ok(()));
+        assert_eq!(rt; look_after(b"Woe! ", &db, &state, &mut console), Ok(()));
         expect_said(&rt, &console, said);
     }
     Ok(())

@@ -15,14 +15,14 @@ use Rattle.scott_types.specs.declared.endings.Position.TheVariants.{Fresh, Draw,
 use Rattle.scott_types.specs.Database.{Database}
 use Rattle.scott_types.specs.Limits.{KeepsLimits}
 use Rattle.scott_types.specs.State.{Fits, start, out_flag}
-use Rattle.scott_rules.specs.Told.{Told, Step}
+use Rattle.adv_io.specs.Steps.{Step, Traced}
 use Rattle.scott_rules.specs.Commands.{heard, typed_noun}
 use Rattle.scott_rules.specs.Light.{is_burning, is_dim, light_seen, light_counted}
 use Rattle.scott_rules.specs.Groups.{groups, groups_from, automatic}
-use Rattle.scott_rules.specs.Rounds.{Standing, unmarked, prompted, advance, turn_ended, by_heard, answer, obeyed}
-use Rattle.scott_rules.specs.Play.{Stop, with_line, go}
+use Rattle.scott_rules.specs.Rounds.{RoundEnd, unmarked, prompted, advance, turn_ended, by_heard, answer, command_result}
+use Rattle.scott_rules.specs.Play.{PlayEnd, with_line, go}
 use Rattle.scott_rules.proofs.FittingStates.{Fits-with_flag, Fits-redraw, Fits-light}
-use Rattle.scott_rules.proofs.FittingCommands.{Fits-automatic, Fits-obeyed}
+use Rattle.scott_rules.proofs.FittingCommands.{Fits-automatic, Fits-command_result}
 
 -- a light that isn't spent can last one turn less
 less_one_in_range : (light most : ℤ) → (negsuc 0 ≤ℤ light) × (light ≤ℤ most) → int_eq light (negsuc 0) ≡ false
@@ -37,13 +37,13 @@ module _ (db : Database) (limits : KeepsLimits db) where
   -- the light goes out, or is dim, or burns on
   Fits-light_seen : (s : State) → Fits db s → Fits db (light_seen s).value
   Fits-light_seen s fits =
-      let on = cond_both (is_dim s.light) _ _ (λ (told : Told ℕ State). Fits db told.value) (λ _. fits) (λ _. fits) in
-      cond_both (int_lt s.light (pos 1)) _ _ (λ (told : Told ℕ State). Fits db told.value) (λ _. Fits-with_flag db limits s out_flag true fits) (λ _. on)
+      let on = cond_both (is_dim s.light) _ _ (λ (result : Traced ℕ State). Fits db result.value) (λ _. fits) (λ _. fits) in
+      cond_both (int_lt s.light (pos 1)) _ _ (λ (result : Traced ℕ State). Fits db result.value) (λ _. Fits-with_flag db limits s out_flag true fits) (λ _. on)
 
   -- a turn burns the light
   pub Fits-light_counted : (s : State) → Fits db s → Fits db (light_counted s).value
   Fits-light_counted s fits =
-      cond_both (is_burning s) _ _ (λ (told : Told ℕ State). Fits db told.value)
+      cond_both (is_burning s) _ _ (λ (result : Traced ℕ State). Fits db result.value)
       (λ burns. let unspent = not-true _ (and_parts _ _ burns).1 in
       Fits-light_seen _ (Fits-light db limits s _ (less_one_in_range s.light db.header.light fits.light unspent) fits))
       (λ _. fits)
@@ -77,8 +77,8 @@ module _ (db : Database) (limits : KeepsLimits db) where
   Fits-by_heard Blank line s fits = fits
   Fits-by_heard (Unknown start size) line s fits = fits
   Fits-by_heard (Command verb noun) line s fits =
-      let t = obeyed db (typed_noun line) verb noun s in
-      Fits-turn_ended t.value.over t.value.state (Fits-obeyed db limits (typed_noun line) verb noun s fits)
+      let t = command_result db (typed_noun line) verb noun s in
+      Fits-turn_ended t.value.over t.value.state (Fits-command_result db limits (typed_noun line) verb noun s fits)
 
   -- the answer to a line
   Fits-answer : (line : List ℕ) (s : State) → Fits db s → Fits db (answer db line s).value.state
@@ -86,8 +86,8 @@ module _ (db : Database) (limits : KeepsLimits db) where
 
   -- ---- a play
 
-  -- a line at the prompt, and the rounds behind it
-  Fits-with_line : (position : Position) (line : List ℕ) (lines : List (List ℕ)) (t : Told Step Standing) (next : Position → State → List ℕ → Told Step Stop)
+  -- a line at the prompt, and the rounds after it
+  Fits-with_line : (position : Position) (line : List ℕ) (lines : List (List ℕ)) (t : Traced Step RoundEnd) (next : Position → State → List ℕ → Traced Step PlayEnd)
       → Fits db t.value.state → ((p : Position) (r : State) (draws : List ℕ) → Fits db r → Fits db (next p r draws).value.state)
       → Fits db (with_line position db line lines t next).value.state
   Fits-with_line Line line lines t next fits keeps =

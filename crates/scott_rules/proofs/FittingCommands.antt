@@ -15,48 +15,48 @@ use Rattle.scott_types.specs.ItemText.{get_word}
 use Rattle.scott_types.specs.Action.{verb_of, noun_of}
 use Rattle.scott_types.specs.Database.{Database, room_at}
 use Rattle.scott_types.specs.Limits.{KeepsLimits}
-use Rattle.scott_types.specs.Room.{room_behind}
+use Rattle.scott_types.specs.Room.{room_beyond}
 use Rattle.scott_types.specs.State.{is_place, Fits, is_room_of, is_dark}
-use Rattle.scott_rules.specs.Told.{Told, Step}
+use Rattle.adv_io.specs.Steps.{Step, Traced}
 use Rattle.scott_rules.specs.Words.{root, which}
 use Rattle.scott_rules.specs.Commands.{go_verb, get_verb, drop_verb, is_direction}
-use Rattle.scott_rules.specs.Lines.{LineOutcome}
-use Rattle.scott_rules.specs.Groups.{Group, AutoOutcome, group_tried, groups, over_of, auto_behind, auto_tried, auto_drawn, auto_group, automatic}
-use Rattle.scott_rules.specs.Search.{SearchOutcome, search_behind, search_group, is_for, searched}
-use Rattle.scott_rules.specs.Transfer.{Sweep, verb_for, destination, transferred, is_refused, is_met, sweep_moved, sweep_behind, sweep_item, sweep, is_too_dark, all_from, item_named, one_moved, one_from, one_transferred, is_all, transfer}
-use Rattle.scott_rules.specs.Rounds.{no_way, way, walked, unmatched, by_found, by_lines, going, obeyed}
+use Rattle.scott_rules.specs.Actions.{ActionOutcome}
+use Rattle.scott_rules.specs.Groups.{Group, AutoOutcome, group_tried, groups, over_of, auto_after, auto_tried, auto_drawn, auto_group, automatic}
+use Rattle.scott_rules.specs.Search.{SearchOutcome, search_after, search_group, is_for, search_result}
+use Rattle.scott_rules.specs.Transfer.{AllOutcome, verb_for, destination, transferred, is_refused, is_taken, all_moved, all_after, all_item, all_items, is_too_dark, all_from, item_named, one_moved, one_from, one_transferred, is_all, transfer}
+use Rattle.scott_rules.specs.Rounds.{no_way, way, walk_result, unmatched, by_found, by_actions, going, command_result}
 use Rattle.scott_rules.proofs.FittingStates.{place_from_room, is_room-zero, Fits-with_place, Fits-redraw, Fits-room}
-use Rattle.scott_rules.proofs.FittingLines.{LeavesFitting, Fits-group_tried}
+use Rattle.scott_rules.proofs.FittingActions.{LeavesFitting, Fits-group_tried}
 
 module _ (db : Database) (limits : KeepsLimits db) where
   -- ---- the automatic step
 
   -- what comes next keeps a state fitting, whatever draws are left
-  abbrev KeepsAutomatic : (State → List ℕ → Told Step AutoOutcome) → Type 0
+  abbrev KeepsAutomatic : (State → List ℕ → Traced Step AutoOutcome) → Type 0
   KeepsAutomatic next = (r : State) (draws : List ℕ) → Fits db r → Fits db (next r draws).value.state
 
-  -- the groups behind one, unless the game is over
-  Fits-auto_behind : (over : Option ℕ) (t : Told Step LineOutcome) (draws : List ℕ) (next : State → List ℕ → Told Step AutoOutcome)
-      → Fits db t.value.state → KeepsAutomatic next → Fits db (auto_behind over t draws next).value.state
-  Fits-auto_behind None t draws next fits keeps = keeps t.value.state draws fits
-  Fits-auto_behind (Some ending) t draws next fits keeps = fits
+  -- the groups after one, unless the game is over
+  Fits-auto_after : (over : Option ℕ) (t : Traced Step ActionOutcome) (draws : List ℕ) (next : State → List ℕ → Traced Step AutoOutcome)
+      → Fits db t.value.state → KeepsAutomatic next → Fits db (auto_after over t draws next).value.state
+  Fits-auto_after None t draws next fits keeps = keeps t.value.state draws fits
+  Fits-auto_after (Some ending) t draws next fits keeps = fits
 
   -- a group that a draw lets in or not
-  Fits-auto_tried : (drawn : Bool) (g : Group) (s : State) (draws : List ℕ) (next : State → List ℕ → Told Step AutoOutcome)
+  Fits-auto_tried : (drawn : Bool) (g : Group) (s : State) (draws : List ℕ) (next : State → List ℕ → Traced Step AutoOutcome)
       → Fits db s → KeepsAutomatic next → Fits db (auto_tried drawn db g s draws next).value.state
   Fits-auto_tried true g s draws next fits keeps =
       let t = group_tried db [] g s in
-      Fits-auto_behind (over_of t.value.ran) t draws next (Fits-group_tried db limits [] g s fits) keeps
+      Fits-auto_after (over_of t.value.ran) t draws next (Fits-group_tried db limits [] g s fits) keeps
   Fits-auto_tried false g s draws next fits keeps = keeps s draws fits
 
   -- a group that takes a draw, or waits for it
-  Fits-auto_drawn : (g : Group) (s : State) (draws : List ℕ) (next : State → List ℕ → Told Step AutoOutcome)
+  Fits-auto_drawn : (g : Group) (s : State) (draws : List ℕ) (next : State → List ℕ → Traced Step AutoOutcome)
       → Fits db s → KeepsAutomatic next → Fits db (auto_drawn db g s draws next).value.state
   Fits-auto_drawn g s [] next fits keeps = fits
   Fits-auto_drawn g s (draw ∷ draws) next fits keeps = Fits-auto_tried (nat_le draw (noun_of g.vocab)) g s draws next fits keeps
 
   -- a group, automatic or not
-  Fits-auto_group : (is_automatic : Bool) (g : Group) (s : State) (draws : List ℕ) (next : State → List ℕ → Told Step AutoOutcome)
+  Fits-auto_group : (is_automatic : Bool) (g : Group) (s : State) (draws : List ℕ) (next : State → List ℕ → Traced Step AutoOutcome)
       → Fits db s → KeepsAutomatic next → Fits db (auto_group is_automatic db g s draws next).value.state
   Fits-auto_group true g s draws next fits keeps = Fits-auto_drawn g s draws next fits keeps
   Fits-auto_group false g s draws next fits keeps = keeps s draws fits
@@ -69,30 +69,30 @@ module _ (db : Database) (limits : KeepsLimits db) where
   -- ---- the search
 
   -- what comes next in the search keeps a state fitting
-  abbrev KeepsSearched : (State → Told Step SearchOutcome) → Type 0
+  abbrev KeepsSearched : (State → Traced Step SearchOutcome) → Type 0
   KeepsSearched next = (r : State) → Fits db r → Fits db (next r).value.state
 
-  -- the groups behind one whose head was tried
-  Fits-search_behind : (ran : Ran) (t : Told Step LineOutcome) (next : State → Told Step SearchOutcome)
-      → Fits db t.value.state → KeepsSearched next → Fits db (search_behind ran t next).value.state
-  Fits-search_behind Not t next fits keeps = keeps t.value.state fits
-  Fits-search_behind (Passed more) t next fits keeps = fits
-  Fits-search_behind (Ended ending) t next fits keeps = fits
+  -- the groups after one whose head was tried
+  Fits-search_after : (ran : Ran) (t : Traced Step ActionOutcome) (next : State → Traced Step SearchOutcome)
+      → Fits db t.value.state → KeepsSearched next → Fits db (search_after ran t next).value.state
+  Fits-search_after Not t next fits keeps = keeps t.value.state fits
+  Fits-search_after (Passed more) t next fits keeps = fits
+  Fits-search_after (Ended ending) t next fits keeps = fits
 
   -- a group, for the command or not
-  Fits-search_group : (is_meant : Bool) (typed : List ℕ) (g : Group) (s : State) (next : State → Told Step SearchOutcome)
+  Fits-search_group : (is_meant : Bool) (typed : List ℕ) (g : Group) (s : State) (next : State → Traced Step SearchOutcome)
       → Fits db s → KeepsSearched next → Fits db (search_group is_meant db typed g s next).value.state
   Fits-search_group true typed g s next fits keeps =
       let t = group_tried db typed g s in
-      Fits-search_behind t.value.ran t next (Fits-group_tried db limits typed g s fits) keeps
+      Fits-search_after t.value.ran t next (Fits-group_tried db limits typed g s fits) keeps
   Fits-search_group false typed g s next fits keeps = keeps s fits
 
   -- the whole search
-  Fits-searched : (typed : List ℕ) (verb : ℕ) (noun : Option ℕ) (gs : List Group) (s : State)
-      → Fits db s → Fits db (searched db typed verb noun gs s).value.state
-  Fits-searched typed verb noun [] s fits = fits
-  Fits-searched typed verb noun (g ∷ gs) s fits =
-      Fits-search_group (is_for verb noun g) typed g s (searched db typed verb noun gs) fits (Fits-searched typed verb noun gs)
+  Fits-search_result : (typed : List ℕ) (verb : ℕ) (noun : Option ℕ) (gs : List Group) (s : State)
+      → Fits db s → Fits db (search_result db typed verb noun gs s).value.state
+  Fits-search_result typed verb noun [] s fits = fits
+  Fits-search_result typed verb noun (g ∷ gs) s fits =
+      Fits-search_group (is_for verb noun g) typed g s (search_result db typed verb noun gs) fits (Fits-search_result typed verb noun gs)
 
   -- ---- getting and dropping
 
@@ -107,40 +107,40 @@ module _ (db : Database) (limits : KeepsLimits db) where
       Fits-redraw db limits _ true (Fits-with_place db limits s item (destination t s) (is_place-destination t s fits) fits)
 
   -- what comes next in a walk over the items keeps a state fitting
-  abbrev KeepsSwept : (State → Told Step Sweep) → Type 0
-  KeepsSwept next = (r : State) → Fits db r → Fits db (next r).value.state
+  abbrev KeepsAllResult : (State → Traced Step AllOutcome) → Type 0
+  KeepsAllResult next = (r : State) → Fits db r → Fits db (next r).value.state
 
   -- an item is brought, or refused
-  Fits-sweep_moved : (refused : Bool) (t : Transfer) (i : ℕ) (item : Item) (s : State) (next : State → Told Step Sweep)
-      → Fits db s → KeepsSwept next → Fits db (sweep_moved refused t i item s next).value.state
-  Fits-sweep_moved true t i item s next fits keeps = fits
-  Fits-sweep_moved false t i item s next fits keeps = keeps (transferred t i s) (Fits-transferred t i s fits)
+  Fits-all_moved : (refused : Bool) (t : Transfer) (i : ℕ) (item : Item) (s : State) (next : State → Traced Step AllOutcome)
+      → Fits db s → KeepsAllResult next → Fits db (all_moved refused t i item s next).value.state
+  Fits-all_moved true t i item s next fits keeps = fits
+  Fits-all_moved false t i item s next fits keeps = keeps (transferred t i s) (Fits-transferred t i s fits)
 
-  -- the same behind the item's lines
-  Fits-sweep_behind : (found : Found) (t : Transfer) (i : ℕ) (item : Item) (s : State) (next : State → Told Step Sweep)
-      → Fits db s → KeepsSwept next → Fits db (sweep_behind found t db i item s next).value.state
-  Fits-sweep_behind (Over ending) t i item s next fits keeps = fits
-  Fits-sweep_behind _ t i item s next fits keeps = Fits-sweep_moved (is_refused t db s) t i item s next fits keeps
+  -- the same after the item's lines
+  Fits-all_after : (found : Found) (t : Transfer) (i : ℕ) (item : Item) (s : State) (next : State → Traced Step AllOutcome)
+      → Fits db s → KeepsAllResult next → Fits db (all_after found t db i item s next).value.state
+  Fits-all_after (Over ending) t i item s next fits keeps = fits
+  Fits-all_after _ t i item s next fits keeps = Fits-all_moved (is_refused t db s) t i item s next fits keeps
 
-  -- an item, met or not
-  Fits-sweep_item : (met : Bool) (t : Transfer) (typed : List ℕ) (i : ℕ) (item : Item) (s : State) (next : State → Told Step Sweep)
-      → Fits db s → KeepsSwept next → Fits db (sweep_item met t db typed i item s next).value.state
-  Fits-sweep_item true t typed i item s next fits keeps =
+  -- an item, taken or not
+  Fits-all_item : (any_taken : Bool) (t : Transfer) (typed : List ℕ) (i : ℕ) (item : Item) (s : State) (next : State → Traced Step AllOutcome)
+      → Fits db s → KeepsAllResult next → Fits db (all_item any_taken t db typed i item s next).value.state
+  Fits-all_item true t typed i item s next fits keeps =
       let noun = which db Nouns (get_word item.text) in
-      let found = searched db typed (verb_for t) noun (groups db) s in
-      Fits-sweep_behind found.value.found t i item found.value.state next (Fits-searched typed (verb_for t) noun (groups db) s fits) keeps
-  Fits-sweep_item false t typed i item s next fits keeps = keeps s fits
+      let found = search_result db typed (verb_for t) noun (groups db) s in
+      Fits-all_after found.value.found t i item found.value.state next (Fits-search_result typed (verb_for t) noun (groups db) s fits) keeps
+  Fits-all_item false t typed i item s next fits keeps = keeps s fits
 
   -- all items
-  Fits-sweep : (t : Transfer) (typed : List ℕ) (i : ℕ) (items : List Item) (s : State) → Fits db s → Fits db (sweep t db typed i items s).value.state
-  Fits-sweep t typed i [] s fits = fits
-  Fits-sweep t typed i (item ∷ items) s fits =
-      Fits-sweep_item (is_met t i item s) t typed i item s (sweep t db typed (i + 1) items) fits (Fits-sweep t typed (i + 1) items)
+  Fits-all_items : (t : Transfer) (typed : List ℕ) (i : ℕ) (items : List Item) (s : State) → Fits db s → Fits db (all_items t db typed i items s).value.state
+  Fits-all_items t typed i [] s fits = fits
+  Fits-all_items t typed i (item ∷ items) s fits =
+      Fits-all_item (is_taken t i item s) t typed i item s (all_items t db typed (i + 1) items) fits (Fits-all_items t typed (i + 1) items)
 
   -- all items, unless it is too dark
   Fits-all_from : (too_dark : Bool) (t : Transfer) (typed : List ℕ) (s : State) → Fits db s → Fits db (all_from too_dark t db typed s).value.state
   Fits-all_from true t typed s fits = fits
-  Fits-all_from false t typed s fits = Fits-sweep t typed 0 db.items s fits
+  Fits-all_from false t typed s fits = Fits-all_items t typed 0 db.items s fits
 
   -- one item, or none
   Fits-one_moved : (t : Transfer) (item : Option ℕ) (s : State) → Fits db s → Fits db (one_moved t item s).value.state
@@ -166,11 +166,11 @@ module _ (db : Database) (limits : KeepsLimits db) where
   -- ---- moving
 
   -- an exit leads to a room, or to none
-  is_room-room_behind : (exit : ℤ) → IsTrue (is_room_of db (room_behind (length db.rooms) exit))
-  is_room-room_behind (pos n) =
+  is_room-room_beyond : (exit : ℤ) → IsTrue (is_room_of db (room_beyond (length db.rooms) exit))
+  is_room-room_beyond (pos n) =
       cond_both (nat_lt 0 n && nat_lt n (length db.rooms)) n 0 (λ room. IsTrue (is_room_of db room))
       (λ inside. (and_parts _ _ inside).1) (λ _. is_room-zero db limits)
-  is_room-room_behind (negsuc n) = is_room-zero db limits
+  is_room-room_beyond (negsuc n) = is_room-zero db limits
 
   -- no exit is there
   Fits-no_way : (dark : Bool) (s : State) → Fits db s → Fits db (no_way dark s).value.state
@@ -184,10 +184,10 @@ module _ (db : Database) (limits : KeepsLimits db) where
       cond_both (room == 0) _ _ (LeavesFitting db) (λ _. Fits-no_way (is_dark s) s fits) (λ _. went)
 
   -- a walk in a direction
-  pub Fits-walked : (noun : ℕ) (s : State) → Fits db s → Fits db (walked db noun s).value.state
-  Fits-walked noun s fits =
+  pub Fits-walk_result : (noun : ℕ) (s : State) → Fits db s → Fits db (walk_result db noun s).value.state
+  Fits-walk_result noun s fits =
       let exit = slice_index_or (room_at db s.room).exits (noun - 1) (pos 0) in
-      Fits-way (room_behind (length db.rooms) exit) s (is_room-room_behind exit) fits
+      Fits-way (room_beyond (length db.rooms) exit) s (is_room-room_beyond exit) fits
 
   -- ---- a command
 
@@ -200,7 +200,7 @@ module _ (db : Database) (limits : KeepsLimits db) where
       cond_both (verb == get_verb) _ _ (LeavesFitting db)
       (λ _. Fits-transfer PickUp typed noun s fits) (λ _. dropped)
 
-  -- a command behind its search
+  -- a command after its search
   Fits-by_found : (found : Found) (typed : List ℕ) (verb : ℕ) (noun : Option ℕ) (s : State)
       → Fits db s → Fits db (by_found found db typed verb noun s).value.state
   Fits-by_found (Over ending) typed verb noun s fits = fits
@@ -208,20 +208,20 @@ module _ (db : Database) (limits : KeepsLimits db) where
   Fits-by_found found typed verb noun s fits = Fits-unmatched typed verb noun found s fits
 
   -- a command that is searched
-  Fits-by_lines : (typed : List ℕ) (verb : ℕ) (noun : Option ℕ) (s : State) → Fits db s → Fits db (by_lines db typed verb noun s).value.state
-  Fits-by_lines typed verb noun s fits =
-      let t = searched db typed verb noun (groups db) s in
-      Fits-by_found t.value.found typed verb noun t.value.state (Fits-searched typed verb noun (groups db) s fits)
+  Fits-by_actions : (typed : List ℕ) (verb : ℕ) (noun : Option ℕ) (s : State) → Fits db s → Fits db (by_actions db typed verb noun s).value.state
+  Fits-by_actions typed verb noun s fits =
+      let t = search_result db typed verb noun (groups db) s in
+      Fits-by_found t.value.found typed verb noun t.value.state (Fits-search_result typed verb noun (groups db) s fits)
 
   -- going
   Fits-going : (typed : List ℕ) (noun : Option ℕ) (s : State) → Fits db s → Fits db (going db typed noun s).value.state
   Fits-going typed None s fits = fits
   Fits-going typed (Some noun) s fits =
       cond_both (is_direction noun) _ _ (LeavesFitting db)
-      (λ _. Fits-walked noun s fits) (λ _. Fits-by_lines typed go_verb (Some noun) s fits)
+      (λ _. Fits-walk_result noun s fits) (λ _. Fits-by_actions typed go_verb (Some noun) s fits)
 
   -- any command
-  pub Fits-obeyed : (typed : List ℕ) (verb : ℕ) (noun : Option ℕ) (s : State) → Fits db s → Fits db (obeyed db typed verb noun s).value.state
-  Fits-obeyed typed verb noun s fits =
+  pub Fits-command_result : (typed : List ℕ) (verb : ℕ) (noun : Option ℕ) (s : State) → Fits db s → Fits db (command_result db typed verb noun s).value.state
+  Fits-command_result typed verb noun s fits =
       cond_both (verb == go_verb) _ _ (LeavesFitting db)
-      (λ _. Fits-going typed noun s fits) (λ _. Fits-by_lines typed verb noun s fits)
+      (λ _. Fits-going typed noun s fits) (λ _. Fits-by_actions typed verb noun s fits)

@@ -4,7 +4,7 @@ pub mod Talking
 pub mod Spending
 pub mod Entries
 pub mod FittingStates
-pub mod FittingLines
+pub mod FittingActions
 pub mod FittingCommands
 pub mod Fitting
 pub mod Endings

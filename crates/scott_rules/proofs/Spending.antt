@@ -14,36 +14,16 @@ use Rattle.std.specs.Prelude.{filter_map}
 use Rattle.std.proofs.lemmas.List.Elements.{filter_map-append}
 use Rattle.adv_io.specs.declared.events.Event.{Event}
 use Rattle.adv_io.specs.History.{line_taken, draw_taken}
-use Rattle.scott_rules.specs.Told.{Told, Step, says, event_of, trace}
+use Rattle.adv_io.proofs.Spending.{Spends-append}
+use Rattle.adv_io.specs.Steps.{Spends, Step, Traced, event_of, said_steps, trace_of}
 use Rattle.scott_rules.specs.Commands.{heard}
-use Rattle.scott_rules.specs.Lines.{LineOutcome}
-use Rattle.scott_rules.specs.Groups.{Group, AutoOutcome, groups, groups_from, over_of, group_tried, auto_behind, auto_tried, auto_drawn, auto_group, automatic}
-use Rattle.scott_rules.specs.Rounds.{Standing, look_due, unmarked, prompted, to_prompt, advance, by_heard, answer}
-use Rattle.scott_rules.specs.Play.{Stop, with_line, go}
-use Rattle.scott_rules.specs.Laws.{Spends}
-use Rattle.scott_rules.proofs.Talking.{Talks, Talks-says, lines_taken-talk, draws_taken-talk, group_tried-talks, by_heard-talks}
+use Rattle.scott_rules.specs.Actions.{ActionOutcome}
+use Rattle.scott_rules.specs.Groups.{Group, AutoOutcome, groups, groups_from, over_of, group_tried, auto_after, auto_tried, auto_drawn, auto_group, automatic}
+use Rattle.scott_rules.specs.Rounds.{RoundEnd, look_due, unmarked, prompted, to_prompt, advance, by_heard, answer}
+use Rattle.scott_rules.specs.Play.{PlayEnd, with_line, go}
+use Rattle.scott_rules.proofs.Talking.{Talks, Talks-said_steps, lines_taken-talk, draws_taken-talk, group_tried-talks, by_heard-talks}
 
--- ---- one part behind another
-
-trace-append : (es fs : List Step) → trace (es ++ fs) ≡ trace es ++ trace fs
-trace-append es fs = filter_map-append event_of es fs
-
--- what is gathered from two parts in turn
-gathered : {Y : Type 0} (f : Event → Option Y) (es fs : List Step) (all between left : List Y)
-    → filter_map f (trace es) ++ between ≡ all → filter_map f (trace fs) ++ left ≡ between → filter_map f (trace (es ++ fs)) ++ left ≡ all
-gathered f es fs all between left h k =
-    ap (λ events. filter_map f events ++ left) (trace-append es fs)
-    ∙ ap (λ ys. ys ++ left) (filter_map-append f (trace es) (trace fs))
-    ∙ append_assoc (filter_map f (trace es)) (filter_map f (trace fs)) left
-    ∙ ap (λ ys. filter_map f (trace es) ++ ys) k ∙ h
-
-module _ (ls : List (List ℕ)) (ds : List ℕ) (es fs : List Step) where
-  Spends-append : (ls' : List (List ℕ)) (ds' : List ℕ) (left : List (List ℕ)) (draws_left : List ℕ)
-      → Spends ls ds es ls' ds' → Spends ls' ds' fs left draws_left → Spends ls ds (es ++ fs) left draws_left
-  Spends-append ls' ds' left draws_left h k = record {
-    lines_spent = gathered line_taken es fs ls ls' left h.lines_spent k.lines_spent;
-    draws_spent = gathered draw_taken es fs ds ds' draws_left h.draws_spent k.draws_spent;
-  }
+-- ---- what only says
 
 -- what only says and tries leaves all lines and draws
 Spends-talk : (ls : List (List ℕ)) (ds : List ℕ) (es : List Step) → Talks es → Spends ls ds es ls ds
@@ -52,33 +32,33 @@ Spends-talk ls ds es h = record { lines_spent = ap (λ xs. xs ++ ls) (lines_take
 -- ---- the automatic step, beside any lines
 
 module _ (ls : List (List ℕ)) where
-  abbrev AutoSpends : List ℕ → Told Step AutoOutcome → Type 0
+  abbrev AutoSpends : List ℕ → Traced Step AutoOutcome → Type 0
   AutoSpends draws t = Spends ls draws t.events ls t.value.draws
 
-  abbrev AlwaysSpends : (State → List ℕ → Told Step AutoOutcome) → Type 0
+  abbrev AlwaysSpends : (State → List ℕ → Traced Step AutoOutcome) → Type 0
   AlwaysSpends next = (s : State) (draws : List ℕ) → AutoSpends draws (next s draws)
 
-  behind : (over : Option ℕ) (t : Told Step LineOutcome) (draws : List ℕ) (next : State → List ℕ → Told Step AutoOutcome)
-      → Talks t.events → AlwaysSpends next → AutoSpends draws (auto_behind over t draws next)
-  behind None t draws next h rest =
+  after : (over : Option ℕ) (t : Traced Step ActionOutcome) (draws : List ℕ) (next : State → List ℕ → Traced Step AutoOutcome)
+      → Talks t.events → AlwaysSpends next → AutoSpends draws (auto_after over t draws next)
+  after None t draws next h rest =
       let n = next t.value.state draws in
       Spends-append ls draws t.events n.events ls draws ls n.value.draws (Spends-talk ls draws t.events h) (rest t.value.state draws)
-  behind (Some ending) t draws next h rest = Spends-talk ls draws t.events h
+  after (Some ending) t draws next h rest = Spends-talk ls draws t.events h
 
-  tried : (b : Bool) (db : Database) (g : Group) (s : State) (draws : List ℕ) (next : State → List ℕ → Told Step AutoOutcome)
+  tried : (b : Bool) (db : Database) (g : Group) (s : State) (draws : List ℕ) (next : State → List ℕ → Traced Step AutoOutcome)
       → AlwaysSpends next → AutoSpends draws (auto_tried b db g s draws next)
   tried true db g s draws next rest =
-      let t = group_tried db [] g s in behind (over_of t.value.ran) t draws next (group_tried-talks db [] g s) rest
+      let t = group_tried db [] g s in after (over_of t.value.ran) t draws next (group_tried-talks db [] g s) rest
   tried false db g s draws next rest = rest s draws
 
-  drawn : (db : Database) (g : Group) (s : State) (draws : List ℕ) (next : State → List ℕ → Told Step AutoOutcome)
+  drawn : (db : Database) (g : Group) (s : State) (draws : List ℕ) (next : State → List ℕ → Traced Step AutoOutcome)
       → AlwaysSpends next → AutoSpends draws (auto_drawn db g s draws next)
   drawn db g s [] next rest = record { lines_spent = refl; draws_spent = refl }
   drawn db g s (draw ∷ draws) next rest =
       let h = tried (nat_le draw (noun_of g.vocab)) db g s draws next rest in
       record { lines_spent = h.lines_spent; draws_spent = ap (λ xs. draw ∷ xs) h.draws_spent }
 
-  group : (b : Bool) (db : Database) (g : Group) (s : State) (draws : List ℕ) (next : State → List ℕ → Told Step AutoOutcome)
+  group : (b : Bool) (db : Database) (g : Group) (s : State) (draws : List ℕ) (next : State → List ℕ → Traced Step AutoOutcome)
       → AlwaysSpends next → AutoSpends draws (auto_group b db g s draws next)
   group true db g s draws next rest = drawn db g s draws next rest
   group false db g s draws next rest = rest s draws
@@ -90,26 +70,26 @@ module _ (ls : List (List ℕ)) where
 
   -- ---- up to the prompt
 
-  abbrev StandingSpends : List ℕ → Told Step Standing → Type 0
-  StandingSpends draws t = Spends ls draws t.events ls t.value.draws
+  abbrev RoundEndSpends : List ℕ → Traced Step RoundEnd → Type 0
+  RoundEndSpends draws t = Spends ls draws t.events ls t.value.draws
 
-  prompted-spends : (halt : Halt) (db : Database) (s : State) (draws : List ℕ) → StandingSpends draws (prompted halt db s draws)
+  prompted-spends : (halt : Halt) (db : Database) (s : State) (draws : List ℕ) → RoundEndSpends draws (prompted halt db s draws)
   prompted-spends Through db s draws =
-      let said = look_due db s ++ text_of Prompt in Spends-talk ls draws (says said) (Talks-says said)
+      let said = look_due db s ++ text_of Prompt in Spends-talk ls draws (said_steps said) (Talks-said_steps said)
   prompted-spends (Waits head) db s draws = Spends-talk ls draws [] refl
   prompted-spends (AtEnd ending) db s draws = Spends-talk ls draws [] refl
 
-  to_prompt-spends : (db : Database) (draws : List ℕ) (t : Told Step AutoOutcome) → AutoSpends draws t → StandingSpends draws (to_prompt db t)
+  to_prompt-spends : (db : Database) (draws : List ℕ) (t : Traced Step AutoOutcome) → AutoSpends draws t → RoundEndSpends draws (to_prompt db t)
   to_prompt-spends db draws t h =
       let p = prompted t.value.halt db t.value.state t.value.draws in
       Spends-append ls draws t.events p.events ls t.value.draws ls p.value.draws h (prompted-spends t.value.halt db t.value.state t.value.draws)
 
-  advance-spends : (db : Database) (position : Position) (s : State) (draws : List ℕ) → StandingSpends draws (advance db position s draws)
+  advance-spends : (db : Database) (position : Position) (s : State) (draws : List ℕ) → RoundEndSpends draws (advance db position s draws)
   advance-spends db Fresh s draws =
       let t = automatic db (groups db) (unmarked s) draws in
       let p = to_prompt db t in
-      Spends-append ls draws (says (look_due db s)) p.events ls draws ls p.value.draws
-      (Spends-talk ls draws (says (look_due db s)) (Talks-says (look_due db s)))
+      Spends-append ls draws (said_steps (look_due db s)) p.events ls draws ls p.value.draws
+      (Spends-talk ls draws (said_steps (look_due db s)) (Talks-said_steps (look_due db s)))
       (to_prompt-spends db draws t (automatic-spends db (groups db) (unmarked s) draws))
   advance-spends db (Draw head) s draws =
       to_prompt-spends db draws (automatic db (groups_from db head) s draws) (automatic-spends db (groups_from db head) s draws)
@@ -123,14 +103,14 @@ answer-spends db line lines s draws =
     let h = Spends-talk lines draws (by_heard (heard db line) db line s).events (by_heard-talks (heard db line) db line s) in
     record { lines_spent = ap (λ xs. line ∷ xs) h.lines_spent; draws_spent = h.draws_spent }
 
-abbrev StopSpends : List (List ℕ) → List ℕ → Told Step Stop → Type 0
-StopSpends lines draws t = Spends lines draws t.events t.value.lines t.value.draws
+abbrev PlayEndSpends : List (List ℕ) → List ℕ → Traced Step PlayEnd → Type 0
+PlayEndSpends lines draws t = Spends lines draws t.events t.value.lines t.value.draws
 
-with_line-spends : (position : Position) (db : Database) (line : List ℕ) (lines : List (List ℕ)) (draws : List ℕ) (t : Told Step Standing)
-    (next : Position → State → List ℕ → Told Step Stop)
+with_line-spends : (position : Position) (db : Database) (line : List ℕ) (lines : List (List ℕ)) (draws : List ℕ) (t : Traced Step RoundEnd)
+    (next : Position → State → List ℕ → Traced Step PlayEnd)
     → Spends (line ∷ lines) draws t.events (line ∷ lines) t.value.draws
-    → ((p : Position) (s : State) (ds : List ℕ) → StopSpends lines ds (next p s ds))
-    → StopSpends (line ∷ lines) draws (with_line position db line lines t next)
+    → ((p : Position) (s : State) (ds : List ℕ) → PlayEndSpends lines ds (next p s ds))
+    → PlayEndSpends (line ∷ lines) draws (with_line position db line lines t next)
 with_line-spends Line db line lines draws t next here rest =
     let a = answer db line t.value.state in
     let n = next a.value.position a.value.state t.value.draws in
@@ -141,7 +121,7 @@ with_line-spends Fresh db line lines draws t next here rest = here
 with_line-spends (Draw head) db line lines draws t next here rest = here
 with_line-spends (Over ending) db line lines draws t next here rest = here
 
-pub go-spends : (db : Database) (lines : List (List ℕ)) (position : Position) (s : State) (draws : List ℕ) → StopSpends lines draws (go db position s lines draws)
+pub go-spends : (db : Database) (lines : List (List ℕ)) (position : Position) (s : State) (draws : List ℕ) → PlayEndSpends lines draws (go db position s lines draws)
 unfolding go
 go-spends db [] position s draws = advance-spends [] db position s draws
 go-spends db (line ∷ lines) position s draws =

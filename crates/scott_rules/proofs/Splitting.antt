@@ -9,24 +9,24 @@ use Rattle.scott_types.specs.declared.endings.Position.{Position}
 use Rattle.scott_types.specs.declared.endings.Position.TheVariants.{Fresh, Draw, Line, Over}
 use Rattle.scott_types.specs.Database.{Database}
 use Rattle.scott_types.specs.Action.{verb_of, noun_of}
-use Rattle.scott_rules.specs.Told.{Told, Step, Drew, telling, after, says}
-use Rattle.scott_rules.specs.Lines.{LineOutcome}
-use Rattle.scott_rules.specs.Groups.{Group, AutoOutcome, groups_of, groups_from, tail_of, over_of, group_tried, auto_behind, auto_tried, auto_drawn, auto_group, automatic}
-use Rattle.scott_rules.specs.Rounds.{Standing, look_due, unmarked, prompted, to_prompt, advance, answer}
-use Rattle.scott_rules.specs.Play.{Stop, stopped, with_line, go}
+use Rattle.adv_io.specs.Steps.{Drew, Step, Traced, after, said_steps, traced}
+use Rattle.scott_rules.specs.Actions.{ActionOutcome}
+use Rattle.scott_rules.specs.Groups.{Group, AutoOutcome, groups_of, groups_from, tail_of, over_of, group_tried, auto_after, auto_tried, auto_drawn, auto_group, automatic}
+use Rattle.scott_rules.specs.Rounds.{RoundEnd, look_due, unmarked, prompted, to_prompt, advance, answer}
+use Rattle.scott_rules.specs.Play.{PlayEnd, stopped, with_line, go}
 use Rattle.scott_rules.specs.Laws.{with_more}
 
--- ---- records of what was told
+-- ---- records of steps and a value
 
-pub after-after : {R : Type 0} → (es fs : List Step) (t : Told Step R) → after es (after fs t) ≡ after (es ++ fs) t
-after-after es fs t = ap (λ gs. telling gs t.value) (sym (append_assoc es fs t.events))
+pub after-after : {R : Type 0} → (es fs : List Step) (t : Traced Step R) → after es (after fs t) ≡ after (es ++ fs) t
+after-after es fs t = ap (λ gs. traced gs t.value) (sym (append_assoc es fs t.events))
 
-pub after-nothing : {R : Type 0} (es : List Step) (value : R) → after es (telling [] value) ≡ telling es value
-after-nothing es value = ap (λ fs. telling fs value) (append-nil es)
+pub after-nothing : {R : Type 0} (es : List Step) (value : R) → after es (traced [] value) ≡ traced es value
+after-nothing es value = ap (λ fs. traced fs value) (append-nil es)
 
--- ---- the groups behind a group
+-- ---- the groups after a group
 
--- each group, with those behind it, is what stands from its head on
+-- each group, with those after it, is what stands from its head on
 abbrev pub StandFromHeads : Database → List Group → Type 0
 StandFromHeads db [] = Unit {0}
 StandFromHeads db (g ∷ gs) = (groups_from db g.head ≡ g ∷ gs) × StandFromHeads db gs
@@ -50,36 +50,36 @@ StandFromHeads-groups_of db k (a ∷ xs) e = by_head (eqb a.vocab 0) (StandFromH
 -- ---- the automatic step
 
 -- where a step waited for a draw it goes on with further ones; otherwise they are left
-abbrev pub resumed : Halt → Database → List ℕ → Told Step AutoOutcome → Told Step AutoOutcome
+abbrev pub resumed : Halt → Database → List ℕ → Traced Step AutoOutcome → Traced Step AutoOutcome
 resumed (Waits head) db further t = after t.events (automatic db (groups_from db head) t.value.state (t.value.draws ++ further))
-resumed _ db further t = telling t.events (record t.value { draws = t.value.draws ++ further })
+resumed _ db further t = traced t.events (record t.value { draws = t.value.draws ++ further })
 
-abbrev pub resume : Database → List ℕ → Told Step AutoOutcome → Told Step AutoOutcome
+abbrev pub resume : Database → List ℕ → Traced Step AutoOutcome → Traced Step AutoOutcome
 resume db further t = resumed t.value.halt db further t
 
-resumed-after : (halt : Halt) (db : Database) (further : List ℕ) (es : List Step) (t : Told Step AutoOutcome)
+resumed-after : (halt : Halt) (db : Database) (further : List ℕ) (es : List Step) (t : Traced Step AutoOutcome)
     → after es (resumed halt db further t) ≡ resumed halt db further (after es t)
 resumed-after Through db further es t = refl
 resumed-after (Waits head) db further es t = after-after es t.events _
 resumed-after (AtEnd ending) db further es t = refl
 
 -- what comes next goes on with further draws as it would have with them from the beginning
-abbrev GoesOn : Database → List ℕ → (State → List ℕ → Told Step AutoOutcome) → Type 0
+abbrev GoesOn : Database → List ℕ → (State → List ℕ → Traced Step AutoOutcome) → Type 0
 GoesOn db further next = (s : State) (draws : List ℕ) → next s (draws ++ further) ≡ resume db further (next s draws)
 
-behind : (over : Option ℕ) (db : Database) (further draws : List ℕ) (t : Told Step LineOutcome) (next : State → List ℕ → Told Step AutoOutcome)
-    → GoesOn db further next → auto_behind over t (draws ++ further) next ≡ resume db further (auto_behind over t draws next)
-behind None db further draws t next on =
+later : (over : Option ℕ) (db : Database) (further draws : List ℕ) (t : Traced Step ActionOutcome) (next : State → List ℕ → Traced Step AutoOutcome)
+    → GoesOn db further next → auto_after over t (draws ++ further) next ≡ resume db further (auto_after over t draws next)
+later None db further draws t next on =
     ap (after t.events) (on t.value.state draws) ∙ resumed-after (next t.value.state draws).value.halt db further t.events (next t.value.state draws)
-behind (Some ending) db further draws t next on = refl
+later (Some ending) db further draws t next on = refl
 
-tried : (passes : Bool) (db : Database) (g : Group) (s : State) (further draws : List ℕ) (next : State → List ℕ → Told Step AutoOutcome)
+tried : (passes : Bool) (db : Database) (g : Group) (s : State) (further draws : List ℕ) (next : State → List ℕ → Traced Step AutoOutcome)
     → GoesOn db further next → auto_tried passes db g s (draws ++ further) next ≡ resume db further (auto_tried passes db g s draws next)
-tried true db g s further draws next on = let t = group_tried db [] g s in behind (over_of t.value.ran) db further draws t next on
+tried true db g s further draws next on = let t = group_tried db [] g s in later (over_of t.value.ran) db further draws t next on
 tried false db g s further draws next on = on s draws
 
--- at a group that waits, what is left is the group and those behind it
-drawn : (db : Database) (g : Group) (s : State) (further draws : List ℕ) (next : State → List ℕ → Told Step AutoOutcome)
+-- at a group that waits, what is left is the group and those after it
+drawn : (db : Database) (g : Group) (s : State) (further draws : List ℕ) (next : State → List ℕ → Traced Step AutoOutcome)
     → GoesOn db further next → automatic db (groups_from db g.head) s further ≡ auto_drawn db g s further next
     → auto_drawn db g s (draws ++ further) next ≡ resume db further (auto_drawn db g s draws next)
 drawn db g s further [] next on here = sym here
@@ -88,7 +88,7 @@ drawn db g s further (draw ∷ draws) next on here =
     ap (after (Drew draw ∷ [])) (tried b db g s further draws next on)
     ∙ resumed-after (auto_tried b db g s draws next).value.halt db further (Drew draw ∷ []) (auto_tried b db g s draws next)
 
-group : (is_automatic : Bool) (db : Database) (g : Group) (s : State) (further draws : List ℕ) (next : State → List ℕ → Told Step AutoOutcome)
+group : (is_automatic : Bool) (db : Database) (g : Group) (s : State) (further draws : List ℕ) (next : State → List ℕ → Traced Step AutoOutcome)
     → GoesOn db further next → automatic db (groups_from db g.head) s further ≡ auto_group is_automatic db g s further next
     → auto_group is_automatic db g s (draws ++ further) next ≡ resume db further (auto_group is_automatic db g s draws next)
 group true db g s further draws next on here = drawn db g s further draws next on here
@@ -102,18 +102,18 @@ automatic-resume db (g ∷ gs) further stand s draws =
 
 -- ---- up to the prompt
 
-to_prompt-after : (db : Database) (es : List Step) (t : Told Step AutoOutcome) → to_prompt db (after es t) ≡ after es (to_prompt db t)
+to_prompt-after : (db : Database) (es : List Step) (t : Traced Step AutoOutcome) → to_prompt db (after es t) ≡ after es (to_prompt db t)
 to_prompt-after db es t = sym (after-after es t.events (prompted t.value.halt db t.value.state t.value.draws))
 
--- what comes up to the prompt, from where it stopped, with further draws
-abbrev pub advance_on : Database → List ℕ → Told Step Standing → Told Step Standing
+-- what is done up to the prompt, from where it stopped, with further draws
+abbrev pub advance_on : Database → List ℕ → Traced Step RoundEnd → Traced Step RoundEnd
 advance_on db further t = after t.events (advance db t.value.position t.value.state (t.value.draws ++ further))
 
-advance_on-after : (db : Database) (further : List ℕ) (es : List Step) (t : Told Step Standing) → advance_on db further (after es t) ≡ after es (advance_on db further t)
+advance_on-after : (db : Database) (further : List ℕ) (es : List Step) (t : Traced Step RoundEnd) → advance_on db further (after es t) ≡ after es (advance_on db further t)
 advance_on-after db further es t = sym (after-after es t.events (advance db t.value.position t.value.state (t.value.draws ++ further)))
 
 to_prompt-resumed : (halt : Halt) (db : Database) (further : List ℕ) (es : List Step) (s : State) (draws : List ℕ)
-    → let t : Told Step AutoOutcome = telling es (record { state = s; draws = draws; halt = halt }) in
+    → let t : Traced Step AutoOutcome = traced es (record { state = s; draws = draws; halt = halt }) in
     to_prompt db (resume db further t) ≡ advance_on db further (to_prompt db t)
 to_prompt-resumed Through db further es s draws =
     sym (after-nothing (es ++ (prompted Through db s draws).events) (record { position = Line; state = unmarked s; draws = draws ++ further }))
@@ -135,7 +135,7 @@ automatic-on db line s draws further =
 pub advance-on : (db : Database) (position : Position) (s : State) (draws further : List ℕ)
     → advance db position s (draws ++ further) ≡ advance_on db further (advance db position s draws)
 advance-on db Fresh s draws further =
-    let first = says (look_due db s) in
+    let first = said_steps (look_due db s) in
     ap (after first) (automatic-on db 0 (unmarked s) draws further)
     ∙ sym (advance_on-after db further first (to_prompt db (automatic db (groups_from db 0) (unmarked s) draws)))
 advance-on db (Draw head) s draws further = automatic-on db head s draws further
@@ -144,8 +144,8 @@ advance-on db (Over ending) s draws further = refl
 
 -- ---- the play
 
-with_line-after : (position : Position) (db : Database) (line : List ℕ) (lines : List (List ℕ)) (es : List Step) (t : Told Step Standing)
-    (next : Position → State → List ℕ → Told Step Stop)
+with_line-after : (position : Position) (db : Database) (line : List ℕ) (lines : List (List ℕ)) (es : List Step) (t : Traced Step RoundEnd)
+    (next : Position → State → List ℕ → Traced Step PlayEnd)
     → with_line position db line lines (after es t) next ≡ after es (with_line position db line lines t next)
 with_line-after Line db line lines es t next = sym (after-after es t.events _)
 with_line-after Fresh db line lines es t next = refl
@@ -166,10 +166,10 @@ go-advance db position s (line ∷ lines) draws further =
     ∙ with_line-after u.value.position db line lines t.events u next
 
 -- the rest of a play, with more lines and draws
-abbrev pub go_on : Database → List (List ℕ) → List ℕ → Told Step Stop → Told Step Stop
+abbrev pub go_on : Database → List (List ℕ) → List ℕ → Traced Step PlayEnd → Traced Step PlayEnd
 go_on db more further t = after t.events (go db t.value.position t.value.state (t.value.lines ++ more) (t.value.draws ++ further))
 
-go_on-after : (db : Database) (more : List (List ℕ)) (further : List ℕ) (es : List Step) (t : Told Step Stop) → go_on db more further (after es t) ≡ after es (go_on db more further t)
+go_on-after : (db : Database) (more : List (List ℕ)) (further : List ℕ) (es : List Step) (t : Traced Step PlayEnd) → go_on db more further (after es t) ≡ after es (go_on db more further t)
 go_on-after db more further es t = sym (after-after es t.events (go db t.value.position t.value.state (t.value.lines ++ more) (t.value.draws ++ further)))
 
 abbrev GoesOnFromLine : Database → List (List ℕ) → List (List ℕ) → List ℕ → Type 0
@@ -179,7 +179,7 @@ GoesOnFromLine db lines more further = (position : Position) (s : State) (draws 
 at_line : (position : Position) (db : Database) (line : List ℕ) (lines more : List (List ℕ)) (further : List ℕ) (es : List Step) (s : State) (draws : List ℕ)
     → GoesOnFromLine db lines more further
     → after es (go db position s (line ∷ (lines ++ more)) (draws ++ further))
-    ≡ go_on db more further (with_line position db line lines (telling es (record { position = position; state = s; draws = draws })) (λ p r ds. go db p r lines ds))
+    ≡ go_on db more further (with_line position db line lines (traced es (record { position = position; state = s; draws = draws })) (λ p r ds. go db p r lines ds))
 unfolding go
 at_line Line db line lines more further es s draws on =
     let a = answer db line s in
@@ -202,18 +202,18 @@ go-splits db (line ∷ lines) more further position s draws =
 -- ---- the end
 
 go-over : (db : Database) (ending : ℕ) (s : State) (lines : List (List ℕ)) (draws : List ℕ)
-    → go db (Over ending) s lines draws ≡ telling [] (record { position = Over ending; state = s; lines = lines; draws = draws })
+    → go db (Over ending) s lines draws ≡ traced [] (record { position = Over ending; state = s; lines = lines; draws = draws })
 unfolding go
 go-over db ending s [] draws = refl
 go-over db ending s (line ∷ lines) draws = refl
 
-over-on : (db : Database) (more : List (List ℕ)) (further : List ℕ) (ending : ℕ) (t : Told Step Stop)
+over-on : (db : Database) (more : List (List ℕ)) (further : List ℕ) (ending : ℕ) (t : Traced Step PlayEnd)
     → t.value.position ≡ Over ending → go_on db more further t ≡ with_more more further t
 over-on db more further ending t e =
     ap (λ p. after t.events (go db p t.value.state (t.value.lines ++ more) (t.value.draws ++ further))) e
     ∙ ap (after t.events) (go-over db ending t.value.state (t.value.lines ++ more) (t.value.draws ++ further))
     ∙ after-nothing t.events (record { position = Over ending; state = t.value.state; lines = t.value.lines ++ more; draws = t.value.draws ++ further })
-    ∙ ap (λ p. telling t.events (record { position = p; state = t.value.state; lines = t.value.lines ++ more; draws = t.value.draws ++ further })) (sym e)
+    ∙ ap (λ p. traced t.events (record { position = p; state = t.value.state; lines = t.value.lines ++ more; draws = t.value.draws ++ further })) (sym e)
 
 pub go-stays_over : (db : Database) (position : Position) (s : State) (lines more : List (List ℕ)) (draws further : List ℕ) (ending : ℕ)
     → (go db position s lines draws).value.position ≡ Over ending

@@ -15,24 +15,26 @@ use Rattle.scott_types.specs.declared.endings.Found.TheVariants.{Over, Done, Mat
 use Rattle.scott_types.specs.declared.endings.Transfer.{Transfer}
 use Rattle.scott_types.specs.declared.endings.Transfer.TheVariants.{PickUp, PutDown}
 use Rattle.scott_types.specs.declared.phrases.Phrase.TheVariants.{TooMuch, ItemDone, DarkGet, BeyondPower, Done as DonePhrase, WhatItem, BrokenNeck, NoExitThere, Moved, DarkMove, NeedDirection, Prompt}
-use Rattle.scott_types.specs.Database.{Database, room_at}
+use Rattle.scott_types.specs.Action.{is_zero_action}
+use Rattle.scott_types.specs.Database.{Database, action_at, room_at}
 use Rattle.scott_types.specs.Phrase.{text_of}
 use Rattle.scott_types.specs.Room.{exit_of}
 use Rattle.scott_types.specs.State.{is_dark}
 use Rattle.scott_types.specs.ItemText.{get_word, shown}
-use Rattle.scott_rules.specs.Told.{Told, Outcome, Step, Said, Took, Drew, Tried, says, saying, goes_on, and_then, then_if_on, trace}
+use Rattle.adv_io.specs.Steps.{Drew, Noted, Said, Step, Took, Traced, said_steps, trace_of, traced_text}
+use Rattle.scott_rules.specs.Outcomes.{Outcome, goes_on, and_then, then_if_on}
 use Rattle.scott_rules.specs.Words.{which, root}
 use Rattle.scott_rules.specs.Commands.{is_direction, typed_noun, word_at, go_verb, get_verb, drop_verb}
-use Rattle.scott_rules.specs.Lines.{LineOutcome, line_done, line_tried}
-use Rattle.scott_rules.specs.Groups.{Group, groups, tail_line, tail_tried, behind_head, group_tried}
-use Rattle.scott_rules.specs.Search.{SearchOutcome, is_for, search_behind, search_group, searched}
-use Rattle.scott_rules.specs.Transfer.{Sweep, verb_for, is_met, is_refused, is_too_dark, is_all, transferred, sweep_moved, sweep_behind, sweep_item, sweep, none_met, all_from, all_transferred, item_named, one_moved, one_from, one_transferred, transfer}
+use Rattle.scott_rules.specs.Actions.{note_of, ActionOutcome, action_result, try_action}
+use Rattle.scott_rules.specs.Groups.{Group, groups, tail_action, tail_tried, after_head, group_tried}
+use Rattle.scott_rules.specs.Search.{SearchOutcome, is_for, search_after, search_group, search_result}
+use Rattle.scott_rules.specs.Transfer.{AllOutcome, verb_for, is_taken, is_refused, is_too_dark, is_all, transferred, all_moved, all_after, all_item, all_items, none_taken, all_from, all_transferred, item_named, one_moved, one_from, one_transferred, transfer}
 use Rattle.scott_rules.specs.Light.{light_counted}
-use Rattle.scott_rules.specs.Rounds.{moved_to, no_way, way, walked, not_done, unmatched, by_found, by_lines, going, obeyed, turn_ended, by_heard, unknown_word}
+use Rattle.scott_rules.specs.Rounds.{moved_to, no_way, way, walk_result, not_done, unmatched, by_found, by_actions, going, command_result, turn_ended, by_heard, unknown_word}
 
 abbrev pub is_talk : Step → Bool
 is_talk (Said byte) = true
-is_talk (Tried line) = true
+is_talk (Noted line) = true
 is_talk (Took line) = false
 is_talk (Drew draw) = false
 
@@ -41,134 +43,140 @@ Talks steps = list_all is_talk steps ≡ true
 
 -- ---- lists of steps
 
-pub Talks-says : (bytes : List ℕ) → Talks (says bytes)
-Talks-says [] = refl
-Talks-says (byte ∷ bytes) = Talks-says bytes
+pub Talks-said_steps : (bytes : List ℕ) → Talks (said_steps bytes)
+Talks-said_steps [] = refl
+Talks-said_steps (byte ∷ bytes) = Talks-said_steps bytes
 
-and-front : (b p q : Bool) → b && p ≡ true → (p ≡ true → q ≡ true) → b && q ≡ true
-and-front true p q h k = k h
-and-front false p q h k = h
+and-prefix : (b p q : Bool) → b && p ≡ true → (p ≡ true → q ≡ true) → b && q ≡ true
+and-prefix true p q h k = k h
+and-prefix false p q h k = h
 
 pub Talks-append : (es fs : List Step) → Talks es → Talks fs → Talks (es ++ fs)
 Talks-append [] fs h k = k
 Talks-append (e ∷ es) fs h k =
-    and-front (is_talk e) (list_all is_talk es) (list_all is_talk (es ++ fs)) h (λ rest. Talks-append es fs rest k)
+    and-prefix (is_talk e) (list_all is_talk es) (list_all is_talk (es ++ fs)) h (λ rest. Talks-append es fs rest k)
 
-pub lines_taken-talk : (es : List Step) → Talks es → lines_taken (trace es) ≡ []
+pub lines_taken-talk : (es : List Step) → Talks es → lines_taken (trace_of es) ≡ []
 lines_taken-talk [] h = refl
 lines_taken-talk (Said byte ∷ es) h = lines_taken-talk es h
-lines_taken-talk (Tried line ∷ es) h = lines_taken-talk es h
+lines_taken-talk (Noted line ∷ es) h = lines_taken-talk es h
 lines_taken-talk (Took line ∷ es) h = cc
 lines_taken-talk (Drew draw ∷ es) h = cc
 
-pub draws_taken-talk : (es : List Step) → Talks es → draws_taken (trace es) ≡ []
+pub draws_taken-talk : (es : List Step) → Talks es → draws_taken (trace_of es) ≡ []
 draws_taken-talk [] h = refl
 draws_taken-talk (Said byte ∷ es) h = draws_taken-talk es h
-draws_taken-talk (Tried line ∷ es) h = draws_taken-talk es h
+draws_taken-talk (Noted line ∷ es) h = draws_taken-talk es h
 draws_taken-talk (Took line ∷ es) h = cc
 draws_taken-talk (Drew draw ∷ es) h = cc
 
--- ---- one part behind another
+-- ---- one part after another
 
 -- whatever the state, the next part talks
-abbrev AlwaysTalks : {R : Type 0} → (State → Told Step R) → Type 0
+abbrev AlwaysTalks : {R : Type 0} → (State → Traced Step R) → Type 0
 AlwaysTalks next = (s : State) → Talks (next s).events
 
-Talks-cond : {R : Type 0} (b : Bool) (t u : Told Step R) → Talks t.events → Talks u.events → Talks (cond b t u).events
+Talks-cond : {R : Type 0} (b : Bool) (t u : Traced Step R) → Talks t.events → Talks u.events → Talks (cond b t u).events
 Talks-cond true t u h k = h
 Talks-cond false t u h k = k
 
-Talks-and_then : (t : Told Step Outcome) (next : State → Told Step Outcome) → Talks t.events → AlwaysTalks next → Talks (and_then t next).events
+Talks-and_then : (t : Traced Step Outcome) (next : State → Traced Step Outcome) → Talks t.events → AlwaysTalks next → Talks (and_then t next).events
 Talks-and_then t next h rest = by_over t.value.over
   where
     by_over : (over : Option ℕ) → Talks (then_if_on over t next).events
     by_over None = Talks-append t.events (next t.value.state).events h (rest t.value.state)
     by_over (Some ending) = h
 
--- ---- lines and groups
+-- ---- actions and groups
 
-line_tried-talks : (db : Database) (noun : List ℕ) (line : ℕ) (s : State) → Talks (line_tried db noun line s).events
-line_tried-talks db noun line s = Talks-says (line_done db noun line s).events
+note-talks : (zero : Bool) (line : ℕ) → Talks (cond zero [] (Noted line ∷ []))
+note-talks true line = refl
+note-talks false line = refl
+
+try_action-talks : (db : Database) (noun : List ℕ) (line : ℕ) (s : State) → Talks (try_action db noun line s).events
+try_action-talks db noun line s =
+    Talks-append (note_of (action_at db line) line) (said_steps (action_result db noun line s).events)
+    (note-talks (is_zero_action (action_at db line)) line) (Talks-said_steps (action_result db noun line s).events)
 
 tail_tried-talks : (db : Database) (noun lines : List ℕ) → AlwaysTalks (tail_tried db noun lines)
 tail_tried-talks db noun [] s = refl
 tail_tried-talks db noun (line ∷ lines) s =
-    Talks-and_then (tail_line db noun line s) (tail_tried db noun lines) (line_tried-talks db noun line s) (tail_tried-talks db noun lines)
+    Talks-and_then (tail_action db noun line s) (tail_tried db noun lines) (try_action-talks db noun line s) (tail_tried-talks db noun lines)
 
-behind_head-talks : (ran : Ran) (db : Database) (noun tail : List ℕ) (t : Told Step LineOutcome) → Talks t.events → Talks (behind_head ran db noun tail t).events
-behind_head-talks (Passed true) db noun tail t h =
+after_head-talks : (ran : Ran) (db : Database) (noun tail : List ℕ) (t : Traced Step ActionOutcome) → Talks t.events → Talks (after_head ran db noun tail t).events
+after_head-talks (Passed true) db noun tail t h =
     Talks-append t.events (tail_tried db noun tail t.value.state).events h (tail_tried-talks db noun tail t.value.state)
-behind_head-talks (Passed false) db noun tail t h = h
-behind_head-talks Not db noun tail t h = h
-behind_head-talks (Ended ending) db noun tail t h = h
+after_head-talks (Passed false) db noun tail t h = h
+after_head-talks Not db noun tail t h = h
+after_head-talks (Ended ending) db noun tail t h = h
 
 pub group_tried-talks : (db : Database) (noun : List ℕ) (g : Group) (s : State) → Talks (group_tried db noun g s).events
 group_tried-talks db noun g s =
-    let head = line_tried db noun g.head s in
-    behind_head-talks head.value.ran db noun g.tail head (line_tried-talks db noun g.head s)
+    let head = try_action db noun g.head s in
+    after_head-talks head.value.ran db noun g.tail head (try_action-talks db noun g.head s)
 
 -- ---- the search
 
-search_behind-talks : (ran : Ran) (t : Told Step LineOutcome) (next : State → Told Step SearchOutcome) → Talks t.events → AlwaysTalks next → Talks (search_behind ran t next).events
-search_behind-talks Not t next h rest = Talks-append t.events (next t.value.state).events h (rest t.value.state)
-search_behind-talks (Passed more) t next h rest = h
-search_behind-talks (Ended ending) t next h rest = h
+search_after-talks : (ran : Ran) (t : Traced Step ActionOutcome) (next : State → Traced Step SearchOutcome) → Talks t.events → AlwaysTalks next → Talks (search_after ran t next).events
+search_after-talks Not t next h rest = Talks-append t.events (next t.value.state).events h (rest t.value.state)
+search_after-talks (Passed more) t next h rest = h
+search_after-talks (Ended ending) t next h rest = h
 
-search_group-talks : (b : Bool) (db : Database) (typed : List ℕ) (g : Group) (s : State) (next : State → Told Step SearchOutcome) → AlwaysTalks next → Talks (search_group b db typed g s next).events
+search_group-talks : (b : Bool) (db : Database) (typed : List ℕ) (g : Group) (s : State) (next : State → Traced Step SearchOutcome) → AlwaysTalks next → Talks (search_group b db typed g s next).events
 search_group-talks true db typed g s next rest =
-    let t = group_tried db typed g s in search_behind-talks t.value.ran t next (group_tried-talks db typed g s) rest
+    let t = group_tried db typed g s in search_after-talks t.value.ran t next (group_tried-talks db typed g s) rest
 search_group-talks false db typed g s next rest = rest s
 
-pub searched-talks : (db : Database) (typed : List ℕ) (verb : ℕ) (noun : Option ℕ) (gs : List Group) → AlwaysTalks (searched db typed verb noun gs)
-searched-talks db typed verb noun [] s = refl
-searched-talks db typed verb noun (g ∷ gs) s =
-    search_group-talks (is_for verb noun g) db typed g s (searched db typed verb noun gs) (searched-talks db typed verb noun gs)
+pub search_result-talks : (db : Database) (typed : List ℕ) (verb : ℕ) (noun : Option ℕ) (gs : List Group) → AlwaysTalks (search_result db typed verb noun gs)
+search_result-talks db typed verb noun [] s = refl
+search_result-talks db typed verb noun (g ∷ gs) s =
+    search_group-talks (is_for verb noun g) db typed g s (search_result db typed verb noun gs) (search_result-talks db typed verb noun gs)
 
 -- ---- getting and dropping
 
-sweep_moved-talks : (b : Bool) (t : Transfer) (i : ℕ) (item : Item) (s : State) (next : State → Told Step Sweep) → AlwaysTalks next → Talks (sweep_moved b t i item s next).events
-sweep_moved-talks true t i item s next rest = Talks-append (says (text_of TooMuch)) [] (Talks-says (text_of TooMuch)) refl
-sweep_moved-talks false t i item s next rest =
+all_moved-talks : (b : Bool) (t : Transfer) (i : ℕ) (item : Item) (s : State) (next : State → Traced Step AllOutcome) → AlwaysTalks next → Talks (all_moved b t i item s next).events
+all_moved-talks true t i item s next rest = Talks-append (said_steps (text_of TooMuch)) [] (Talks-said_steps (text_of TooMuch)) refl
+all_moved-talks false t i item s next rest =
     let said = shown item.text ++ text_of ItemDone in
-    Talks-append (says said) (next (transferred t i s)).events (Talks-says said) (rest (transferred t i s))
+    Talks-append (said_steps said) (next (transferred t i s)).events (Talks-said_steps said) (rest (transferred t i s))
 
-sweep_behind-talks : (found : Found) (t : Transfer) (db : Database) (i : ℕ) (item : Item) (s : State) (next : State → Told Step Sweep) → AlwaysTalks next → Talks (sweep_behind found t db i item s next).events
-sweep_behind-talks (Over ending) t db i item s next rest = refl
-sweep_behind-talks Done t db i item s next rest = sweep_moved-talks (is_refused t db s) t i item s next rest
-sweep_behind-talks Matched t db i item s next rest = sweep_moved-talks (is_refused t db s) t i item s next rest
-sweep_behind-talks NoMatch t db i item s next rest = sweep_moved-talks (is_refused t db s) t i item s next rest
+all_after-talks : (found : Found) (t : Transfer) (db : Database) (i : ℕ) (item : Item) (s : State) (next : State → Traced Step AllOutcome) → AlwaysTalks next → Talks (all_after found t db i item s next).events
+all_after-talks (Over ending) t db i item s next rest = refl
+all_after-talks Done t db i item s next rest = all_moved-talks (is_refused t db s) t i item s next rest
+all_after-talks Matched t db i item s next rest = all_moved-talks (is_refused t db s) t i item s next rest
+all_after-talks NoMatch t db i item s next rest = all_moved-talks (is_refused t db s) t i item s next rest
 
-sweep_item-talks : (b : Bool) (t : Transfer) (db : Database) (typed : List ℕ) (i : ℕ) (item : Item) (s : State) (next : State → Told Step Sweep) → AlwaysTalks next → Talks (sweep_item b t db typed i item s next).events
-sweep_item-talks true t db typed i item s next rest =
+all_item-talks : (b : Bool) (t : Transfer) (db : Database) (typed : List ℕ) (i : ℕ) (item : Item) (s : State) (next : State → Traced Step AllOutcome) → AlwaysTalks next → Talks (all_item b t db typed i item s next).events
+all_item-talks true t db typed i item s next rest =
     let noun = which db Nouns (get_word item.text) in
-    let found = searched db typed (verb_for t) noun (groups db) s in
-    Talks-append found.events (sweep_behind found.value.found t db i item found.value.state next).events
-    (searched-talks db typed (verb_for t) noun (groups db) s)
-    (sweep_behind-talks found.value.found t db i item found.value.state next rest)
-sweep_item-talks false t db typed i item s next rest = rest s
+    let found = search_result db typed (verb_for t) noun (groups db) s in
+    Talks-append found.events (all_after found.value.found t db i item found.value.state next).events
+    (search_result-talks db typed (verb_for t) noun (groups db) s)
+    (all_after-talks found.value.found t db i item found.value.state next rest)
+all_item-talks false t db typed i item s next rest = rest s
 
-sweep-talks : (t : Transfer) (db : Database) (typed : List ℕ) (i : ℕ) (items : List Item) → AlwaysTalks (sweep t db typed i items)
-sweep-talks t db typed i [] s = refl
-sweep-talks t db typed i (item ∷ items) s =
-    sweep_item-talks (is_met t i item s) t db typed i item s (sweep t db typed (i + 1) items) (sweep-talks t db typed (i + 1) items)
+all_items-talks : (t : Transfer) (db : Database) (typed : List ℕ) (i : ℕ) (items : List Item) → AlwaysTalks (all_items t db typed i items)
+all_items-talks t db typed i [] s = refl
+all_items-talks t db typed i (item ∷ items) s =
+    all_item-talks (is_taken t i item s) t db typed i item s (all_items t db typed (i + 1) items) (all_items-talks t db typed (i + 1) items)
 
 all_from-talks : (b : Bool) (t : Transfer) (db : Database) (typed : List ℕ) (s : State) → Talks (all_from b t db typed s).events
-all_from-talks true t db typed s = Talks-says (text_of DarkGet)
+all_from-talks true t db typed s = Talks-said_steps (text_of DarkGet)
 all_from-talks false t db typed s =
-    let w = sweep t db typed 0 db.items s in
-    let said = cond w.value.met [] (none_met t) in
-    Talks-append w.events (says said) (sweep-talks t db typed 0 db.items s) (Talks-says said)
+    let w = all_items t db typed 0 db.items s in
+    let said = cond w.value.any_taken [] (none_taken t) in
+    Talks-append w.events (said_steps said) (all_items-talks t db typed 0 db.items s) (Talks-said_steps said)
 
 one_moved-talks : (t : Transfer) (item : Option ℕ) (s : State) → Talks (one_moved t item s).events
-one_moved-talks t None s = Talks-says (text_of BeyondPower)
-one_moved-talks t (Some item) s = Talks-says (text_of DonePhrase)
+one_moved-talks t None s = Talks-said_steps (text_of BeyondPower)
+one_moved-talks t (Some item) s = Talks-said_steps (text_of DonePhrase)
 
 one_from-talks : (b : Bool) (t : Transfer) (db : Database) (noun : ℕ) (s : State) → Talks (one_from b t db noun s).events
-one_from-talks true t db noun s = Talks-says (text_of TooMuch)
+one_from-talks true t db noun s = Talks-said_steps (text_of TooMuch)
 one_from-talks false t db noun s = one_moved-talks t (item_named t db.header.length (root db noun) 0 db.items s) s
 
 one_transferred-talks : (t : Transfer) (db : Database) (noun : Option ℕ) (s : State) → Talks (one_transferred t db noun s).events
-one_transferred-talks t db None s = Talks-says (text_of WhatItem)
+one_transferred-talks t db None s = Talks-said_steps (text_of WhatItem)
 one_transferred-talks t db (Some noun) s = one_from-talks (is_refused t db s) t db noun s
 
 transfer-talks : (t : Transfer) (db : Database) (typed : List ℕ) (noun : Option ℕ) (s : State) → Talks (transfer t db typed noun s).events
@@ -179,26 +187,26 @@ transfer-talks t db typed noun s =
 -- ---- commands
 
 no_way-talks : (b : Bool) (s : State) → Talks (no_way b s).events
-no_way-talks true s = Talks-says (text_of BrokenNeck)
-no_way-talks false s = Talks-says (text_of NoExitThere)
+no_way-talks true s = Talks-said_steps (text_of BrokenNeck)
+no_way-talks false s = Talks-said_steps (text_of NoExitThere)
 
 way-talks : (room : ℕ) (s : State) → Talks (way room s).events
 way-talks room s =
-    Talks-cond (eqb room 0) (no_way (is_dark s) s) (saying (text_of Moved) (goes_on (moved_to room s))) (no_way-talks (is_dark s) s) (Talks-says (text_of Moved))
+    Talks-cond (eqb room 0) (no_way (is_dark s) s) (traced_text (text_of Moved) (goes_on (moved_to room s))) (no_way-talks (is_dark s) s) (Talks-said_steps (text_of Moved))
 
-walked-talks : (db : Database) (noun : ℕ) (s : State) → Talks (walked db noun s).events
-walked-talks db noun s =
+walk_result-talks : (db : Database) (noun : ℕ) (s : State) → Talks (walk_result db noun s).events
+walk_result-talks db noun s =
     let said = cond (is_dark s) (text_of DarkMove) [] in
     let room = exit_of (length db.rooms) (room_at db s.room).exits (noun - 1) in
-    Talks-append (says said) (way room s).events (Talks-says said) (way-talks room s)
+    Talks-append (said_steps said) (way room s).events (Talks-said_steps said) (way-talks room s)
 
 unmatched-talks : (db : Database) (typed : List ℕ) (verb : ℕ) (noun : Option ℕ) (found : Found) (s : State) → Talks (unmatched db typed verb noun found s).events
 unmatched-talks db typed verb noun found s =
-    let refused = saying (not_done found) (goes_on s) in
+    let refused = traced_text (not_done found) (goes_on s) in
     let dropped = transfer PutDown db typed noun s in
     Talks-cond (eqb verb get_verb) (transfer PickUp db typed noun s) (cond (eqb verb drop_verb) dropped refused)
     (transfer-talks PickUp db typed noun s)
-    (Talks-cond (eqb verb drop_verb) dropped refused (transfer-talks PutDown db typed noun s) (Talks-says (not_done found)))
+    (Talks-cond (eqb verb drop_verb) dropped refused (transfer-talks PutDown db typed noun s) (Talks-said_steps (not_done found)))
 
 by_found-talks : (found : Found) (db : Database) (typed : List ℕ) (verb : ℕ) (noun : Option ℕ) (s : State) → Talks (by_found found db typed verb noun s).events
 by_found-talks (Over ending) db typed verb noun s = refl
@@ -206,28 +214,28 @@ by_found-talks Done db typed verb noun s = refl
 by_found-talks Matched db typed verb noun s = unmatched-talks db typed verb noun Matched s
 by_found-talks NoMatch db typed verb noun s = unmatched-talks db typed verb noun NoMatch s
 
-by_lines-talks : (db : Database) (typed : List ℕ) (verb : ℕ) (noun : Option ℕ) (s : State) → Talks (by_lines db typed verb noun s).events
-by_lines-talks db typed verb noun s =
-    let t = searched db typed verb noun (groups db) s in
+by_actions-talks : (db : Database) (typed : List ℕ) (verb : ℕ) (noun : Option ℕ) (s : State) → Talks (by_actions db typed verb noun s).events
+by_actions-talks db typed verb noun s =
+    let t = search_result db typed verb noun (groups db) s in
     Talks-append t.events (by_found t.value.found db typed verb noun t.value.state).events
-    (searched-talks db typed verb noun (groups db) s) (by_found-talks t.value.found db typed verb noun t.value.state)
+    (search_result-talks db typed verb noun (groups db) s) (by_found-talks t.value.found db typed verb noun t.value.state)
 
 going-talks : (db : Database) (typed : List ℕ) (noun : Option ℕ) (s : State) → Talks (going db typed noun s).events
-going-talks db typed None s = Talks-says (text_of NeedDirection)
+going-talks db typed None s = Talks-said_steps (text_of NeedDirection)
 going-talks db typed (Some noun) s =
-    Talks-cond (is_direction noun) (walked db noun s) (by_lines db typed go_verb (Some noun) s) (walked-talks db noun s) (by_lines-talks db typed go_verb (Some noun) s)
+    Talks-cond (is_direction noun) (walk_result db noun s) (by_actions db typed go_verb (Some noun) s) (walk_result-talks db noun s) (by_actions-talks db typed go_verb (Some noun) s)
 
-obeyed-talks : (db : Database) (typed : List ℕ) (verb : ℕ) (noun : Option ℕ) (s : State) → Talks (obeyed db typed verb noun s).events
-obeyed-talks db typed verb noun s =
-    Talks-cond (eqb verb go_verb) (going db typed noun s) (by_lines db typed verb noun s) (going-talks db typed noun s) (by_lines-talks db typed verb noun s)
+command_result-talks : (db : Database) (typed : List ℕ) (verb : ℕ) (noun : Option ℕ) (s : State) → Talks (command_result db typed verb noun s).events
+command_result-talks db typed verb noun s =
+    Talks-cond (eqb verb go_verb) (going db typed noun s) (by_actions db typed verb noun s) (going-talks db typed noun s) (by_actions-talks db typed verb noun s)
 
 turn_ended-talks : (over : Option ℕ) (s : State) → Talks (turn_ended over s).events
-turn_ended-talks None s = Talks-says (light_counted s).events
+turn_ended-talks None s = Talks-said_steps (light_counted s).events
 turn_ended-talks (Some ending) s = refl
 
 pub by_heard-talks : (h : Heard) (db : Database) (line : List ℕ) (s : State) → Talks (by_heard h db line s).events
-by_heard-talks Blank db line s = Talks-says ([] ++ text_of Prompt)
-by_heard-talks (Unknown start size) db line s = Talks-says (unknown_word (word_at line (start, size)) ++ text_of Prompt)
+by_heard-talks Blank db line s = Talks-said_steps ([] ++ text_of Prompt)
+by_heard-talks (Unknown start size) db line s = Talks-said_steps (unknown_word (word_at line (start, size)) ++ text_of Prompt)
 by_heard-talks (Command verb noun) db line s =
-    let t = obeyed db (typed_noun line) verb noun s in
-    Talks-append t.events (turn_ended t.value.over t.value.state).events (obeyed-talks db (typed_noun line) verb noun s) (turn_ended-talks t.value.over t.value.state)
+    let t = command_result db (typed_noun line) verb noun s in
+    Talks-append t.events (turn_ended t.value.over t.value.state).events (command_result-talks db (typed_noun line) verb noun s) (turn_ended-talks t.value.over t.value.state)

@@ -1,6 +1,8 @@
 -- What a line means: its words, and the command that they are.
 use Rattle.std.specs.Prelude.{ℕ, ◌+◌, ◌==◌, ◌&&◌, Bool, not, List, [], take, drop, nat_lt, nat_le, codes, bytes_eq, Option, Some, None, is_none, if◌then◌else◌}
 use Rattle.std.specs.List.{prefix_len}
+use Rattle.adv_io.specs.Text.{space}
+use Rattle.scott_types.specs.declared.verbs.TheConstants.{GO, GET, DROP, LAST_DIRECTION}
 use Rattle.scott_types.specs.declared.commands.Column.TheVariants.{Verbs, Nouns}
 use Rattle.scott_types.specs.declared.commands.Words.{Words}
 use Rattle.scott_types.specs.declared.commands.Heard.{Heard}
@@ -11,7 +13,7 @@ use Rattle.scott_rules.specs.Words.{which}
 -- ---- the words of a line
 
 abbrev pub is_space : ℕ → Bool
-is_space byte = byte == 32
+is_space byte = byte == space
 
 -- where a word stands: its start and its length
 abbrev pub Span : Type 0
@@ -24,19 +26,19 @@ word_at line span = take span.1 (drop span.0 line)
 abbrev pub span_of : ℕ → ℕ → Option Span
 span_of start size = if size == 0 then None else Some (start, size)
 
--- the first word at or behind a place
+-- the first word at or after a place
 abbrev pub next_word : List ℕ → ℕ → Option Span
 next_word line at =
     let start = at + prefix_len is_space (drop at line) in
     span_of start (prefix_len (λ byte. not (is_space byte)) (drop start line))
 
-abbrev pub word_behind : List ℕ → Option Span → Option Span
-word_behind line None = None
-word_behind line (Some span) = next_word line (span.0 + span.1)
+abbrev pub word_after : List ℕ → Option Span → Option Span
+word_after line None = None
+word_after line (Some span) = next_word line (span.0 + span.1)
 
 -- the first two words; later ones are ignored
 abbrev pub split : List ℕ → Words
-split line = record { first = next_word line 0; second = word_behind line (next_word line 0) }
+split line = record { first = next_word line 0; second = word_after line (next_word line 0) }
 
 abbrev pub word_or_none : List ℕ → Option Span → List ℕ
 word_or_none line None = []
@@ -61,17 +63,17 @@ whole_word word =
 
 -- the verb that goes somewhere, the one that takes and the one that drops
 abbrev pub go_verb : ℕ
-go_verb = 1
+go_verb = GO
 
 abbrev pub get_verb : ℕ
-get_verb = 10
+get_verb = GET
 
 abbrev pub drop_verb : ℕ
-drop_verb = 18
+drop_verb = DROP
 
 -- the nouns 1 to 6 are the directions
 abbrev pub is_direction : ℕ → Bool
-is_direction noun = nat_lt 0 noun && nat_le noun 6
+is_direction noun = nat_lt 0 noun && nat_le noun LAST_DIRECTION
 
 abbrev pub by_verb : Span → Option ℕ → Option ℕ → Heard
 by_verb span None noun = Unknown span.0 span.1

@@ -8,8 +8,9 @@ use Rattle.scott_types.specs.declared.endings.Halt.{Halt}
 use Rattle.scott_types.specs.declared.endings.Halt.TheVariants.{Through, Waits, Over as AtEnd}
 use Rattle.scott_types.specs.Database.{Database}
 use Rattle.scott_types.specs.Action.{verb_of, noun_of}
-use Rattle.scott_rules.specs.Told.{Told, Outcome, telling, goes_on, Step, Drew, after, and_then}
-use Rattle.scott_rules.specs.Lines.{LineOutcome, line_tried}
+use Rattle.adv_io.specs.Steps.{Drew, Step, Traced, after, traced}
+use Rattle.scott_rules.specs.Outcomes.{Outcome, goes_on, and_then}
+use Rattle.scott_rules.specs.Actions.{ActionOutcome, try_action}
 
 -- a head's number and vocabulary, and the numbers of its tail
 pub record Group : Type 0 where
@@ -29,7 +30,7 @@ groups_of k (a ∷ actions) =
     if a.vocab == 0 then groups_of (k + 1) actions else
     record { head = k; vocab = a.vocab; tail = tail_of (k + 1) actions } ∷ groups_of (k + 1) actions
 
--- the groups whose heads stand at a line or behind it
+-- the groups whose heads stand at a line or after it
 abbrev pub groups_from : Database → ℕ → List Group
 groups_from db line = groups_of line (drop line db.actions)
 
@@ -43,33 +44,33 @@ over_of Not = None
 over_of (Passed more) = None
 over_of (Over ending) = Some ending
 
-abbrev pub outcome_of : LineOutcome → Outcome
+abbrev pub outcome_of : ActionOutcome → Outcome
 outcome_of o = record { state = o.state; over = over_of o.ran }
 
-abbrev pub tail_line : Database → List ℕ → ℕ → State → Told Step Outcome
-tail_line db noun line s = let t = line_tried db noun line s in telling t.events (outcome_of t.value)
+abbrev pub tail_action : Database → List ℕ → ℕ → State → Traced Step Outcome
+tail_action db noun line s = let t = try_action db noun line s in traced t.events (outcome_of t.value)
 
 -- each line of a tail is tried, whatever the others did, until the game is over
-abbrev pub tail_tried : Database → List ℕ → List ℕ → State → Told Step Outcome
-tail_tried db noun [] s = telling [] (goes_on s)
-tail_tried db noun (line ∷ lines) s = and_then (tail_line db noun line s) (tail_tried db noun lines)
+abbrev pub tail_tried : Database → List ℕ → List ℕ → State → Traced Step Outcome
+tail_tried db noun [] s = traced [] (goes_on s)
+tail_tried db noun (line ∷ lines) s = and_then (tail_action db noun line s) (tail_tried db noun lines)
 
 abbrev pub passed_or_over : Option ℕ → Ran
 passed_or_over None = Passed true
 passed_or_over (Some ending) = Over ending
 
-abbrev pub with_tail : Told Step Outcome → Told Step LineOutcome
-with_tail t = telling t.events (record { state = t.value.state; ran = passed_or_over t.value.over })
+abbrev pub with_tail : Traced Step Outcome → Traced Step ActionOutcome
+with_tail t = traced t.events (record { state = t.value.state; ran = passed_or_over t.value.over })
 
 -- the tail is tried where the head passed and goes on
-abbrev pub behind_head : Ran → Database → List ℕ → List ℕ → Told Step LineOutcome → Told Step LineOutcome
-behind_head (Passed true) db noun tail t = after t.events (with_tail (tail_tried db noun tail t.value.state))
-behind_head _ db noun tail t = t
+abbrev pub after_head : Ran → Database → List ℕ → List ℕ → Traced Step ActionOutcome → Traced Step ActionOutcome
+after_head (Passed true) db noun tail t = after t.events (with_tail (tail_tried db noun tail t.value.state))
+after_head _ db noun tail t = t
 
-abbrev pub group_tried : Database → List ℕ → Group → State → Told Step LineOutcome
+abbrev pub group_tried : Database → List ℕ → Group → State → Traced Step ActionOutcome
 group_tried db noun g s =
-    let head = line_tried db noun g.head s in
-    behind_head head.value.ran db noun g.tail head
+    let head = try_action db noun g.head s in
+    after_head head.value.ran db noun g.tail head
 
 -- ---- the automatic step
 
@@ -79,25 +80,25 @@ pub record AutoOutcome : Type 0 where
   pub draws : List ℕ
   pub halt : Halt
 
-abbrev pub auto_behind : Option ℕ → Told Step LineOutcome → List ℕ → (State → List ℕ → Told Step AutoOutcome) → Told Step AutoOutcome
-auto_behind None t draws next = after t.events (next t.value.state draws)
-auto_behind (Some ending) t draws next = telling t.events (record { state = t.value.state; draws = draws; halt = AtEnd ending })
+abbrev pub auto_after : Option ℕ → Traced Step ActionOutcome → List ℕ → (State → List ℕ → Traced Step AutoOutcome) → Traced Step AutoOutcome
+auto_after None t draws next = after t.events (next t.value.state draws)
+auto_after (Some ending) t draws next = traced t.events (record { state = t.value.state; draws = draws; halt = AtEnd ending })
 
 -- a group is tried where the draw is at most its noun; no line was typed
-abbrev pub auto_tried : Bool → Database → Group → State → List ℕ → (State → List ℕ → Told Step AutoOutcome) → Told Step AutoOutcome
-auto_tried true db g s draws next = let t = group_tried db [] g s in auto_behind (over_of t.value.ran) t draws next
+abbrev pub auto_tried : Bool → Database → Group → State → List ℕ → (State → List ℕ → Traced Step AutoOutcome) → Traced Step AutoOutcome
+auto_tried true db g s draws next = let t = group_tried db [] g s in auto_after (over_of t.value.ran) t draws next
 auto_tried false db g s draws next = next s draws
 
 -- a group takes one draw, and waits for it where none is left
-abbrev pub auto_drawn : Database → Group → State → List ℕ → (State → List ℕ → Told Step AutoOutcome) → Told Step AutoOutcome
-auto_drawn db g s [] next = telling [] (record { state = s; draws = []; halt = Waits g.head })
+abbrev pub auto_drawn : Database → Group → State → List ℕ → (State → List ℕ → Traced Step AutoOutcome) → Traced Step AutoOutcome
+auto_drawn db g s [] next = traced [] (record { state = s; draws = []; halt = Waits g.head })
 auto_drawn db g s (draw ∷ draws) next = after (Drew draw ∷ []) (auto_tried (nat_le draw (noun_of g.vocab)) db g s draws next)
 
-abbrev pub auto_group : Bool → Database → Group → State → List ℕ → (State → List ℕ → Told Step AutoOutcome) → Told Step AutoOutcome
+abbrev pub auto_group : Bool → Database → Group → State → List ℕ → (State → List ℕ → Traced Step AutoOutcome) → Traced Step AutoOutcome
 auto_group true db g s draws next = auto_drawn db g s draws next
 auto_group false db g s draws next = next s draws
 
 -- the groups of verb 0, in order
-abbrev pub automatic : Database → List Group → State → List ℕ → Told Step AutoOutcome
-automatic db [] s draws = telling [] (record { state = s; draws = draws; halt = Through })
+abbrev pub automatic : Database → List Group → State → List ℕ → Traced Step AutoOutcome
+automatic db [] s draws = traced [] (record { state = s; draws = draws; halt = Through })
 automatic db (g ∷ gs) s draws = auto_group (verb_of g.vocab == 0) db g s draws (automatic db gs)

@@ -12,14 +12,14 @@ use Rattle.scott_types.specs.Database.{Database}
 use Rattle.scott_types.specs.Limits.{KeepsLimits}
 use Rattle.scott_types.specs.ItemText.{is_starred}
 use Rattle.scott_types.specs.State.{Fits}
-use Rattle.scott_rules.specs.Told.{Told, Step, telling, after, trace}
+use Rattle.adv_io.specs.Steps.{Spends, Step, Traced, after, trace_of, traced}
 use Rattle.scott_rules.specs.Words.{is_typed, spelling, entries_of, which}
-use Rattle.scott_rules.specs.Lines.{LineOutcome, line_done}
+use Rattle.scott_rules.specs.Actions.{ActionOutcome, action_result}
 use Rattle.scott_rules.specs.Light.{light_counted}
-use Rattle.scott_rules.specs.Opcodes.{changed}
+use Rattle.scott_rules.specs.Opcodes.{by_opcode, by_score, changed}
 use Rattle.scott_rules.specs.Transfer.{transferred}
-use Rattle.scott_rules.specs.Rounds.{walked, advance, answer}
-use Rattle.scott_rules.specs.Play.{Stop, go}
+use Rattle.scott_rules.specs.Rounds.{walk_result, advance, answer}
+use Rattle.scott_rules.specs.Play.{PlayEnd, go}
 
 -- ---- words
 
@@ -27,26 +27,26 @@ abbrev pub entry_at : List (List ℕ) → ℕ → List ℕ
 entry_at entries k = slice_index_or entries k []
 
 -- the entry `plain` is the nearest one at or before k that is no synonym; entry 0 doesn't count
-pub record IsPlainEntryOf (entries : List (List ℕ)) (k plain : ℕ) : Type 0 where
-  pub counted : 1 ≤ plain
-  pub before : plain ≤ k
-  pub is_plain : IsFalse (is_starred (entry_at entries plain))
-  pub nearest : (j : ℕ) → plain < j → j ≤ k → IsTrue (is_starred (entry_at entries j))
+pub record IsBaseEntryOf (entries : List (List ℕ)) (k base : ℕ) : Type 0 where
+  pub counted : 1 ≤ base
+  pub before : base ≤ k
+  pub is_base : IsFalse (is_starred (entry_at entries base))
+  pub nearest : (j : ℕ) → base < j → j ≤ k → IsTrue (is_starred (entry_at entries j))
 
--- an entry from 1 on matches a word where the word is typed so and the entry stands for a plain one
+-- an entry from 1 on matches a word where the word is typed so and the entry stands for a base entry
 pub record EntryMatches (size : ℕ) (entries : List (List ℕ)) (word : List ℕ) (k : ℕ) : Type 0 where
   pub there : k < length entries
   pub typed : IsTrue (is_typed size (spelling (entry_at entries k)) word)
-  pub stands_for : (plain : ℕ) × IsPlainEntryOf entries k plain
+  pub stands_for : (base : ℕ) × IsBaseEntryOf entries k base
 
--- the answer is the plain entry of the least entry that matches
+-- the answer is the base entry of the least entry that matches
 pub record IsLeastMatch (size : ℕ) (entries : List (List ℕ)) (word : List ℕ) (answer : ℕ) : Type 0 where
   pub entry : ℕ
   pub matches : EntryMatches size entries word entry
   pub least : (j : ℕ) → j < entry → ¬ (EntryMatches size entries word j)
-  pub plain : IsPlainEntryOf entries entry answer
+  pub base : IsBaseEntryOf entries entry answer
 
--- a word names the plain entry of the least entry that matches, or nothing where none does
+-- a word names the base entry of the least entry that matches, or nothing where none does
 abbrev pub WordNamesLeastMatch : Type 0
 WordNamesLeastMatch = (db : Database) (column : Column) (word : List ℕ)
     → MatchOption (which db column word)
@@ -55,14 +55,14 @@ WordNamesLeastMatch = (db : Database) (column : Column) (word : List ℕ)
 
 -- ---- lines
 
-pub record DoesNothing (s : State) (t : Told ℕ LineOutcome) : Type 0 where
+pub record DoesNothing (s : State) (t : Traced ℕ ActionOutcome) : Type 0 where
   pub said : t.events ≡ []
   pub state : t.value.state ≡ s
 
 -- a line that doesn't pass says nothing and changes nothing
-abbrev pub FailedLineDoesNothing : Type 0
-FailedLineDoesNothing = (db : Database) (noun : List ℕ) (line : ℕ) (s : State)
-    → (line_done db noun line s).value.ran ≡ Not → DoesNothing s (line_done db noun line s)
+abbrev pub FailedActionDoesNothing : Type 0
+FailedActionDoesNothing = (db : Database) (noun : List ℕ) (line : ℕ) (s : State)
+    → (action_result db noun line s).value.ran ≡ Not → DoesNothing s (action_result db noun line s)
 
 -- ---- plays
 
@@ -73,11 +73,6 @@ PlaySplits = (db : Database) (position : Position) (s : State) (lines more : Lis
     ≡ after (go db position s lines draws).events
     (go db (go db position s lines draws).value.position (go db position s lines draws).value.state
     ((go db position s lines draws).value.lines ++ more) ((go db position s lines draws).value.draws ++ further))
-
--- what the steps take and draw, followed by what is left behind them, is what there was before them
-pub record Spends (lines : List (List ℕ)) (draws : List ℕ) (steps : List Step) (lines_left : List (List ℕ)) (draws_left : List ℕ) : Type 0 where
-  pub lines_spent : lines_taken (trace steps) ++ lines_left ≡ lines
-  pub draws_spent : draws_taken (trace steps) ++ draws_left ≡ draws
 
 -- what a play takes and draws, followed by what is left, is what there was
 abbrev pub PlaySpends : Type 0
@@ -93,8 +88,8 @@ abbrev pub OpcodeFits : Type 0
 OpcodeFits = (db : Database) (opcode : Opcode) (p q : ℕ) (s : State) → KeepsLimits db → Fits db s → Fits db (changed db opcode p q s)
 
 -- an action line leaves a state that fits
-abbrev pub LineFits : Type 0
-LineFits = (db : Database) (noun : List ℕ) (line : ℕ) (s : State) → KeepsLimits db → Fits db s → Fits db (line_done db noun line s).value.state
+abbrev pub ActionFits : Type 0
+ActionFits = (db : Database) (noun : List ℕ) (line : ℕ) (s : State) → KeepsLimits db → Fits db s → Fits db (action_result db noun line s).value.state
 
 -- an item that is got or dropped leaves a state that fits
 abbrev pub TransferFits : Type 0
@@ -102,7 +97,7 @@ TransferFits = (db : Database) (t : Transfer) (item : ℕ) (s : State) → Keeps
 
 -- a walk in a direction leaves a state that fits
 abbrev pub WalkFits : Type 0
-WalkFits = (db : Database) (noun : ℕ) (s : State) → KeepsLimits db → Fits db s → Fits db (walked db noun s).value.state
+WalkFits = (db : Database) (noun : ℕ) (s : State) → KeepsLimits db → Fits db s → Fits db (walk_result db noun s).value.state
 
 -- every state that a play leaves fits its database
 abbrev pub PlayFits : Type 0
@@ -115,8 +110,8 @@ PlayStops = (db : Database) (position : Position) (s : State) (lines : List (Lis
     → (go db position s lines draws).value.position ≢ Fresh
 
 -- the same play, with more lines and draws left
-abbrev pub with_more : List (List ℕ) → List ℕ → Told Step Stop → Told Step Stop
-with_more more further t = telling t.events (record t.value { lines = t.value.lines ++ more; draws = t.value.draws ++ further })
+abbrev pub with_more : List (List ℕ) → List ℕ → Traced Step PlayEnd → Traced Step PlayEnd
+with_more more further t = traced t.events (record t.value { lines = t.value.lines ++ more; draws = t.value.draws ++ further })
 
 -- an ending stays: more lines and draws are left untouched
 abbrev pub EndingStays : Type 0
@@ -128,14 +123,14 @@ EndingStays = (db : Database) (position : Position) (s : State) (lines more : Li
 
 -- the endings that there are: 1 by an opcode, 2 by a fall in the dark, 3 by a full score
 abbrev pub IsEnding : ℕ → Type 0
-IsEnding ending = (1 ≤ ending) × (ending ≤ 3)
+IsEnding ending = (by_opcode ≤ ending) × (ending ≤ by_score)
 
 -- where a game is over, it ended with one of these
 abbrev pub EndsWell : Position → Type 0
 EndsWell (Over ending) = IsEnding ending
 EndsWell _ = Unit
 
--- what comes up to the prompt ends a game with 1, 2 or 3
+-- what is done up to the prompt ends a game with 1, 2 or 3
 abbrev pub AdvanceEndsWell : Type 0
 AdvanceEndsWell = (db : Database) (position : Position) (s : State) (draws : List ℕ)
     → EndsWell position → EndsWell (advance db position s draws).value.position

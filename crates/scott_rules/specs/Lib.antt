@@ -1,10 +1,10 @@
 -- The rules, in the order in which a reader learns the game; then their laws, and games on which they are worked out.
-pub mod Told
+pub mod Outcomes
 pub mod Words
 pub mod Commands
 pub mod Conditions
 pub mod Opcodes
-pub mod Lines
+pub mod Actions
 pub mod Looking
 pub mod Light
 pub mod Groups

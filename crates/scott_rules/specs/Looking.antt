@@ -1,5 +1,6 @@
 -- What a look, the inventory and the score say.
 use Rattle.std.specs.Prelude.{ℕ, ◌*◌, ◌==◌, ◌&&◌, Bool, not, List, [], ◌∷◌, ◌++◌, map, filter, flat_map, zip, drop, length, count_by, decimal, ℤ, pos, int_div, if◌then◌else◌}
+use Rattle.adv_io.specs.Text.{joined, joined_or}
 use Rattle.std.specs.Ordering.{int_eq}
 use Rattle.std.specs.Fmt.{signed_decimal}
 use Rattle.scott_types.specs.declared.parts.Item.{Item}
@@ -8,7 +9,7 @@ use Rattle.scott_types.specs.declared.phrases.Phrase.{Phrase}
 use Rattle.scott_types.specs.declared.phrases.Phrase.TheVariants.{TooDark, InA, ObviousExits, North, South, East, West, Up, Down, NoExits, BetweenExits, ListEnd, AlsoSee, BetweenItems, CarryingList, NothingCarried, Stored, Rating, WellDone, GameOver, Newline}
 use Rattle.scott_types.specs.Database.{Database, room_at}
 use Rattle.scott_types.specs.ItemText.{is_starred, shown, is_treasure}
-use Rattle.scott_types.specs.Room.{room_behind}
+use Rattle.scott_types.specs.Room.{room_beyond}
 use Rattle.scott_types.specs.State.{is_dark, carried_place}
 use Rattle.scott_types.specs.Phrase.{text_of}
 
@@ -17,16 +18,6 @@ use Rattle.scott_types.specs.Phrase.{text_of}
 -- the texts of the entries whose partner passes
 abbrev pub chosen : {A B : Type 0} → (B → Bool) → (A → List ℕ) → List A → List B → List (List ℕ)
 chosen passes text entries partners = map (λ pair. text pair.0) (filter (λ pair. passes pair.1) (zip entries partners))
-
--- the first text, and each other one behind a separator
-abbrev pub joined : List ℕ → List (List ℕ) → List ℕ
-joined separator [] = []
-joined separator (text ∷ texts) = text ++ flat_map (λ other. separator ++ other) texts
-
--- the same, or another text where there are none
-abbrev pub joined_or : List ℕ → List ℕ → List (List ℕ) → List ℕ
-joined_or none separator [] = none
-joined_or none separator (text ∷ texts) = joined separator (text ∷ texts)
 
 -- ---- the look
 
@@ -38,7 +29,7 @@ abbrev pub directions : List Phrase
 directions = North ∷ South ∷ East ∷ West ∷ Up ∷ Down ∷ []
 
 abbrev pub exit_names : Database → ℕ → List (List ℕ)
-exit_names db room = chosen (λ exit. not (room_behind (length db.rooms) exit == 0)) text_of directions (room_at db room).exits
+exit_names db room = chosen (λ exit. not (room_beyond (length db.rooms) exit == 0)) text_of directions (room_at db room).exits
 
 abbrev pub exits_listed : List (List ℕ) → List ℕ
 exits_listed names = text_of ObviousExits ++ (joined_or (text_of NoExits) (text_of BetweenExits) names ++ text_of ListEnd)

@@ -22,7 +22,8 @@ use Rattle.scott_types.specs.Database.{Database}
 use Rattle.scott_types.specs.Opcode.{uses}
 use Rattle.scott_types.specs.Phrase.{text_of}
 use Rattle.scott_types.specs.State.{has_item, place_of, is_here, carried_count, carried_place, lamp, dark_flag, out_flag, with_place, with_flag, is_room_of}
-use Rattle.scott_rules.specs.Told.{Told, Outcome, telling, goes_on, and_then}
+use Rattle.adv_io.specs.Steps.{Traced, traced}
+use Rattle.scott_rules.specs.Outcomes.{Outcome, goes_on, and_then}
 use Rattle.scott_rules.specs.Looking.{looked, inventory, scored, all_stored}
 
 -- ---- items
@@ -131,14 +132,14 @@ changed db Die p q s = dead db s
 changed db _ p q s = s
 
 -- what it says, of the state that it leaves, where the hands were full before it or not
-abbrev pub told : Database → List ℕ → Opcode → Bool → State → List ℕ
-told db noun (Say message) full s = said_message db message
-told db noun Get full s = if full then text_of TooMuch else []
-told db noun (Talk op) full s = talk db noun op s
-told db noun Score full s = scored db s
-told db noun Die full s = text_of Dead ++ looked db s
-told db noun Finish full s = text_of GameOver
-told db noun _ full s = []
+abbrev pub opcode_text : Database → List ℕ → Opcode → Bool → State → List ℕ
+opcode_text db noun (Say message) full s = said_message db message
+opcode_text db noun Get full s = if full then text_of TooMuch else []
+opcode_text db noun (Talk op) full s = talk db noun op s
+opcode_text db noun Score full s = scored db s
+opcode_text db noun Die full s = text_of Dead ++ looked db s
+opcode_text db noun Finish full s = text_of GameOver
+opcode_text db noun _ full s = []
 
 -- the endings: an opcode ended the game, the player fell in the dark, all treasures are stored
 abbrev pub by_opcode : ℕ
@@ -157,12 +158,12 @@ ending db Finish s = Some by_opcode
 ending db _ s = None
 
 -- what an opcode does
-abbrev pub deed : Database → List ℕ → Opcode → ℕ → ℕ → State → Told ℕ Outcome
-deed db noun opcode p q s =
+abbrev pub opcode_effect : Database → List ℕ → Opcode → ℕ → ℕ → State → Traced ℕ Outcome
+opcode_effect db noun opcode p q s =
     let after = changed db opcode p q s in
-    telling (told db noun opcode (is_full db s) after) (record { state = after; over = ending db opcode after })
+    traced (opcode_text db noun opcode (is_full db s) after) (record { state = after; over = ending db opcode after })
 
--- ---- one opcode behind another
+-- ---- one opcode after another
 
 -- how many parameters an opcode takes: a get that is refused leaves its own
 abbrev pub takes : Database → State → Opcode → ℕ
@@ -170,11 +171,11 @@ takes db s Get = if is_full db s then 0 else 1
 takes db s opcode = uses opcode
 
 -- an opcode with the next of the parameters, each 0 where none is left
-abbrev pub op : Database → List ℕ → Opcode → List ℕ → State → Told ℕ Outcome
-op db noun opcode params s = deed db noun opcode (slice_index params 0) (slice_index params 1) s
+abbrev pub op : Database → List ℕ → Opcode → List ℕ → State → Traced ℕ Outcome
+op db noun opcode params s = opcode_effect db noun opcode (slice_index params 0) (slice_index params 1) s
 
 -- opcodes in order, each with the parameters that those before it left, until the game is over
-abbrev pub course : Database → List ℕ → List Opcode → List ℕ → State → Told ℕ Outcome
-course db noun [] params s = telling [] (goes_on s)
-course db noun (opcode ∷ opcodes) params s =
-    and_then (op db noun opcode params s) (course db noun opcodes (drop (takes db s opcode) params))
+abbrev pub run_opcodes : Database → List ℕ → List Opcode → List ℕ → State → Traced ℕ Outcome
+run_opcodes db noun [] params s = traced [] (goes_on s)
+run_opcodes db noun (opcode ∷ opcodes) params s =
+    and_then (op db noun opcode params s) (run_opcodes db noun opcodes (drop (takes db s opcode) params))

@@ -1,4 +1,4 @@
--- A round: what comes up to the prompt, and the answer to a line.
+-- A round: what is done up to the prompt, and the answer to a line.
 use Rattle.std.specs.Prelude.{ℕ, ◌-◌, ◌==◌, Bool, true, false, List, [], ◌∷◌, ◌++◌, length, Option, Some, None, if◌then◌else◌}
 use Rattle.scott_types.specs.declared.states.State.{State}
 use Rattle.scott_types.specs.declared.commands.Heard.{Heard}
@@ -10,18 +10,19 @@ use Rattle.scott_types.specs.declared.endings.Halt.{Halt}
 use Rattle.scott_types.specs.declared.endings.Halt.TheVariants.{Through, Waits, Over as AtEnd}
 use Rattle.scott_types.specs.declared.endings.Position.{Position}
 use Rattle.scott_types.specs.declared.endings.Position.TheVariants.{Fresh, Draw, Line, Over}
-use Rattle.scott_types.specs.declared.phrases.Phrase.TheVariants.{Prompt, UnknownFront, UnknownBack, NeedDirection, DarkMove, Moved, BrokenNeck, NoExitThere, NotYet, NotUnderstood}
+use Rattle.scott_types.specs.declared.phrases.Phrase.TheVariants.{Prompt, UnknownOpening, UnknownBack, NeedDirection, DarkMove, Moved, BrokenNeck, NoExitThere, NotYet, NotUnderstood}
 use Rattle.scott_types.specs.Database.{Database, room_at}
 use Rattle.scott_types.specs.Room.{exit_of}
 use Rattle.scott_types.specs.Phrase.{text_of}
 use Rattle.scott_types.specs.State.{is_dark}
-use Rattle.scott_rules.specs.Told.{Told, Outcome, telling, saying, goes_on, Step, Took, says, after}
+use Rattle.adv_io.specs.Steps.{Step, Took, Traced, after, said_steps, traced, traced_text}
+use Rattle.scott_rules.specs.Outcomes.{Outcome, goes_on}
 use Rattle.scott_rules.specs.Commands.{heard, typed_noun, word_at, go_verb, get_verb, drop_verb, is_direction}
 use Rattle.scott_rules.specs.Looking.{looked}
 use Rattle.scott_rules.specs.Light.{light_counted}
 use Rattle.scott_rules.specs.Opcodes.{by_fall}
 use Rattle.scott_rules.specs.Groups.{AutoOutcome, groups, groups_from, automatic}
-use Rattle.scott_rules.specs.Search.{searched}
+use Rattle.scott_rules.specs.Search.{search_result}
 use Rattle.scott_rules.specs.Transfer.{transfer}
 
 -- ---- up to the prompt
@@ -34,26 +35,26 @@ abbrev pub unmarked : State → State
 unmarked s = record s { redraw = false }
 
 -- a position and a state, and the draws that are left
-pub record Standing : Type 0 where
+pub record RoundEnd : Type 0 where
   pub position : Position
   pub state : State
   pub draws : List ℕ
 
 -- where the automatic step came through, a look that is due and the prompt follow
-abbrev pub prompted : Halt → Database → State → List ℕ → Told Step Standing
-prompted Through db s draws = saying (look_due db s ++ text_of Prompt) (record { position = Line; state = unmarked s; draws = draws })
-prompted (Waits head) db s draws = telling [] (record { position = Draw head; state = s; draws = draws })
-prompted (AtEnd ending) db s draws = telling [] (record { position = Over ending; state = s; draws = draws })
+abbrev pub prompted : Halt → Database → State → List ℕ → Traced Step RoundEnd
+prompted Through db s draws = traced_text (look_due db s ++ text_of Prompt) (record { position = Line; state = unmarked s; draws = draws })
+prompted (Waits head) db s draws = traced [] (record { position = Draw head; state = s; draws = draws })
+prompted (AtEnd ending) db s draws = traced [] (record { position = Over ending; state = s; draws = draws })
 
-abbrev pub to_prompt : Database → Told Step AutoOutcome → Told Step Standing
+abbrev pub to_prompt : Database → Traced Step AutoOutcome → Traced Step RoundEnd
 to_prompt db t = after t.events (prompted t.value.halt db t.value.state t.value.draws)
 
 -- everything up to the prompt, from where a play stands
-abbrev pub advance : Database → Position → State → List ℕ → Told Step Standing
-advance db Fresh s draws = after (says (look_due db s)) (to_prompt db (automatic db (groups db) (unmarked s) draws))
+abbrev pub advance : Database → Position → State → List ℕ → Traced Step RoundEnd
+advance db Fresh s draws = after (said_steps (look_due db s)) (to_prompt db (automatic db (groups db) (unmarked s) draws))
 advance db (Draw head) s draws = to_prompt db (automatic db (groups_from db head) s draws)
-advance db Line s draws = telling [] (record { position = Line; state = s; draws = draws })
-advance db (Over ending) s draws = telling [] (record { position = Over ending; state = s; draws = draws })
+advance db Line s draws = traced [] (record { position = Line; state = s; draws = draws })
+advance db (Over ending) s draws = traced [] (record { position = Over ending; state = s; draws = draws })
 
 -- ---- moving
 
@@ -61,16 +62,16 @@ abbrev pub moved_to : ℕ → State → State
 moved_to room s = record s { room = room; redraw = true }
 
 -- without an exit: in the dark a fall, else a refusal
-abbrev pub no_way : Bool → State → Told Step Outcome
-no_way true s = saying (text_of BrokenNeck) (record { state = s; over = Some by_fall })
-no_way false s = saying (text_of NoExitThere) (goes_on s)
+abbrev pub no_way : Bool → State → Traced Step Outcome
+no_way true s = traced_text (text_of BrokenNeck) (record { state = s; over = Some by_fall })
+no_way false s = traced_text (text_of NoExitThere) (goes_on s)
 
-abbrev pub way : ℕ → State → Told Step Outcome
-way room s = if room == 0 then no_way (is_dark s) s else saying (text_of Moved) (goes_on (moved_to room s))
+abbrev pub way : ℕ → State → Traced Step Outcome
+way room s = if room == 0 then no_way (is_dark s) s else traced_text (text_of Moved) (goes_on (moved_to room s))
 
-abbrev pub walked : Database → ℕ → State → Told Step Outcome
-walked db noun s =
-    after (says (if is_dark s then text_of DarkMove else []))
+abbrev pub walk_result : Database → ℕ → State → Traced Step Outcome
+walk_result db noun s =
+    after (said_steps (if is_dark s then text_of DarkMove else []))
     (way (exit_of (length db.rooms) (room_at db s.room).exits (noun - 1)) s)
 
 -- ---- a command
@@ -80,28 +81,28 @@ not_done Matched = text_of NotYet
 not_done _ = text_of NotUnderstood
 
 -- no head passed: get and drop have an effect of their own, and other verbs are refused
-abbrev pub unmatched : Database → List ℕ → ℕ → Option ℕ → Found → State → Told Step Outcome
+abbrev pub unmatched : Database → List ℕ → ℕ → Option ℕ → Found → State → Traced Step Outcome
 unmatched db typed verb noun found s =
     if verb == get_verb then transfer PickUp db typed noun s else
-    if verb == drop_verb then transfer PutDown db typed noun s else saying (not_done found) (goes_on s)
+    if verb == drop_verb then transfer PutDown db typed noun s else traced_text (not_done found) (goes_on s)
 
-abbrev pub by_found : Found → Database → List ℕ → ℕ → Option ℕ → State → Told Step Outcome
-by_found (FoundOver ending) db typed verb noun s = telling [] (record { state = s; over = Some ending })
-by_found Done db typed verb noun s = telling [] (goes_on s)
+abbrev pub by_found : Found → Database → List ℕ → ℕ → Option ℕ → State → Traced Step Outcome
+by_found (FoundOver ending) db typed verb noun s = traced [] (record { state = s; over = Some ending })
+by_found Done db typed verb noun s = traced [] (goes_on s)
 by_found found db typed verb noun s = unmatched db typed verb noun found s
 
-abbrev pub by_lines : Database → List ℕ → ℕ → Option ℕ → State → Told Step Outcome
-by_lines db typed verb noun s =
-    let t = searched db typed verb noun (groups db) s in
+abbrev pub by_actions : Database → List ℕ → ℕ → Option ℕ → State → Traced Step Outcome
+by_actions db typed verb noun s =
+    let t = search_result db typed verb noun (groups db) s in
     after t.events (by_found t.value.found db typed verb noun t.value.state)
 
 -- going asks for a direction, and goes there; with another noun it is a verb like any
-abbrev pub going : Database → List ℕ → Option ℕ → State → Told Step Outcome
-going db typed None s = saying (text_of NeedDirection) (goes_on s)
-going db typed (Some noun) s = if is_direction noun then walked db noun s else by_lines db typed go_verb (Some noun) s
+abbrev pub going : Database → List ℕ → Option ℕ → State → Traced Step Outcome
+going db typed None s = traced_text (text_of NeedDirection) (goes_on s)
+going db typed (Some noun) s = if is_direction noun then walk_result db noun s else by_actions db typed go_verb (Some noun) s
 
-abbrev pub obeyed : Database → List ℕ → ℕ → Option ℕ → State → Told Step Outcome
-obeyed db typed verb noun s = if verb == go_verb then going db typed noun s else by_lines db typed verb noun s
+abbrev pub command_result : Database → List ℕ → ℕ → Option ℕ → State → Traced Step Outcome
+command_result db typed verb noun s = if verb == go_verb then going db typed noun s else by_actions db typed verb noun s
 
 -- ---- the answer to a line
 
@@ -111,24 +112,24 @@ pub record Answered : Type 0 where
   pub state : State
 
 -- the light burns where the game goes on, and a round begins
-abbrev pub turn_ended : Option ℕ → State → Told Step Answered
-turn_ended None s = let t = light_counted s in saying t.events (record { position = Fresh; state = t.value })
-turn_ended (Some ending) s = telling [] (record { position = Over ending; state = s })
+abbrev pub turn_ended : Option ℕ → State → Traced Step Answered
+turn_ended None s = let t = light_counted s in traced_text t.events (record { position = Fresh; state = t.value })
+turn_ended (Some ending) s = traced [] (record { position = Over ending; state = s })
 
-abbrev pub command_done : Told Step Outcome → Told Step Answered
+abbrev pub command_done : Traced Step Outcome → Traced Step Answered
 command_done t = after t.events (turn_ended t.value.over t.value.state)
 
-abbrev pub asked_again : List ℕ → State → Told Step Answered
-asked_again bytes s = saying (bytes ++ text_of Prompt) (record { position = Line; state = s })
+abbrev pub asked_again : List ℕ → State → Traced Step Answered
+asked_again bytes s = traced_text (bytes ++ text_of Prompt) (record { position = Line; state = s })
 
 abbrev pub unknown_word : List ℕ → List ℕ
-unknown_word word = text_of UnknownFront ++ (word ++ text_of UnknownBack)
+unknown_word word = text_of UnknownOpening ++ (word ++ text_of UnknownBack)
 
-abbrev pub by_heard : Heard → Database → List ℕ → State → Told Step Answered
+abbrev pub by_heard : Heard → Database → List ℕ → State → Traced Step Answered
 by_heard Blank db line s = asked_again [] s
 by_heard (Unknown start size) db line s = asked_again (unknown_word (word_at line (start, size))) s
-by_heard (Command verb noun) db line s = command_done (obeyed db (typed_noun line) verb noun s)
+by_heard (Command verb noun) db line s = command_done (command_result db (typed_noun line) verb noun s)
 
 -- a line is taken and answered
-abbrev pub answer : Database → List ℕ → State → Told Step Answered
+abbrev pub answer : Database → List ℕ → State → Traced Step Answered
 answer db line s = after (Took line ∷ []) (by_heard (heard db line) db line s)

@@ -7,8 +7,8 @@ use Rattle.scott_types.specs.declared.endings.Found.{Found}
 use Rattle.scott_types.specs.declared.endings.Found.TheVariants.{Over, Done, Matched, NoMatch}
 use Rattle.scott_types.specs.Database.{Database}
 use Rattle.scott_types.specs.Action.{verb_of, noun_of}
-use Rattle.scott_rules.specs.Told.{Told, telling, Step, after}
-use Rattle.scott_rules.specs.Lines.{LineOutcome}
+use Rattle.adv_io.specs.Steps.{Step, Traced, after, traced}
+use Rattle.scott_rules.specs.Actions.{ActionOutcome}
 use Rattle.scott_rules.specs.Groups.{Group, group_tried}
 
 pub record SearchOutcome : Type 0 where
@@ -23,24 +23,24 @@ is_for_noun own (Some noun) = own == noun || own == 0
 abbrev pub is_for : ℕ → Option ℕ → Group → Bool
 is_for verb noun g = verb_of g.vocab == verb && is_for_noun (noun_of g.vocab) noun
 
--- a head was there, whatever was found behind it
+-- a head was there, whatever was found after it
 abbrev pub at_least_matched : Found → Found
 at_least_matched NoMatch = Matched
 at_least_matched found = found
 
-abbrev pub matched : Told Step SearchOutcome → Told Step SearchOutcome
-matched t = telling t.events (record { state = t.value.state; found = at_least_matched t.value.found })
+abbrev pub matched : Traced Step SearchOutcome → Traced Step SearchOutcome
+matched t = traced t.events (record { state = t.value.state; found = at_least_matched t.value.found })
 
-abbrev pub search_behind : Ran → Told Step LineOutcome → (State → Told Step SearchOutcome) → Told Step SearchOutcome
-search_behind Not t next = after t.events (matched (next t.value.state))
-search_behind (Passed more) t next = telling t.events (record { state = t.value.state; found = Done })
-search_behind (Ended ending) t next = telling t.events (record { state = t.value.state; found = Over ending })
+abbrev pub search_after : Ran → Traced Step ActionOutcome → (State → Traced Step SearchOutcome) → Traced Step SearchOutcome
+search_after Not t next = after t.events (matched (next t.value.state))
+search_after (Passed more) t next = traced t.events (record { state = t.value.state; found = Done })
+search_after (Ended ending) t next = traced t.events (record { state = t.value.state; found = Over ending })
 
-abbrev pub search_group : Bool → Database → List ℕ → Group → State → (State → Told Step SearchOutcome) → Told Step SearchOutcome
-search_group true db typed g s next = let t = group_tried db typed g s in search_behind t.value.ran t next
+abbrev pub search_group : Bool → Database → List ℕ → Group → State → (State → Traced Step SearchOutcome) → Traced Step SearchOutcome
+search_group true db typed g s next = let t = group_tried db typed g s in search_after t.value.ran t next
 search_group false db typed g s next = next s
 
 -- the groups for a verb and a noun are tried in order, up to the first head that passes
-abbrev pub searched : Database → List ℕ → ℕ → Option ℕ → List Group → State → Told Step SearchOutcome
-searched db typed verb noun [] s = telling [] (record { state = s; found = NoMatch })
-searched db typed verb noun (g ∷ gs) s = search_group (is_for verb noun g) db typed g s (searched db typed verb noun gs)
+abbrev pub search_result : Database → List ℕ → ℕ → Option ℕ → List Group → State → Traced Step SearchOutcome
+search_result db typed verb noun [] s = traced [] (record { state = s; found = NoMatch })
+search_result db typed verb noun (g ∷ gs) s = search_group (is_for verb noun g) db typed g s (search_result db typed verb noun gs)

@@ -12,12 +12,13 @@ use Rattle.scott_types.specs.Database.{Database}
 use Rattle.scott_types.specs.ItemText.{shown, get_word}
 use Rattle.scott_types.specs.Phrase.{text_of}
 use Rattle.scott_types.specs.State.{is_here, is_carried, is_dark, carried_place, with_place}
-use Rattle.scott_rules.specs.Told.{Told, Outcome, telling, saying, goes_on, Step, says, after}
+use Rattle.adv_io.specs.Steps.{Step, Traced, after, said_steps, traced, traced_text}
+use Rattle.scott_rules.specs.Outcomes.{Outcome, goes_on}
 use Rattle.scott_rules.specs.Words.{is_empty, is_typed, which, root}
 use Rattle.scott_rules.specs.Commands.{get_verb, drop_verb}
 use Rattle.scott_rules.specs.Opcodes.{is_full, redrawn}
 use Rattle.scott_rules.specs.Groups.{groups}
-use Rattle.scott_rules.specs.Search.{searched}
+use Rattle.scott_rules.specs.Search.{search_result}
 
 -- ---- what getting and dropping share
 
@@ -45,62 +46,62 @@ is_refused PutDown db s = false
 
 -- ---- all
 
--- where a walk over the items stands, and whether an item was met
-pub record Sweep : Type 0 where
+-- where a walk over the items stands, and whether an item was taken
+pub record AllOutcome : Type 0 where
   pub state : State
   pub over : Option ℕ
-  pub met : Bool
+  pub any_taken : Bool
 
--- an item is met where it is at hand, at its turn, and has a word by which it is taken
-abbrev pub is_met : Transfer → ℕ → Item → State → Bool
-is_met t i item s = is_at_hand t s i && not (is_empty (get_word item.text))
+-- an item is taken where it is at hand, at its turn, and has a word by which it is taken
+abbrev pub is_taken : Transfer → ℕ → Item → State → Bool
+is_taken t i item s = is_at_hand t s i && not (is_empty (get_word item.text))
 
-abbrev pub swept : State → Option ℕ → Told Step Sweep
-swept s over = telling [] (record { state = s; over = over; met = true })
+abbrev pub all_result : State → Option ℕ → Traced Step AllOutcome
+all_result s over = traced [] (record { state = s; over = over; any_taken = true })
 
-abbrev pub after_meeting : Told Step Sweep → Told Step Sweep
-after_meeting t = telling t.events (record { state = t.value.state; over = t.value.over; met = true })
+abbrev pub with_one_taken : Traced Step AllOutcome → Traced Step AllOutcome
+with_one_taken t = traced t.events (record { state = t.value.state; over = t.value.over; any_taken = true })
 
 -- the item is transferred, or the command ends with a refusal
-abbrev pub sweep_moved : Bool → Transfer → ℕ → Item → State → (State → Told Step Sweep) → Told Step Sweep
-sweep_moved true t i item s next = after (says (text_of TooMuch)) (swept s None)
-sweep_moved false t i item s next = after (says (shown item.text ++ text_of ItemDone)) (after_meeting (next (transferred t i s)))
+abbrev pub all_moved : Bool → Transfer → ℕ → Item → State → (State → Traced Step AllOutcome) → Traced Step AllOutcome
+all_moved true t i item s next = after (said_steps (text_of TooMuch)) (all_result s None)
+all_moved false t i item s next = after (said_steps (shown item.text ++ text_of ItemDone)) (with_one_taken (next (transferred t i s)))
 
 -- only an ending of the item's lines counts
-abbrev pub sweep_behind : Found → Transfer → Database → ℕ → Item → State → (State → Told Step Sweep) → Told Step Sweep
-sweep_behind (Over ending) t db i item s next = swept s (Some ending)
-sweep_behind _ t db i item s next = sweep_moved (is_refused t db s) t i item s next
+abbrev pub all_after : Found → Transfer → Database → ℕ → Item → State → (State → Traced Step AllOutcome) → Traced Step AllOutcome
+all_after (Over ending) t db i item s next = all_result s (Some ending)
+all_after _ t db i item s next = all_moved (is_refused t db s) t i item s next
 
 -- first the lines for the item are searched, with the command's verb and the item's own noun
-abbrev pub sweep_item : Bool → Transfer → Database → List ℕ → ℕ → Item → State → (State → Told Step Sweep) → Told Step Sweep
-sweep_item true t db typed i item s next =
-    let found = searched db typed (verb_for t) (which db Nouns (get_word item.text)) (groups db) s in
-    after found.events (sweep_behind found.value.found t db i item found.value.state next)
-sweep_item false t db typed i item s next = next s
+abbrev pub all_item : Bool → Transfer → Database → List ℕ → ℕ → Item → State → (State → Traced Step AllOutcome) → Traced Step AllOutcome
+all_item true t db typed i item s next =
+    let found = search_result db typed (verb_for t) (which db Nouns (get_word item.text)) (groups db) s in
+    after found.events (all_after found.value.found t db i item found.value.state next)
+all_item false t db typed i item s next = next s
 
 -- the items in order, numbered from i on
-abbrev pub sweep : Transfer → Database → List ℕ → ℕ → List Item → State → Told Step Sweep
-sweep t db typed i [] s = telling [] (record { state = s; over = None; met = false })
-sweep t db typed i (item ∷ items) s = sweep_item (is_met t i item s) t db typed i item s (sweep t db typed (i + 1) items)
+abbrev pub all_items : Transfer → Database → List ℕ → ℕ → List Item → State → Traced Step AllOutcome
+all_items t db typed i [] s = traced [] (record { state = s; over = None; any_taken = false })
+all_items t db typed i (item ∷ items) s = all_item (is_taken t i item s) t db typed i item s (all_items t db typed (i + 1) items)
 
-abbrev pub none_met : Transfer → List ℕ
-none_met PickUp = text_of NothingTaken
-none_met PutDown = text_of NothingDropped
+abbrev pub none_taken : Transfer → List ℕ
+none_taken PickUp = text_of NothingTaken
+none_taken PutDown = text_of NothingDropped
 
-abbrev pub sweep_told : Transfer → Told Step Sweep → Told Step Outcome
-sweep_told t w =
-    telling (w.events ++ says (if w.value.met then [] else none_met t)) (record { state = w.value.state; over = w.value.over })
+abbrev pub all_said : Transfer → Traced Step AllOutcome → Traced Step Outcome
+all_said t w =
+    traced (w.events ++ said_steps (if w.value.any_taken then [] else none_taken t)) (record { state = w.value.state; over = w.value.over })
 
 -- getting all needs light
 abbrev pub is_too_dark : Transfer → State → Bool
 is_too_dark PickUp s = is_dark s
 is_too_dark PutDown s = false
 
-abbrev pub all_from : Bool → Transfer → Database → List ℕ → State → Told Step Outcome
-all_from true t db typed s = saying (text_of DarkGet) (goes_on s)
-all_from false t db typed s = sweep_told t (sweep t db typed 0 db.items s)
+abbrev pub all_from : Bool → Transfer → Database → List ℕ → State → Traced Step Outcome
+all_from true t db typed s = traced_text (text_of DarkGet) (goes_on s)
+all_from false t db typed s = all_said t (all_items t db typed 0 db.items s)
 
-abbrev pub all_transferred : Transfer → Database → List ℕ → State → Told Step Outcome
+abbrev pub all_transferred : Transfer → Database → List ℕ → State → Traced Step Outcome
 all_transferred t db typed s = all_from (is_too_dark t s) t db typed s
 
 -- ---- one
@@ -112,16 +113,16 @@ item_named t size word i (item ∷ items) s =
     if is_at_hand t s i && (not (is_empty word) && is_typed size (get_word item.text) word) then Some i else
     item_named t size word (i + 1) items s
 
-abbrev pub one_moved : Transfer → Option ℕ → State → Told Step Outcome
-one_moved t None s = saying (text_of BeyondPower) (goes_on s)
-one_moved t (Some item) s = saying (text_of DonePhrase) (goes_on (transferred t item s))
+abbrev pub one_moved : Transfer → Option ℕ → State → Traced Step Outcome
+one_moved t None s = traced_text (text_of BeyondPower) (goes_on s)
+one_moved t (Some item) s = traced_text (text_of DonePhrase) (goes_on (transferred t item s))
 
-abbrev pub one_from : Bool → Transfer → Database → ℕ → State → Told Step Outcome
-one_from true t db noun s = saying (text_of TooMuch) (goes_on s)
+abbrev pub one_from : Bool → Transfer → Database → ℕ → State → Traced Step Outcome
+one_from true t db noun s = traced_text (text_of TooMuch) (goes_on s)
 one_from false t db noun s = one_moved t (item_named t db.header.length (root db noun) 0 db.items s) s
 
-abbrev pub one_transferred : Transfer → Database → Option ℕ → State → Told Step Outcome
-one_transferred t db None s = saying (text_of WhatItem) (goes_on s)
+abbrev pub one_transferred : Transfer → Database → Option ℕ → State → Traced Step Outcome
+one_transferred t db None s = traced_text (text_of WhatItem) (goes_on s)
 one_transferred t db (Some noun) s = one_from (is_refused t db s) t db noun s
 
 -- ---- which is meant
@@ -129,5 +130,5 @@ one_transferred t db (Some noun) s = one_from (is_refused t db s) t db noun s
 abbrev pub is_all : List ℕ → Bool
 is_all typed = bytes_eq typed (codes "all")
 
-abbrev pub transfer : Transfer → Database → List ℕ → Option ℕ → State → Told Step Outcome
+abbrev pub transfer : Transfer → Database → List ℕ → Option ℕ → State → Traced Step Outcome
 transfer t db typed noun s = if is_all typed then all_transferred t db typed s else one_transferred t db noun s

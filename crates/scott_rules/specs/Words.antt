@@ -23,12 +23,12 @@ is_typed size word typed = not (is_empty word) && matches size word typed
 abbrev pub spelling : List ℕ → List ℕ
 spelling entry = if is_starred entry then drop 1 entry else entry
 
--- The plain entry of the first entry that the word matches and that stands for a plain one. The entries
--- are numbered from k on, and `plain` is the nearest plain entry before them.
+-- The base entry of the first entry that the word matches and that has a base entry. The entries
+-- are numbered from k on, and `base` is the nearest base entry before them.
 abbrev pub entry_from : ℕ → List ℕ → Option ℕ → ℕ → List (List ℕ) → Option ℕ
-entry_from size word plain k [] = None
-entry_from size word plain k (entry ∷ entries) =
-    let nearest = if is_starred entry then plain else Some k in
+entry_from size word base k [] = None
+entry_from size word base k (entry ∷ entries) =
+    let nearest = if is_starred entry then base else Some k in
     if is_typed size (spelling entry) word && is_some nearest then nearest else entry_from size word nearest (k + 1) entries
 
 abbrev pub column_of : Column → Word → List ℕ
@@ -39,7 +39,7 @@ column_of Nouns word = word.noun
 abbrev pub entries_of : Database → Column → List (List ℕ)
 entries_of db column = map (column_of column) db.words
 
--- the plain entry that a word names: entry 0 is never searched
+-- the base entry that a word names: entry 0 is never searched
 abbrev pub which : Database → Column → List ℕ → Option ℕ
 which db column word = entry_from db.header.length word None 1 (drop 1 (entries_of db column))
 

@@ -7,11 +7,11 @@ use Rattle.scott_types.specs.declared.endings.Ran.TheVariants.{Not, Passed}
 use Rattle.scott_types.specs.declared.endings.Position.{Position}
 use Rattle.scott_types.specs.declared.endings.Position.TheVariants.{Line, Draw, Over}
 use Rattle.scott_types.specs.State.{start, place_of, flag_of, out_flag}
-use Rattle.scott_rules.specs.Told.{Told, Step, Took, Drew, Tried, says}
+use Rattle.adv_io.specs.Steps.{Drew, Noted, Step, Took, Traced, noted, said_steps}
 use Rattle.scott_rules.specs.Words.{which}
 use Rattle.scott_rules.specs.Commands.{heard}
-use Rattle.scott_rules.specs.Lines.{line_done}
-use Rattle.scott_rules.specs.Play.{Stop, go, play, tried}
+use Rattle.scott_rules.specs.Actions.{action_result}
+use Rattle.scott_rules.specs.Play.{PlayEnd, go, play}
 use Rattle.scott_rules.specs.Games.{hill, full_hands, full_counter, odd_message, cell, chance, last_pin, no_treasure, one_treasure, lamp_for, nightfall, not_carried, no_parameter}
 
 -- ---- how a play is written down
@@ -22,7 +22,7 @@ typing [] = []
 typing (text ∷ texts) = codes text ∷ typing texts
 
 abbrev pub text : String → List Step
-text s = says (codes s)
+text s = said_steps (codes s)
 
 abbrev pub typed : String → List Step
 typed s = Took (codes s) ∷ []
@@ -31,7 +31,7 @@ abbrev pub drew : ℕ → List Step
 drew draw = Drew draw ∷ []
 
 abbrev pub tries : ℕ → List Step
-tries line = Tried line ∷ []
+tries line = Noted line ∷ []
 
 abbrev pub ask : List Step
 ask = text "\nTell me what to do ? "
@@ -40,16 +40,16 @@ ask = text "\nTell me what to do ? "
 abbrev pub hall : String → List Step
 hall items = text "I'm in a hall\nObvious exits: North.\n\nI can also see: " ++ (text items ++ text "\n")
 
--- what a play told, where it stopped, and the lines and draws that were left
-pub record Plays (t : Told Step Stop) (steps : List (List Step)) (position : Position) (lines : List (List ℕ)) (draws : List ℕ) : Type 0 where
-  pub told : t.events ≡ flat_map (λ part. part) steps
+-- what happened in a play, where it stopped, and the lines and draws that were left
+pub record Plays (t : Traced Step PlayEnd) (steps : List (List Step)) (position : Position) (lines : List (List ℕ)) (draws : List ℕ) : Type 0 where
+  pub events_are : t.events ≡ flat_map (λ part. part) steps
   pub stopped : t.value.position ≡ position
   pub lines_left : t.value.lines ≡ lines
   pub draws_left : t.value.draws ≡ draws
 
 -- ---- words
 
--- a synonym names the plain entry before it, and an unknown word stands where it was typed
+-- a synonym names the base entry before it, and an unknown word stands where it was typed
 pub record WordsHeard : Type 0 where
   pub synonym : which hill Verbs (codes "walking") ≡ Some 1
   pub no_entry : which hill Verbs (codes "xyzzy") ≡ None
@@ -80,15 +80,15 @@ OneOfEach =
 
 -- the get is refused and leaves item 0 to the drop: the rug stays here, and the pin carried
 pub record RefusedGetLeavesItsParameter : Type 0 where
-  pub said : (line_done full_hands [] 0 (start full_hands)).events ≡ codes "I've too much to carry! "
-  pub ran : (line_done full_hands [] 0 (start full_hands)).value.ran ≡ Passed false
-  pub state : (line_done full_hands [] 0 (start full_hands)).value.state ≡ start full_hands
+  pub said : (action_result full_hands [] 0 (start full_hands)).events ≡ codes "I've too much to carry! "
+  pub ran : (action_result full_hands [] 0 (start full_hands)).value.ran ≡ Passed false
+  pub state : (action_result full_hands [] 0 (start full_hands)).value.state ≡ start full_hands
   pub played : Plays (play full_hands (typing ("look" ∷ [])) [])
       (hall "Rug" ∷ ask ∷ typed "look" ∷ tries 0 ∷ text "I've too much to carry! " ∷ hall "Rug" ∷ ask ∷ []) Line [] []
 
 pub record CounterIsCapped : Type 0 where
-  pub said : (line_done full_counter [] 0 (start full_counter)).events ≡ codes "32767\n"
-  pub counter : (line_done full_counter [] 0 (start full_counter)).value.state.counter ≡ pos 32767
+  pub said : (action_result full_counter [] 0 (start full_counter)).events ≡ codes "32767\n"
+  pub counter : (action_result full_counter [] 0 (start full_counter)).value.state.counter ≡ pos 32767
   pub played : Plays (play full_counter (typing ("look" ∷ [])) [])
       (hall "Rug" ∷ ask ∷ typed "look" ∷ tries 0 ∷ text "32767\n" ∷ ask ∷ []) Line [] []
 
@@ -118,10 +118,10 @@ pub record DrawsRunOut : Type 0 where
   pub goes_on : Plays (go chance (Draw 4) (play chance [] (1 ∷ 100 ∷ [])).value.state [] (100 ∷ []))
       (drew 100 ∷ tries 4 ∷ text "three\n" ∷ ask ∷ []) Line [] []
 
--- the lines that were tried, in their order; a blank line counts for nothing
-pub record LinesTried : Type 0 where
-  pub by_chance : tried chance (play chance [] (2 ∷ 100 ∷ 100 ∷ [])).events ≡ 2 ∷ 3 ∷ 4 ∷ []
-  pub on_the_hill : tried hill (play hill (typing ("n" ∷ [])) []).events ≡ []
+-- the actions that were tried, in their order; one that is all zeros is not noted
+pub record ActionsNoted : Type 0 where
+  pub by_chance : noted (play chance [] (2 ∷ 100 ∷ 100 ∷ [])).events ≡ 2 ∷ 3 ∷ 4 ∷ []
+  pub on_the_hill : noted (play hill (typing ("n" ∷ [])) []).events ≡ []
 
 -- the rug is taken, and the lines for the pin end the game: the pin stays where it was
 pub record GetAllEndsTheGame : Type 0 where
@@ -179,9 +179,9 @@ DarkIsDangerous =
 
 -- a condition fails, and the line does nothing
 pub record ConditionFails : Type 0 where
-  pub said : (line_done not_carried [] 0 (start not_carried)).events ≡ []
-  pub ran : (line_done not_carried [] 0 (start not_carried)).value.ran ≡ Not
-  pub state : (line_done not_carried [] 0 (start not_carried)).value.state ≡ start not_carried
+  pub said : (action_result not_carried [] 0 (start not_carried)).events ≡ []
+  pub ran : (action_result not_carried [] 0 (start not_carried)).value.ran ≡ Not
+  pub state : (action_result not_carried [] 0 (start not_carried)).value.state ≡ start not_carried
   pub played : Plays (play not_carried (typing ("look" ∷ [])) [])
       (hall "Rug" ∷ ask ∷ typed "look" ∷ tries 0 ∷ text "I can't do that yet. " ∷ ask ∷ []) Line [] []
 

@@ -1,15 +1,15 @@
 //! The laws of the rules. Each is the contract of a function that does nothing.
-ghost use Rattle.scott_rules.specs.Laws.{WordNamesLeastMatch, FailedLineDoesNothing, PlaySplits, PlaySpends, LightFits, OpcodeFits, LineFits, TransferFits, WalkFits, PlayFits, PlayStops, EndingStays, AdvanceEndsWell, AnswerEndsWell, EndingsAreThree};
+ghost use Rattle.scott_rules.specs.Laws.{WordNamesLeastMatch, FailedActionDoesNothing, PlaySplits, PlaySpends, LightFits, OpcodeFits, ActionFits, TransferFits, WalkFits, PlayFits, PlayStops, EndingStays, AdvanceEndsWell, AnswerEndsWell, EndingsAreThree};
 
-/// A word names the plain entry of the least entry that matches it, which is the nearest plain entry
+/// A word names the base entry of the least entry that matches it, which is the nearest base entry
 /// at or before it; and no entry where none matches.
 pub fn word_names_least_match()
     ensures { WordNamesLeastMatch }
 {}
 
 /// A line that doesn't pass says nothing and changes nothing.
-pub fn failed_line_does_nothing()
-    ensures { FailedLineDoesNothing }
+pub fn failed_action_does_nothing()
+    ensures { FailedActionDoesNothing }
 {}
 
 /// A play that stopped, gone on with more lines and draws from where it stopped, is the play on the
@@ -34,8 +34,8 @@ pub fn opcode_fits()
 {}
 
 /// An action line leaves a state that fits its database.
-pub fn line_fits()
-    ensures { LineFits }
+pub fn action_fits()
+    ensures { ActionFits }
 {}
 
 /// An item that is got or dropped leaves a state that fits its database.
@@ -63,7 +63,7 @@ pub fn ending_stays()
     ensures { EndingStays }
 {}
 
-/// What comes up to the prompt ends a game with 1, 2 or 3, or not at all.
+/// What is done up to the prompt ends a game with 1, 2 or 3, or not at all.
 pub fn advance_ends_well()
     ensures { AdvanceEndsWell }
 {}

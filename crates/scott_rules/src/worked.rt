@@ -2,7 +2,7 @@
 //! nothing, and is proved by computing the play.
 ghost use Rattle.scott_types.specs.Limits.{KeepsLimits};
 ghost use Rattle.scott_rules.specs.Games.{hill};
-ghost use Rattle.scott_rules.specs.Worked.{WordsHeard, HallAndHill, BlankLineAsksAgain, OneOfEach, RefusedGetLeavesItsParameter, CounterIsCapped, MessageIsSaid, DrawsPassAHeadOver, DrawsTryAllHeads, DrawsRunOut, LinesTried, GetAllEndsTheGame, GetAndDrop, ScoreGoesOn, FullScoreEnds, LightRunsOut, LightGrowsDim, DarkIsDangerous, ConditionFails, MissingParameterIsZero};
+ghost use Rattle.scott_rules.specs.Worked.{WordsHeard, HallAndHill, BlankLineAsksAgain, OneOfEach, RefusedGetLeavesItsParameter, CounterIsCapped, MessageIsSaid, DrawsPassAHeadOver, DrawsTryAllHeads, DrawsRunOut, ActionsNoted, GetAllEndsTheGame, GetAndDrop, ScoreGoesOn, FullScoreEnds, LightRunsOut, LightGrowsDim, DarkIsDangerous, ConditionFails, MissingParameterIsZero};
 
 /// The game of the hall and the hill is a database: its parts keep the limits.
 pub fn hill_keeps_limits()
@@ -60,8 +60,8 @@ pub fn draws_run_out()
 {}
 
 /// Which lines were tried.
-pub fn lines_tried()
-    ensures { LinesTried }
+pub fn actions_noted()
+    ensures { ActionsNoted }
 {}
 
 /// Getting all stops where the lines of an item end the game.

@@ -1,7 +1,10 @@
-mod Numbers
-mod Contents
-mod Working
-mod Endings
-mod Statuses
-mod Courses
-mod Promises
+pub mod Files
+pub mod Statuses
+pub mod Obeying
+pub mod Readings
+pub mod Promised
+pub mod Refusing
+pub mod Working
+pub mod Promises
+pub mod Hill
+pub mod Playing

@@ -1,93 +1,29 @@
-//! The commands: what each does, and how it ends.
-ghost use Rattle.std.specs.Prelude.{◌≡◌, ◌≤◌, ◌⊎◌, Some, IfSome};
-ghost use Rattle.adv_io.specs.Faults.{Rose};
-ghost use Rattle.scott_tool.specs.Request.{check, play, chance_of, asked_by};
-ghost use Rattle.scott_tool.specs.Work.{playing, events_of};
-ghost use Rattle.scott_tool.specs.Ending.{Concludes, EndsDone, Ends};
+//! The commands, each on what was loaded for it.
+ghost use Rattle.scott_requests.specs.Views.{request_of};
+ghost use Rattle.scott_tool.specs.Refusal.{refusing};
+ghost use Rattle.scott_tool.specs.Work.{work};
+ghost use Rattle.scott_tool.specs.Views.{texts_in};
+ghost use Rattle.scott_tool.specs.Obeying.{Obeys, MainFits};
 
-use crate::preparing::{game_with_draws, report_on};
-use crate::requests::{Chance, Request, request_in};
-use crate::stops::{Stop, concluded};
-use adv_draws::Draws;
-use adv_io::{Console, Shelf};
-use scott_turn::Session;
-use scott_types::Db;
+mod check;
+mod play;
+mod saying;
+
+use crate::loads::Texts;
+use adv_io::Console;
+use check::check;
+use play::play;
+use scott_requests::Request;
 use std::alloc::Global;
 
-// Says the report on a database.
-fn check<S: Shelf, C: Console>(alloc: Global, game: &str, shelf: &mut S, console: &mut C) -> u8
-    ensures ended { Ends (S.files shelf.old) (Rose (S.faults shelf.old) (S.faults shelf.new)) (C.left console.old)
-        (record { before = C.history console.old; after = C.history console.new })
-        (Rose (C.faults console.old) (C.faults console.new)) (Some (check game.now)) result }
-    ensures files_stay { S.files shelf.new ≡ S.files shelf.old }
-    ensures shelf_later { S.faults shelf.old ≤ S.faults shelf.new }
-    ensures console_later { C.faults console.old ≤ C.faults console.new }
-    ensures lines_stay { C.left console.new ≡ C.left console.old }
+/// Does what was asked for.
+pub fn work<C: Console>(alloc: Global, request: Request<'_>, texts: &Texts, console: &mut C) -> u8
+    requires { MainFits (request_of request) (texts_in texts.now) }
+    ensures { Obeys (C.seen console.old) (C.seen console.new)
+        (refusing (work (request_of request.entry) (texts_in texts.now))) result }
 {
-    match report_on(alloc, game, shelf) {
-        Ok(text) => concluded(console.say(&text), 0),
-        Err(stop) => stop.end(console),
-    }
-}
-
-// Plays a database with these draws.
-fn play_with<C: Console>(alloc: Global, db: &Db, mut draws: Draws, console: &mut C) -> u8
-    ensures ended { ((result ≡ 9) × (C.history console.new ≡ C.history console.old))
-        ⊎ (EndsDone (Rose (C.faults console.old) (C.faults console.new)) result
-        × IfSome (C.left console.old) (λ lines. Concludes (record { before = C.history console.old; after = C.history console.new })
-        (Rose (C.faults console.old) (C.faults console.new)) 0 (events_of (playing db.now draws.left) lines) result)) }
-    ensures later { C.faults console.old ≤ C.faults console.new }
-    ensures kept { (result ≡ 0) ⊎ (result ≡ 3) ⊎ (C.left console.new ≡ C.left console.old) }
-{
-    match Session::open(alloc, db) {
-        Ok(mut session) => match session.play(&mut draws, console) {
-            Ok(_) => 0,
-            Err(_) => 3,
-        },
-        Err(_) => 9,
-    }
-}
-
-// Plays a database.
-fn play<S: Shelf, C: Console>(
-    alloc: Global,
-    game: &str,
-    chance: Chance<'_>,
-    shelf: &mut S,
-    console: &mut C,
-) -> u8
-    ensures ended { Ends (S.files shelf.old) (Rose (S.faults shelf.old) (S.faults shelf.new)) (C.left console.old)
-        (record { before = C.history console.old; after = C.history console.new })
-        (Rose (C.faults console.old) (C.faults console.new)) (Some (play game.now (chance_of chance.entry))) result }
-    ensures files_stay { S.files shelf.new ≡ S.files shelf.old }
-    ensures shelf_later { S.faults shelf.old ≤ S.faults shelf.new }
-    ensures console_later { C.faults console.old ≤ C.faults console.new }
-    ensures kept { (result ≡ 0) ⊎ (result ≡ 3) ⊎ (C.left console.new ≡ C.left console.old) }
-{
-    match game_with_draws(alloc, game, chance, shelf) {
-        Ok((db, draws)) => play_with(alloc, &db, draws, console),
-        Err(stop) => stop.end(console),
-    }
-}
-
-/// Does what the words ask for.
-pub fn obey<S: Shelf, C: Console>(
-    alloc: Global,
-    words: &[String],
-    shelf: &mut S,
-    console: &mut C,
-) -> u8
-    ensures ended { Ends (S.files shelf.old) (Rose (S.faults shelf.old) (S.faults shelf.new)) (C.left console.old)
-        (record { before = C.history console.old; after = C.history console.new })
-        (Rose (C.faults console.old) (C.faults console.new)) (asked_by words.now) result }
-    ensures files_stay { S.files shelf.new ≡ S.files shelf.old }
-    ensures shelf_later { S.faults shelf.old ≤ S.faults shelf.new }
-    ensures console_later { C.faults console.old ≤ C.faults console.new }
-    ensures kept { (result ≡ 0) ⊎ (result ≡ 3) ⊎ (C.left console.new ≡ C.left console.old) }
-{
-    match request_in(words) {
-        Some(Request::Check(game)) => check(alloc, game, shelf, console),
-        Some(Request::Play(game, chance)) => play(alloc, game, chance, shelf, console),
-        None => Stop::NoRequest.end(console),
+    match request {
+        Request::Check(game) => check(alloc, game, texts, console),
+        Request::Play(game, source) => play(alloc, game, source, texts, console),
     }
 }

@@ -1,20 +1,23 @@
-//! The program: words become a request, the request is done, and a status tells how it ended.
+//! The program: words become a request, its files are loaded, the request is done, and a status
+//! tells how it ended.
 #![tactic(auto)]
 
-// What is asked for.
-mod requests;
+ghost use Rattle.std.specs.Prelude.{◌≡◌};
+ghost use Rattle.scott_tool.specs.Start.{status_without_words};
 
-// Why it isn't done, and what is said of it.
-mod complaints;
-mod stops;
+// What is loaded, what it holds, and why it is refused.
+mod contents;
+mod loads;
+mod refusals;
 
-// How it is done.
+// What each command does.
 mod commands;
-mod loading;
-mod preparing;
+
+// The program's one call.
 mod program;
 #[cfg(test)]
 mod tests;
+pub mod worked;
 
 use adv_io::{DiskShelf, StdConsole};
 use program::scott;
@@ -23,14 +26,24 @@ use std::process::ExitCode;
 use std::rt::Env;
 use std::{env, io};
 
-// The words behind the program's name.
+// The words after the program's name.
 fn words<R: Env + AllocGlobal>(rt: &R) -> io::Result<Vec<String>> {
     let words = env::args(rt)?.skip(1).collect(rt.alloc())?;
     Ok(words)
 }
 
-// The words are obeyed, on the files and the terminal of the system. Where they can't be gathered the
-// status is 9 for want of memory, and 12 where one of them is no text.
+// The status where the words can't be gathered: 9 for want of memory, and 12 for any other cause, as
+// where one of them is no text.
+fn status_without_words(kind: ErrorKind) -> u8
+    ensures { result ≡ status_without_words kind }
+{
+    match kind {
+        ErrorKind::OutOfMemory => 9,
+        _ => 12,
+    }
+}
+
+// The words are obeyed, on the files and the terminal of the system.
 fn main(rt: HostRuntime) -> ExitCode {
     match words(&rt) {
         Ok(words) => {
@@ -38,7 +51,6 @@ fn main(rt: HostRuntime) -> ExitCode {
             let mut console = StdConsole::new(&rt);
             ExitCode::from(scott(rt.alloc(), &words, &mut shelf, &mut console))
         }
-        Err(fault) if fault.kind() == ErrorKind::OutOfMemory => ExitCode::from(9),
-        Err(_) => ExitCode::from(12),
+        Err(fault) => ExitCode::from(status_without_words(fault.kind())),
     }
 }

@@ -1,72 +1,88 @@
 //! The program's one call.
-ghost use Rattle.std.specs.Prelude.{◌≡◌, ◌≤◌, ◌⊎◌, None, IfSome, IsSome, Contains};
-ghost use Rattle.adv_io.specs.Faults.{Rose};
-ghost use Rattle.adv_io.specs.History.{says};
-ghost use Rattle.adv_io.specs.Shelf.{Lacks};
-ghost use Rattle.scott_tool.specs.Request.{asked_by};
-ghost use Rattle.scott_tool.specs.Cause.{no_request, line_of};
-ghost use Rattle.scott_tool.specs.Ending.{Concludes};
-ghost use Rattle.scott_tool.specs.Answer.{statuses, OneLoaded, GameHasFault, DrawsHaveFault, IsTooLong, IsAccepted, StandsFor, HasDueStatus, HasDueHistory, IsShown};
+ghost use Rattle.std.specs.Prelude.{◌≡◌, Some};
+ghost use Rattle.scott_requests.specs.Request.{asked_by};
+ghost use Rattle.scott_requests.specs.Views.{request_of};
+ghost use Rattle.scott_tool.specs.Obeying.{Handled};
+ghost use Rattle.scott_tool.specs.Promises.{HasStatus, IsSeen, Completes, HasChecked, HasPlayed, Counts};
 
-use crate::commands::obey;
+use crate::commands::work;
+use crate::loads::load_texts;
+use crate::refusals::Refusal;
 use adv_io::{Console, Shelf};
-use scott_format::laws::text_or_fault;
+use scott_format::laws::{database_in, fault_in};
+use scott_requests::{Request, request_in};
 use std::alloc::Global;
 
+// Loads what a request names, and does what it asks for.
+fn obey<S: Shelf, C: Console>(
+    alloc: Global,
+    request: Request<'_>,
+    shelf: &mut S,
+    console: &mut C,
+) -> u8
+    ensures { Handled (S.seen shelf.old) (S.seen shelf.new)
+        (C.seen console.old) (C.seen console.new) (Some (request_of request.entry)) result }
+{
+    match load_texts(alloc, request, shelf) {
+        Ok(texts) => work(alloc, request, &texts, console),
+        Err(refusal) => refusal.end(console),
+    }
+}
+
+// Does what the words ask for.
+fn handle<S: Shelf, C: Console>(
+    alloc: Global,
+    words: &[String],
+    shelf: &mut S,
+    console: &mut C,
+) -> u8
+    ensures { Handled (S.seen shelf.old) (S.seen shelf.new)
+        (C.seen console.old) (C.seen console.new) (asked_by words.now) result }
+{
+    match request_in(words) {
+        Some(request) => obey(alloc, request, shelf, console),
+        None => Refusal::NoRequest.end(console),
+    }
+}
+
 /// Does what the words ask for, with the files of a shelf, on a console, and answers a status.
+///
+/// docs/GUIDE.md has the words, the statuses and the lines of the refusals.
 pub fn scott<S: Shelf, C: Console>(
     alloc: Global,
     words: &[String],
     shelf: &mut S,
     console: &mut C,
 ) -> u8
-    // There are eight statuses. The files stay as they were.
-    ensures known { Contains statuses result }
-    ensures files_stay { S.files shelf.new ≡ S.files shelf.old }
-    ensures shelf_later { S.faults shelf.old ≤ S.faults shelf.new }
-    ensures console_later { C.faults console.old ≤ C.faults console.new }
+    // Each status comes only with its cause, and is that of the first refusal in the order of the
+    // steps.
+    ensures status { HasStatus (S.seen shelf.old) (S.seen shelf.new)
+        (C.seen console.old) (C.seen console.new) (asked_by words.now) result }
 
-    // 1 comes exactly where the words are no request.
-    ensures only_no_request { result ≡ 1 → asked_by words.now ≡ None }
-    ensures no_request { asked_by words.now ≡ None →
-        Concludes (record { before = C.history console.old; after = C.history console.new })
-        (Rose (C.faults console.old) (C.faults console.new)) 1 (says (line_of no_request)) result }
+    // What is seen is what is expected, or a prefix of it where the console failed; with 9 nothing.
+    ensures seen { IsSeen (S.seen shelf.old) (S.seen shelf.new)
+        (C.seen console.old) (C.seen console.new) (asked_by words.now) result }
 
-    // 2 comes only where the shelf failed, or tells its files and lacks one that is to be loaded.
-    ensures unread { result ≡ 2 → Rose (S.faults shelf.old) (S.faults shelf.new)
-        ⊎ OneLoaded (Lacks (S.files shelf.old)) (asked_by words.now) }
+    // The files stay as they were.
+    ensures files { (S.seen shelf.new).files ≡ (S.seen shelf.old).files }
 
-    // 3 comes only where the console failed.
-    ensures unsaid { result ≡ 3 → Rose (C.faults console.old) (C.faults console.new) }
+    // Where all files are there and accepted, the status is 0, unless something fails.
+    ensures complete { Completes (S.seen shelf.old) (S.seen shelf.new)
+        (C.seen console.old) (C.seen console.new) (asked_by words.now) result }
 
-    // 9 comes only for a request, and says nothing.
-    ensures memory { result ≡ 9 → IsSome (asked_by words.now) × (C.history console.new ≡ C.history console.old) }
+    // With 0 `check` has said the report on the file's database.
+    ensures checked { result ≡ 0 → HasChecked (S.seen shelf.old)
+        (C.seen console.old) (C.seen console.new) (asked_by words.now) }
 
-    // A refusal takes no line: only what is done, or fails at the console, may take some.
-    ensures kept { (result ≡ 0) ⊎ (result ≡ 3) ⊎ (C.left console.new ≡ C.left console.old) }
+    // With 0 `play` has shown the play of the file's database.
+    ensures played { result ≡ 0 → HasPlayed (S.seen shelf.old)
+        (C.seen console.old) (C.seen console.new) (asked_by words.now) }
 
-    // 4, 5 and 11 come only where the files that are told have their cause.
-    ensures no_database { result ≡ 4 → IfSome (S.files shelf.old) (λ files. GameHasFault files (asked_by words.now)) }
-    ensures no_draws { result ≡ 5 → IfSome (S.files shelf.old) (λ files. DrawsHaveFault files (asked_by words.now)) }
-    ensures too_long { result ≡ 11 → IfSome (S.files shelf.old) (λ files. OneLoaded (IsTooLong files) (asked_by words.now)) }
-
-    // The status is the one that is due by the first cause; memory, the console and the shelf alone can fail in its place.
-    ensures due { IfSome (S.files shelf.old) (λ files. HasDueStatus files (Rose (S.faults shelf.old) (S.faults shelf.new))
-        (Rose (C.faults console.old) (C.faults console.new)) (asked_by words.now) result) }
-
-    // Where all files are accepted and nothing fails, it is 0.
-    ensures complete { IfSome (S.files shelf.old) (λ files. IsAccepted files (asked_by words.now)
-        → StandsFor (Rose (S.faults shelf.old) (S.faults shelf.new)) (Rose (C.faults console.old) (C.faults console.new)) 0 result) }
-
-    // What is said and taken is what is due.
-    ensures history { IfSome (asked_by words.now) (λ request. IfSome (S.files shelf.old) (λ files. IfSome (C.left console.old) (λ lines.
-        HasDueHistory files lines (record { before = C.history console.old; after = C.history console.new })
-        (Rose (S.faults shelf.old) (S.faults shelf.new)) (Rose (C.faults console.old) (C.faults console.new)) request result))) }
-
-    // With status 0 the report was said, or the play was played.
-    ensures shown { result ≡ 0 → IfSome (S.files shelf.old) (λ files. IfSome (C.left console.old) (λ lines.
-        IsShown files lines (record { before = C.history console.old; after = C.history console.new }) (asked_by words.now))) }
+    // No count of faults falls, and with 0 and 9 none rose.
+    ensures counts { Counts (S.seen shelf.old) (S.seen shelf.new)
+        (C.seen console.old) (C.seen console.new) result }
 {
-    text_or_fault();
-    obey(alloc, words, shelf, console)
+    database_in();
+    fault_in();
+    handle(alloc, words, shelf, console)
 }

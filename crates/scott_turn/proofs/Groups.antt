@@ -3,9 +3,8 @@ use Rattle.std.proofs.Common.{◌≡◌, ◌∙◌, ℕ, ◌+◌, ◌≤◌, ◌
 use Rattle.std.proofs.lemmas.List.{drop_all}
 use Rattle.std.specs.Prelude.{◌==◌, ◌&&◌, filter}
 use Rattle.scott_types.specs.declared.parts.Action.{Action}
-use Rattle.scott_types.specs.Database.{Database}
+use Rattle.scott_types.specs.Database.{Database, action_at}
 use Rattle.scott_types.specs.Action.{verb_of}
-use Rattle.scott_rules.specs.Lines.{action_at}
 use Rattle.scott_rules.specs.Groups.{Group, tail_of, groups_of, groups_from}
 use Rattle.scott_turn.specs.Heads.{tail_from, group_at, has_verb, groups_for, is_head_of, ComesNext, TailGoesOn, IsFirst, IsHead, line_of}
 
@@ -26,7 +25,7 @@ pub tail_there : (db : Database) (line : ℕ) (a : Action) (in_tail : Bool) → 
 tail_there db line a true there is test = (there, tail_from-at db line a true there is test)
 tail_there db line a false there is test = tail_from-at db line a false there is test
 
--- behind the last line there is none
+-- after the last line there is none
 pub tail_ended : (db : Database) (line : ℕ) → length db.actions ≤ line → TailGoesOn db line false
 tail_ended db line past = ap (tail_of line) (drop_all line db.actions past)
 
@@ -51,7 +50,7 @@ groups_for-skip db verb line a there is test = groups_for-at db verb line a fals
 pub groups_for-head : (db : Database) (verb line : ℕ) (a : Action) → line < length db.actions → action_at db line ≡ a → is_head_of verb a ≡ true → groups_for db verb line ≡ group_at db line ∷ groups_for db verb (line + 1)
 groups_for-head db verb line a there is test = groups_for-at db verb line a true there is test
 
--- behind the last line there is none
+-- after the last line there is none
 pub groups_for-end : (db : Database) (verb line : ℕ) → length db.actions ≤ line → groups_for db verb line ≡ []
 groups_for-end db verb line past = ap (λ lines. filter (has_verb verb) (groups_of line lines)) (drop_all line db.actions past)
 
@@ -64,7 +63,7 @@ verb_of_head verb a test = grind (arith, test)
 -- a head where a walk stands comes next there
 pub comes_here : (db : Database) (verb head : ℕ) → IsHead db verb (Some head) → ComesNext db verb head head
 comes_here db verb head at = record {
-  behind = omega arith;
+  from = omega arith;
   there = at.0;
   is_head = at.1;
   first = groups_for-head db verb head (action_at db head) at.0 refl at.1;

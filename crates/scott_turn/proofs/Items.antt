@@ -10,118 +10,118 @@ use Rattle.scott_types.specs.declared.endings.Found.TheVariants.{Over, Done as D
 use Rattle.scott_types.specs.declared.endings.Transfer.{Transfer}
 use Rattle.scott_types.specs.declared.commands.Column.TheVariants.{Nouns}
 use Rattle.scott_types.specs.ItemText.{get_word}
-use Rattle.scott_types.specs.Database.{Database}
+use Rattle.scott_types.specs.Database.{Database, item_at}
 use Rattle.scott_types.specs.Phrase.{text_of}
-use Rattle.scott_rules.specs.Told.{Told, Outcome, Step, telling, after, says}
+use Rattle.adv_io.specs.Steps.{Step, Traced, after, said_steps, traced}
+use Rattle.scott_rules.specs.Outcomes.{Outcome}
 use Rattle.scott_rules.specs.Words.{is_empty, is_typed, which}
 use Rattle.scott_rules.specs.Groups.{groups}
-use Rattle.scott_rules.specs.Search.{SearchOutcome, searched}
-use Rattle.scott_rules.specs.Transfer.{verb_for, is_at_hand, item_named, Sweep, is_met, is_refused, after_meeting, sweep_moved, sweep_behind, sweep_item, sweep}
-use Rattle.scott_turn.specs.declared.meetings.Meeting.{Meeting}
-use Rattle.scott_turn.specs.declared.meetings.Meeting.TheVariants.{Passed, Moved, Ended}
-use Rattle.scott_light.specs.Numbered.{item_at}
-use Rattle.scott_turn.specs.Meetings.{MeetOutcome, moved_or_not, ending_in, item_lines, behind_lines, meeting, by_meeting, met_before, is_met_by, ends_sweep, over_in}
-use Rattle.scott_turn.proofs.Going.{after-after}
+use Rattle.scott_rules.specs.Search.{SearchOutcome, search_result}
+use Rattle.scott_rules.specs.Transfer.{verb_for, is_at_hand, item_named, AllOutcome, is_taken, is_refused, with_one_taken, all_moved, all_after, all_item, all_items}
+use Rattle.scott_turn.specs.declared.item_turns.ItemTurn.{ItemTurn}
+use Rattle.scott_turn.specs.declared.item_turns.ItemTurn.TheVariants.{Passed, Moved, Ended}
+use Rattle.scott_turn.specs.ItemTurns.{ItemTurnOutcome, moved_or_not, ending_in, item_actions, after_actions, item_turn, by_item_turn, taken_before, is_taken_by, ends_all, over_in}
+use Rattle.adv_io.proofs.Along.{after-after}
 
 abbrev pub outcome_of_search : SearchOutcome → Outcome
 outcome_of_search o = record { state = o.state; over = ending_in o.found }
 
 -- the items from one on begin with it
-items_from : (db : Database) (i : ℕ) → i < length db.items → drop i db.items ≡ item_at db.items i ∷ drop (i + 1) db.items
-items_from db i there = drop-cons db.items i (record { text = []; place = 0 }) there ∙ ap (λ n. item_at db.items i ∷ drop n db.items) (sym (add-one i))
+items_from : (db : Database) (i : ℕ) → i < length db.items → drop i db.items ≡ item_at db i ∷ drop (i + 1) db.items
+items_from db i there = drop-cons db.items i (record { text = []; place = 0 }) there ∙ ap (λ n. item_at db i ∷ drop n db.items) (sym (add-one i))
 
-sweep_moved-turn : (refused : Bool) (t : Transfer) (i : ℕ) (item : Item) (s : State) (next : State → Told Step Sweep)
-    → sweep_moved refused t i item s next ≡ by_meeting (moved_or_not refused t i item s).value.meeting (moved_or_not refused t i item s) next
-sweep_moved-turn true t i item s next = ap (λ es. telling es (record { state = s; over = None; met = true })) (append-nil (says (text_of TooMuch)))
-sweep_moved-turn false t i item s next = refl
+all_moved-turn : (refused : Bool) (t : Transfer) (i : ℕ) (item : Item) (s : State) (next : State → Traced Step AllOutcome)
+    → all_moved refused t i item s next ≡ by_item_turn (moved_or_not refused t i item s).value.item_turn (moved_or_not refused t i item s) next
+all_moved-turn true t i item s next = ap (λ es. traced es (record { state = s; over = None; any_taken = true })) (append-nil (said_steps (text_of TooMuch)))
+all_moved-turn false t i item s next = refl
 
-sweep_behind-turn : (found : Found) (t : Transfer) (db : Database) (i : ℕ) (item : Item) (s : State) (next : State → Told Step Sweep)
-    → sweep_behind found t db i item s next ≡ by_meeting (behind_lines (ending_in found) t db i item s).value.meeting (behind_lines (ending_in found) t db i item s) next
-sweep_behind-turn (Over ending) t db i item s next = refl
-sweep_behind-turn DoneThere t db i item s next = sweep_moved-turn (is_refused t db s) t i item s next
-sweep_behind-turn Matched t db i item s next = sweep_moved-turn (is_refused t db s) t i item s next
-sweep_behind-turn NoMatch t db i item s next = sweep_moved-turn (is_refused t db s) t i item s next
+all_after-turn : (found : Found) (t : Transfer) (db : Database) (i : ℕ) (item : Item) (s : State) (next : State → Traced Step AllOutcome)
+    → all_after found t db i item s next ≡ by_item_turn (after_actions (ending_in found) t db i item s).value.item_turn (after_actions (ending_in found) t db i item s) next
+all_after-turn (Over ending) t db i item s next = refl
+all_after-turn DoneThere t db i item s next = all_moved-turn (is_refused t db s) t i item s next
+all_after-turn Matched t db i item s next = all_moved-turn (is_refused t db s) t i item s next
+all_after-turn NoMatch t db i item s next = all_moved-turn (is_refused t db s) t i item s next
 
-by_meeting-after : (m : Meeting) (es : List Step) (t : Told Step MeetOutcome) (next : State → Told Step Sweep) → after es (by_meeting m t next) ≡ by_meeting m (after es t) next
-by_meeting-after Passed es t next = after-after es t.events (next t.value.state)
-by_meeting-after Moved es t next = after-after es t.events (after_meeting (next t.value.state))
-by_meeting-after (Ended over) es t next = refl
+by_item_turn-after : (m : ItemTurn) (es : List Step) (t : Traced Step ItemTurnOutcome) (next : State → Traced Step AllOutcome) → after es (by_item_turn m t next) ≡ by_item_turn m (after es t) next
+by_item_turn-after Passed es t next = after-after es t.events (next t.value.state)
+by_item_turn-after Moved es t next = after-after es t.events (with_one_taken (next t.value.state))
+by_item_turn-after (Ended over) es t next = refl
 
-sweep_item-turn : (met : Bool) (t : Transfer) (db : Database) (typed : List ℕ) (i : ℕ) (item : Item) (s : State) (next : State → Told Step Sweep)
-    → sweep_item met t db typed i item s next ≡ by_meeting (meeting met t db typed i item s).value.meeting (meeting met t db typed i item s) next
-sweep_item-turn true t db typed i item s next =
-    let lines = item_lines t db typed item s in
-    let behind = behind_lines lines.value.over t db i item lines.value.state in
-    ap (after lines.events) (sweep_behind-turn (searched db typed (verb_for t) (which db Nouns (get_word item.text)) (groups db) s).value.found t db i item lines.value.state next)
-    ∙ by_meeting-after behind.value.meeting lines.events behind next
-sweep_item-turn false t db typed i item s next = refl
+all_item-turn : (any_taken : Bool) (t : Transfer) (db : Database) (typed : List ℕ) (i : ℕ) (item : Item) (s : State) (next : State → Traced Step AllOutcome)
+    → all_item any_taken t db typed i item s next ≡ by_item_turn (item_turn any_taken t db typed i item s).value.item_turn (item_turn any_taken t db typed i item s) next
+all_item-turn true t db typed i item s next =
+    let lines = item_actions t db typed item s in
+    let later = after_actions lines.value.over t db i item lines.value.state in
+    ap (after lines.events) (all_after-turn (search_result db typed (verb_for t) (which db Nouns (get_word item.text)) (groups db) s).value.found t db i item lines.value.state next)
+    ∙ by_item_turn-after later.value.item_turn lines.events later next
+all_item-turn false t db typed i item s next = refl
 
-met_before-on : (m : Meeting) (before : Bool) (t : Told Step MeetOutcome) (next : State → Told Step Sweep) → ends_sweep m ≡ false
-    → met_before before (by_meeting m t next) ≡ after t.events (met_before (is_met_by m before) (next t.value.state))
-met_before-on Passed false t next on = refl
-met_before-on Passed true t next on = refl
-met_before-on Moved false t next on = refl
-met_before-on Moved true t next on = refl
-met_before-on (Ended over) before t next on = absurd cc
+taken_before-on : (m : ItemTurn) (before : Bool) (t : Traced Step ItemTurnOutcome) (next : State → Traced Step AllOutcome) → ends_all m ≡ false
+    → taken_before before (by_item_turn m t next) ≡ after t.events (taken_before (is_taken_by m before) (next t.value.state))
+taken_before-on Passed false t next on = refl
+taken_before-on Passed true t next on = refl
+taken_before-on Moved false t next on = refl
+taken_before-on Moved true t next on = refl
+taken_before-on (Ended over) before t next on = absurd cc
 
-met_before-end : (m : Meeting) (before : Bool) (t : Told Step MeetOutcome) (next : State → Told Step Sweep) → ends_sweep m ≡ true
-    → met_before before (by_meeting m t next) ≡ telling t.events (record { state = t.value.state; over = over_in m; met = true })
-met_before-end Passed before t next ends = absurd cc
-met_before-end Moved before t next ends = absurd cc
-met_before-end (Ended over) false t next ends = refl
-met_before-end (Ended over) true t next ends = refl
+taken_before-end : (m : ItemTurn) (before : Bool) (t : Traced Step ItemTurnOutcome) (next : State → Traced Step AllOutcome) → ends_all m ≡ true
+    → taken_before before (by_item_turn m t next) ≡ traced t.events (record { state = t.value.state; over = over_in m; any_taken = true })
+taken_before-end Passed before t next ends = absurd cc
+taken_before-end Moved before t next ends = absurd cc
+taken_before-end (Ended over) false t next ends = refl
+taken_before-end (Ended over) true t next ends = refl
 
-met_before-events : (before : Bool) (t : Told Step Sweep) → (met_before before t).events ≡ t.events
-met_before-events true t = refl
-met_before-events false t = refl
+taken_before-events : (before : Bool) (t : Traced Step AllOutcome) → (taken_before before t).events ≡ t.events
+taken_before-events true t = refl
+taken_before-events false t = refl
 
--- what comes behind a turn's own steps
-abbrev pub behind_meeting : Meeting → Told Step MeetOutcome → (State → Told Step Sweep) → List Step
-behind_meeting (Ended over) t next = []
-behind_meeting _ t next = (next t.value.state).events
+-- what comes after a turn's own steps
+abbrev pub after_item_turn : ItemTurn → Traced Step ItemTurnOutcome → (State → Traced Step AllOutcome) → List Step
+after_item_turn (Ended over) t next = []
+after_item_turn _ t next = (next t.value.state).events
 
-by_meeting-front : (m : Meeting) (t : Told Step MeetOutcome) (next : State → Told Step Sweep) → (by_meeting m t next).events ≡ t.events ++ behind_meeting m t next
-by_meeting-front Passed t next = refl
-by_meeting-front Moved t next = refl
-by_meeting-front (Ended over) t next = sym (append-nil t.events)
+by_item_turn-prefix : (m : ItemTurn) (t : Traced Step ItemTurnOutcome) (next : State → Traced Step AllOutcome) → (by_item_turn m t next).events ≡ t.events ++ after_item_turn m t next
+by_item_turn-prefix Passed t next = refl
+by_item_turn-prefix Moved t next = refl
+by_item_turn-prefix (Ended over) t next = sym (append-nil t.events)
 
 -- an item's turn
-abbrev pub turn_of : Transfer → Database → List ℕ → ℕ → State → Told Step MeetOutcome
-turn_of t db typed i s = meeting (is_met t i (item_at db.items i) s) t db typed i (item_at db.items i) s
+abbrev pub turn_of : Transfer → Database → List ℕ → ℕ → State → Traced Step ItemTurnOutcome
+turn_of t db typed i s = item_turn (is_taken t i (item_at db i) s) t db typed i (item_at db i) s
 
 module _ (t : Transfer) (db : Database) (typed : List ℕ) (i : ℕ) (s : State) (there : i < length db.items) where
-  sweep-turn : sweep t db typed i (drop i db.items) s ≡ by_meeting (turn_of t db typed i s).value.meeting (turn_of t db typed i s) (sweep t db typed (i + 1) (drop (i + 1) db.items))
-  sweep-turn =
-      ap (λ items. sweep t db typed i items s) (items_from db i there)
-      ∙ sweep_item-turn (is_met t i (item_at db.items i) s) t db typed i (item_at db.items i) s (sweep t db typed (i + 1) (drop (i + 1) db.items))
+  all_items-turn : all_items t db typed i (drop i db.items) s ≡ by_item_turn (turn_of t db typed i s).value.item_turn (turn_of t db typed i s) (all_items t db typed (i + 1) (drop (i + 1) db.items))
+  all_items-turn =
+      ap (λ items. all_items t db typed i items s) (items_from db i there)
+      ∙ all_item-turn (is_taken t i (item_at db i) s) t db typed i (item_at db i) s (all_items t db typed (i + 1) (drop (i + 1) db.items))
 
-  module _ (found : Meeting) (before : Bool) (state : State) (is : (turn_of t db typed i s).value ≡ record { state = state; meeting = found }) where
-    begin : met_before before (sweep t db typed i (drop i db.items) s) ≡ met_before before (by_meeting found (turn_of t db typed i s) (sweep t db typed (i + 1) (drop (i + 1) db.items)))
-    begin = ap (met_before before) (sweep-turn ∙ ap (λ v. by_meeting v.meeting (turn_of t db typed i s) (sweep t db typed (i + 1) (drop (i + 1) db.items))) is)
+  module _ (found : ItemTurn) (before : Bool) (state : State) (is : (turn_of t db typed i s).value ≡ record { state = state; item_turn = found }) where
+    begin : taken_before before (all_items t db typed i (drop i db.items) s) ≡ taken_before before (by_item_turn found (turn_of t db typed i s) (all_items t db typed (i + 1) (drop (i + 1) db.items)))
+    begin = ap (taken_before before) (all_items-turn ∙ ap (λ v. by_item_turn v.item_turn (turn_of t db typed i s) (all_items t db typed (i + 1) (drop (i + 1) db.items))) is)
 
-    -- behind a turn that doesn't end the command come the other items
-    pub sweep-on : ends_sweep found ≡ false → met_before before (sweep t db typed i (drop i db.items) s)
-        ≡ after (turn_of t db typed i s).events (met_before (is_met_by found before) (sweep t db typed (i + 1) (drop (i + 1) db.items) state))
-    sweep-on on =
+    -- after a turn that doesn't end the command come the other items
+    pub all_items-on : ends_all found ≡ false → taken_before before (all_items t db typed i (drop i db.items) s)
+        ≡ after (turn_of t db typed i s).events (taken_before (is_taken_by found before) (all_items t db typed (i + 1) (drop (i + 1) db.items) state))
+    all_items-on on =
         begin
-        ∙ met_before-on found before (turn_of t db typed i s) (sweep t db typed (i + 1) (drop (i + 1) db.items)) on
-        ∙ ap (λ v. after (turn_of t db typed i s).events (met_before (is_met_by found before) (sweep t db typed (i + 1) (drop (i + 1) db.items) v.state))) is
+        ∙ taken_before-on found before (turn_of t db typed i s) (all_items t db typed (i + 1) (drop (i + 1) db.items)) on
+        ∙ ap (λ v. after (turn_of t db typed i s).events (taken_before (is_taken_by found before) (all_items t db typed (i + 1) (drop (i + 1) db.items) v.state))) is
 
     -- a turn that ends it is the whole of what is left
-    pub sweep-end : ends_sweep found ≡ true → met_before before (sweep t db typed i (drop i db.items) s)
-        ≡ telling (turn_of t db typed i s).events (record { state = state; over = over_in found; met = true })
-    sweep-end ends =
+    pub all_items-end : ends_all found ≡ true → taken_before before (all_items t db typed i (drop i db.items) s)
+        ≡ traced (turn_of t db typed i s).events (record { state = state; over = over_in found; any_taken = true })
+    all_items-end ends =
         begin
-        ∙ met_before-end found before (turn_of t db typed i s) (sweep t db typed (i + 1) (drop (i + 1) db.items)) ends
-        ∙ ap (λ v. telling (turn_of t db typed i s).events (record { state = v.state; over = over_in found; met = true })) is
+        ∙ taken_before-end found before (turn_of t db typed i s) (all_items t db typed (i + 1) (drop (i + 1) db.items)) ends
+        ∙ ap (λ v. traced (turn_of t db typed i s).events (record { state = v.state; over = over_in found; any_taken = true })) is
 
   -- the walk begins with its first turn
-  pub sweep-front : (before : Bool) → (met_before before (sweep t db typed i (drop i db.items) s)).events
-      ≡ (turn_of t db typed i s).events ++ behind_meeting (turn_of t db typed i s).value.meeting (turn_of t db typed i s) (sweep t db typed (i + 1) (drop (i + 1) db.items))
-  sweep-front before =
-      met_before-events before (sweep t db typed i (drop i db.items) s)
-      ∙ ap (λ w. w.events) sweep-turn
-      ∙ by_meeting-front (turn_of t db typed i s).value.meeting (turn_of t db typed i s) (sweep t db typed (i + 1) (drop (i + 1) db.items))
+  pub all_items-prefix : (before : Bool) → (taken_before before (all_items t db typed i (drop i db.items) s)).events
+      ≡ (turn_of t db typed i s).events ++ after_item_turn (turn_of t db typed i s).value.item_turn (turn_of t db typed i s) (all_items t db typed (i + 1) (drop (i + 1) db.items))
+  all_items-prefix before =
+      taken_before-events before (all_items t db typed i (drop i db.items) s)
+      ∙ ap (λ w. w.events) all_items-turn
+      ∙ by_item_turn-prefix (turn_of t db typed i s).value.item_turn (turn_of t db typed i s) (all_items t db typed (i + 1) (drop (i + 1) db.items))
 
 -- an item's lines leave what their search leaves
 pub lines-left : (o : SearchOutcome) (state : State) (found : Found) → o ≡ record { state = state; found = found } → outcome_of_search o ≡ record { state = state; over = ending_in found }

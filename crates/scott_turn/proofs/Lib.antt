@@ -1,5 +1,4 @@
-pub mod Seeing
-pub mod Going
+pub mod Showing
 pub mod Groups
 pub mod Tries
 pub mod Turning
@@ -7,6 +6,6 @@ pub mod Items
 pub mod Walks
 pub mod Prompts
 pub mod Playing
-pub mod Sittings
+pub mod SessionViews
 pub mod Said
 pub mod WordIndexes

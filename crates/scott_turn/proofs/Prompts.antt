@@ -13,6 +13,6 @@ prompted-events (Waits head) db s draws = refl
 prompted-events (Over ending) db s draws = refl
 
 -- the same of what the step left
-pub prompted-told : (db : Database) (v : AutoOutcome) (s : State) (draws : List ℕ) (halt : Halt) → v ≡ record { state = s; draws = draws; halt = halt }
+pub prompted-as_rules : (db : Database) (v : AutoOutcome) (s : State) (draws : List ℕ) (halt : Halt) → v ≡ record { state = s; draws = draws; halt = halt }
     → (prompted v.halt db v.state v.draws).events ≡ (prompted halt db s []).events
-prompted-told db v s draws halt is = ap (λ o. (prompted o.halt db o.state o.draws).events) is ∙ prompted-events halt db s draws
+prompted-as_rules db v s draws halt is = ap (λ o. (prompted o.halt db o.state o.draws).events) is ∙ prompted-events halt db s draws

@@ -9,15 +9,15 @@ use Rattle.scott_types.specs.declared.endings.Halt.{Halt}
 use Rattle.scott_types.specs.declared.endings.Halt.TheVariants.{Through, Waits, Over as AtEnd}
 use Rattle.scott_types.specs.declared.endings.Found.{Found}
 use Rattle.scott_types.specs.declared.endings.Found.TheVariants.{Over, Done, Matched, NoMatch}
-use Rattle.scott_types.specs.Database.{Database}
+use Rattle.scott_types.specs.Database.{Database, action_at}
 use Rattle.scott_types.specs.Action.{verb_of, noun_of}
-use Rattle.scott_rules.specs.Told.{Told, Step, Drew, telling, after}
-use Rattle.scott_rules.specs.Lines.{LineOutcome, action_at}
-use Rattle.scott_rules.specs.Groups.{Group, AutoOutcome, over_of, groups, groups_from, group_tried, auto_behind, auto_tried, auto_drawn, auto_group, automatic}
-use Rattle.scott_rules.specs.Search.{SearchOutcome, is_for_noun, at_least_matched, matched, search_behind, search_group, searched}
+use Rattle.adv_io.specs.Steps.{Drew, Step, Traced, after, traced}
+use Rattle.scott_rules.specs.Actions.{ActionOutcome}
+use Rattle.scott_rules.specs.Groups.{Group, AutoOutcome, over_of, groups, groups_from, group_tried, auto_after, auto_tried, auto_drawn, auto_group, automatic}
+use Rattle.scott_rules.specs.Search.{SearchOutcome, is_for_noun, at_least_matched, matched, search_after, search_group, search_result}
 use Rattle.scott_turn.specs.Heads.{group_at, has_verb, groups_for, ComesNext}
 use Rattle.scott_turn.specs.Turns.{halt_of, entered, auto_turn, by_halt, goes_through, found_of, search_turn, by_turn, at_least, with_before, ends_search}
-use Rattle.scott_turn.proofs.Going.{after-after}
+use Rattle.adv_io.proofs.Along.{after-after}
 use Rattle.scott_turn.proofs.Groups.{verb_of_head}
 
 -- ---- the automatic step walks over the groups of verb 0 alone
@@ -39,22 +39,22 @@ automatic-for db line s draws = ap (λ walk. walk s draws) (automatic-filter db 
 
 -- ---- one turn of it
 
-auto_behind-halt : (over : Option ℕ) (t : Told Step LineOutcome) (draws : List ℕ) (next : State → List ℕ → Told Step AutoOutcome)
-    → auto_behind over t draws next ≡ by_halt (halt_of over) (telling t.events (record { state = t.value.state; draws = draws; halt = halt_of over })) next
-auto_behind-halt None t draws next = refl
-auto_behind-halt (Some ending) t draws next = refl
+auto_after-halt : (over : Option ℕ) (t : Traced Step ActionOutcome) (draws : List ℕ) (next : State → List ℕ → Traced Step AutoOutcome)
+    → auto_after over t draws next ≡ by_halt (halt_of over) (traced t.events (record { state = t.value.state; draws = draws; halt = halt_of over })) next
+auto_after-halt None t draws next = refl
+auto_after-halt (Some ending) t draws next = refl
 
-auto_tried-entered : (lets_in : Bool) (db : Database) (g : Group) (s : State) (draws : List ℕ) (next : State → List ℕ → Told Step AutoOutcome)
+auto_tried-entered : (lets_in : Bool) (db : Database) (g : Group) (s : State) (draws : List ℕ) (next : State → List ℕ → Traced Step AutoOutcome)
     → auto_tried lets_in db g s draws next ≡ by_halt (entered lets_in db g s draws).value.halt (entered lets_in db g s draws) next
-auto_tried-entered true db g s draws next = let t = group_tried db [] g s in auto_behind-halt (over_of t.value.ran) t draws next
+auto_tried-entered true db g s draws next = let t = group_tried db [] g s in auto_after-halt (over_of t.value.ran) t draws next
 auto_tried-entered false db g s draws next = refl
 
-by_halt-after : (halt : Halt) (es : List Step) (t : Told Step AutoOutcome) (next : State → List ℕ → Told Step AutoOutcome) → after es (by_halt halt t next) ≡ by_halt halt (after es t) next
+by_halt-after : (halt : Halt) (es : List Step) (t : Traced Step AutoOutcome) (next : State → List ℕ → Traced Step AutoOutcome) → after es (by_halt halt t next) ≡ by_halt halt (after es t) next
 by_halt-after Through es t next = after-after es t.events (next t.value.state t.value.draws)
 by_halt-after (Waits head) es t next = refl
 by_halt-after (AtEnd ending) es t next = refl
 
-auto_drawn-turn : (db : Database) (g : Group) (s : State) (draws : List ℕ) (next : State → List ℕ → Told Step AutoOutcome)
+auto_drawn-turn : (db : Database) (g : Group) (s : State) (draws : List ℕ) (next : State → List ℕ → Traced Step AutoOutcome)
     → auto_drawn db g s draws next ≡ by_halt (auto_turn db g s draws).value.halt (auto_turn db g s draws) next
 auto_drawn-turn db g s [] next = refl
 auto_drawn-turn db g s (draw ∷ draws) next =
@@ -62,26 +62,26 @@ auto_drawn-turn db g s (draw ∷ draws) next =
     ap (after (Drew draw ∷ [])) (auto_tried-entered b db g s draws next)
     ∙ by_halt-after (entered b db g s draws).value.halt (Drew draw ∷ []) (entered b db g s draws) next
 
-by_halt-on : (halt : Halt) (t : Told Step AutoOutcome) (next : State → List ℕ → Told Step AutoOutcome) → goes_through halt ≡ true → by_halt halt t next ≡ after t.events (next t.value.state t.value.draws)
+by_halt-on : (halt : Halt) (t : Traced Step AutoOutcome) (next : State → List ℕ → Traced Step AutoOutcome) → goes_through halt ≡ true → by_halt halt t next ≡ after t.events (next t.value.state t.value.draws)
 by_halt-on Through t next on = refl
 by_halt-on (Waits head) t next on = absurd cc
 by_halt-on (AtEnd ending) t next on = absurd cc
 
-by_halt-stop : (halt : Halt) (t : Told Step AutoOutcome) (next : State → List ℕ → Told Step AutoOutcome) → goes_through halt ≡ false → by_halt halt t next ≡ t
+by_halt-stop : (halt : Halt) (t : Traced Step AutoOutcome) (next : State → List ℕ → Traced Step AutoOutcome) → goes_through halt ≡ false → by_halt halt t next ≡ t
 by_halt-stop Through t next stops = absurd cc
 by_halt-stop (Waits head) t next stops = refl
 by_halt-stop (AtEnd ending) t next stops = refl
 
--- what comes behind a turn's own steps
-abbrev pub behind_halt : Halt → Told Step AutoOutcome → (State → List ℕ → Told Step AutoOutcome) → List Step
-behind_halt Through t next = (next t.value.state t.value.draws).events
-behind_halt (Waits head) t next = []
-behind_halt (AtEnd ending) t next = []
+-- what comes after a turn's own steps
+abbrev pub after_halt : Halt → Traced Step AutoOutcome → (State → List ℕ → Traced Step AutoOutcome) → List Step
+after_halt Through t next = (next t.value.state t.value.draws).events
+after_halt (Waits head) t next = []
+after_halt (AtEnd ending) t next = []
 
-by_halt-front : (halt : Halt) (t : Told Step AutoOutcome) (next : State → List ℕ → Told Step AutoOutcome) → (by_halt halt t next).events ≡ t.events ++ behind_halt halt t next
-by_halt-front Through t next = refl
-by_halt-front (Waits head) t next = sym (append-nil t.events)
-by_halt-front (AtEnd ending) t next = sym (append-nil t.events)
+by_halt-prefix : (halt : Halt) (t : Traced Step AutoOutcome) (next : State → List ℕ → Traced Step AutoOutcome) → (by_halt halt t next).events ≡ t.events ++ after_halt halt t next
+by_halt-prefix Through t next = refl
+by_halt-prefix (Waits head) t next = sym (append-nil t.events)
+by_halt-prefix (AtEnd ending) t next = sym (append-nil t.events)
 
 module _ (db : Database) (line head : ℕ) (s : State) (draws : List ℕ) (comes : ComesNext db 0 line head) where
   automatic-turn : automatic db (groups_for db 0 line) s draws ≡ by_halt (auto_turn db (group_at db head) s draws).value.halt (auto_turn db (group_at db head) s draws) (automatic db (groups_for db 0 (head + 1)))
@@ -90,7 +90,7 @@ module _ (db : Database) (line head : ℕ) (s : State) (draws : List ℕ) (comes
       ∙ ap (λ b. auto_group b db (group_at db head) s draws (automatic db (groups_for db 0 (head + 1)))) (eq-eqb (verb_of (action_at db head).vocab) 0 (verb_of_head 0 (action_at db head) comes.is_head))
       ∙ auto_drawn-turn db (group_at db head) s draws (automatic db (groups_for db 0 (head + 1)))
 
-  -- behind a turn where the step goes on come the other groups
+  -- after a turn where the step goes on come the other groups
   pub automatic-on : (halt : Halt) → halt ≡ (auto_turn db (group_at db head) s draws).value.halt → goes_through halt ≡ true
       → (state : State) → state ≡ (auto_turn db (group_at db head) s draws).value.state
       → (left : List ℕ) → left ≡ (auto_turn db (group_at db head) s draws).value.draws
@@ -109,50 +109,50 @@ module _ (db : Database) (line head : ℕ) (s : State) (draws : List ℕ) (comes
       automatic-turn ∙ by_halt-stop t.value.halt t (automatic db (groups_for db 0 (head + 1))) (ap goes_through (sym is) ∙ stops)
 
   -- the step begins with its first turn
-  pub automatic-front : (automatic db (groups_for db 0 line) s draws).events
-      ≡ (auto_turn db (group_at db head) s draws).events ++ behind_halt (auto_turn db (group_at db head) s draws).value.halt (auto_turn db (group_at db head) s draws) (automatic db (groups_for db 0 (head + 1)))
-  automatic-front =
+  pub automatic-prefix : (automatic db (groups_for db 0 line) s draws).events
+      ≡ (auto_turn db (group_at db head) s draws).events ++ after_halt (auto_turn db (group_at db head) s draws).value.halt (auto_turn db (group_at db head) s draws) (automatic db (groups_for db 0 (head + 1)))
+  automatic-prefix =
       let t = auto_turn db (group_at db head) s draws in
-      ap (λ w. w.events) automatic-turn ∙ by_halt-front t.value.halt t (automatic db (groups_for db 0 (head + 1)))
+      ap (λ w. w.events) automatic-turn ∙ by_halt-prefix t.value.halt t (automatic db (groups_for db 0 (head + 1)))
 
--- behind the last group nothing is left
-pub automatic-none : (db : Database) (line : ℕ) (s : State) (draws : List ℕ) → groups_for db 0 line ≡ [] → automatic db (groups_for db 0 line) s draws ≡ telling [] (record { state = s; draws = draws; halt = Through })
+-- after the last group nothing is left
+pub automatic-none : (db : Database) (line : ℕ) (s : State) (draws : List ℕ) → groups_for db 0 line ≡ [] → automatic db (groups_for db 0 line) s draws ≡ traced [] (record { state = s; draws = draws; halt = Through })
 automatic-none db line s draws none = ap (λ gs. automatic db gs s draws) none
 
 -- ---- the search walks over the groups of its verb alone
 
 search_group-for : (has : Bool) (db : Database) (typed : List ℕ) (verb : ℕ) (noun : Option ℕ) (g : Group) (gs hs : List Group) → has_verb verb g ≡ has
-    → searched db typed verb noun gs ≡ searched db typed verb noun hs
-    → (s : State) → search_group (has && is_for_noun (noun_of g.vocab) noun) db typed g s (searched db typed verb noun gs) ≡ searched db typed verb noun (cond has (g ∷ hs) hs) s
+    → search_result db typed verb noun gs ≡ search_result db typed verb noun hs
+    → (s : State) → search_group (has && is_for_noun (noun_of g.vocab) noun) db typed g s (search_result db typed verb noun gs) ≡ search_result db typed verb noun (cond has (g ∷ hs) hs) s
 search_group-for true db typed verb noun g gs hs test same s =
     ap (search_group (is_for_noun (noun_of g.vocab) noun) db typed g s) same
-    ∙ ap (λ b. search_group (b && is_for_noun (noun_of g.vocab) noun) db typed g s (searched db typed verb noun hs)) (sym test)
+    ∙ ap (λ b. search_group (b && is_for_noun (noun_of g.vocab) noun) db typed g s (search_result db typed verb noun hs)) (sym test)
 search_group-for false db typed verb noun g gs hs test same s = ap (λ next. next s) same
 
-searched-filter : (db : Database) (typed : List ℕ) (verb : ℕ) (noun : Option ℕ) (gs : List Group) → searched db typed verb noun gs ≡ searched db typed verb noun (filter (has_verb verb) gs)
-searched-filter db typed verb noun [] = refl
-searched-filter db typed verb noun (g ∷ gs) =
-    let turn = search_group-for (has_verb verb g) db typed verb noun g gs (filter (has_verb verb) gs) refl (searched-filter db typed verb noun gs) in
+search_result-filter : (db : Database) (typed : List ℕ) (verb : ℕ) (noun : Option ℕ) (gs : List Group) → search_result db typed verb noun gs ≡ search_result db typed verb noun (filter (has_verb verb) gs)
+search_result-filter db typed verb noun [] = refl
+search_result-filter db typed verb noun (g ∷ gs) =
+    let turn = search_group-for (has_verb verb g) db typed verb noun g gs (filter (has_verb verb) gs) refl (search_result-filter db typed verb noun gs) in
     λ i s. turn s i
 
-pub searched-for : (db : Database) (typed : List ℕ) (verb : ℕ) (noun : Option ℕ) (s : State) → searched db typed verb noun (groups db) s ≡ searched db typed verb noun (groups_for db verb 0) s
-searched-for db typed verb noun s = ap (λ walk. walk s) (searched-filter db typed verb noun (groups db))
+pub search_result-for : (db : Database) (typed : List ℕ) (verb : ℕ) (noun : Option ℕ) (s : State) → search_result db typed verb noun (groups db) s ≡ search_result db typed verb noun (groups_for db verb 0) s
+search_result-for db typed verb noun s = ap (λ walk. walk s) (search_result-filter db typed verb noun (groups db))
 
 -- ---- one turn of it
 
-search_behind-found : (ran : Ran) (t : Told Step LineOutcome) (next : State → Told Step SearchOutcome)
-    → search_behind ran t next ≡ by_turn (found_of ran) (telling t.events (record { state = t.value.state; found = found_of ran })) next
-search_behind-found Not t next = refl
-search_behind-found (Passed more) t next = refl
-search_behind-found (Ended ending) t next = refl
+search_after-found : (ran : Ran) (t : Traced Step ActionOutcome) (next : State → Traced Step SearchOutcome)
+    → search_after ran t next ≡ by_turn (found_of ran) (traced t.events (record { state = t.value.state; found = found_of ran })) next
+search_after-found Not t next = refl
+search_after-found (Passed more) t next = refl
+search_after-found (Ended ending) t next = refl
 
-search_group-turn : (meant : Bool) (db : Database) (typed : List ℕ) (g : Group) (s : State) (next : State → Told Step SearchOutcome)
+search_group-turn : (meant : Bool) (db : Database) (typed : List ℕ) (g : Group) (s : State) (next : State → Traced Step SearchOutcome)
     → search_group meant db typed g s next ≡ by_turn (search_turn meant db typed g s).value.found (search_turn meant db typed g s) next
-search_group-turn true db typed g s next = let t = group_tried db typed g s in search_behind-found t.value.ran t next
+search_group-turn true db typed g s next = let t = group_tried db typed g s in search_after-found t.value.ran t next
 search_group-turn false db typed g s next = refl
 
--- what the groups before a turn came to goes on behind it
-with_before-on : (found before : Found) (t : Told Step SearchOutcome) (next : State → Told Step SearchOutcome) → ends_search found ≡ false → ends_search before ≡ false
+-- what the groups before a turn gave is kept after it
+with_before-on : (found before : Found) (t : Traced Step SearchOutcome) (next : State → Traced Step SearchOutcome) → ends_search found ≡ false → ends_search before ≡ false
     → with_before before (by_turn found t next) ≡ after t.events (with_before (at_least found before) (next t.value.state))
 with_before-on NoMatch NoMatch t next on begun = refl
 with_before-on NoMatch Matched t next on begun = refl
@@ -165,21 +165,21 @@ with_before-on Matched Matched t next on begun = matched-matched (next t.value.s
     found_twice Done = refl
     found_twice (Over ending) = refl
 
-    matched-matched : (w : Told Step SearchOutcome) → after t.events (matched (matched w)) ≡ after t.events (matched w)
-    matched-matched w = ap (λ found. telling (t.events ++ w.events) (record { state = w.value.state; found = found })) (found_twice w.value.found)
+    matched-matched : (w : Traced Step SearchOutcome) → after t.events (matched (matched w)) ≡ after t.events (matched w)
+    matched-matched w = ap (λ found. traced (t.events ++ w.events) (record { state = w.value.state; found = found })) (found_twice w.value.found)
 with_before-on Done before t next on begun = absurd cc
 with_before-on (Over ending) before t next on begun = absurd cc
 with_before-on found Done t next on begun = absurd cc
 with_before-on found (Over ending) t next on begun = absurd cc
 
--- a turn that ends the search is what the search comes to
-with_before-end : (found before : Found) (t : Told Step SearchOutcome) (next : State → Told Step SearchOutcome) → found ≡ t.value.found → ends_search found ≡ true → with_before before (by_turn found t next) ≡ t
+-- a turn that ends the search is what the search gives
+with_before-end : (found before : Found) (t : Traced Step SearchOutcome) (next : State → Traced Step SearchOutcome) → found ≡ t.value.found → ends_search found ≡ true → with_before before (by_turn found t next) ≡ t
 with_before-end NoMatch before t next is ends = absurd cc
 with_before-end Matched before t next is ends = absurd cc
 with_before-end Done before t next is ends = end_stays before
   where
     same : matched t ≡ t
-    same = ap (λ found. telling t.events (record { state = t.value.state; found = at_least_matched found })) (sym is) ∙ ap (λ found. telling t.events (record { state = t.value.state; found = found })) is
+    same = ap (λ found. traced t.events (record { state = t.value.state; found = at_least_matched found })) (sym is) ∙ ap (λ found. traced t.events (record { state = t.value.state; found = found })) is
 
     end_stays : (before : Found) → with_before before t ≡ t
     end_stays NoMatch = refl
@@ -189,7 +189,7 @@ with_before-end Done before t next is ends = end_stays before
 with_before-end (Over ending) before t next is ends = end_stays before
   where
     same : matched t ≡ t
-    same = ap (λ found. telling t.events (record { state = t.value.state; found = at_least_matched found })) (sym is) ∙ ap (λ found. telling t.events (record { state = t.value.state; found = found })) is
+    same = ap (λ found. traced t.events (record { state = t.value.state; found = at_least_matched found })) (sym is) ∙ ap (λ found. traced t.events (record { state = t.value.state; found = found })) is
 
     end_stays : (before : Found) → with_before before t ≡ t
     end_stays NoMatch = refl
@@ -197,73 +197,73 @@ with_before-end (Over ending) before t next is ends = end_stays before
     end_stays Done = same
     end_stays (Over other) = same
 
-with_before-events : (before : Found) (t : Told Step SearchOutcome) → (with_before before t).events ≡ t.events
+with_before-events : (before : Found) (t : Traced Step SearchOutcome) → (with_before before t).events ≡ t.events
 with_before-events NoMatch t = refl
 with_before-events Matched t = refl
 with_before-events Done t = refl
 with_before-events (Over ending) t = refl
 
--- what comes behind a turn's own steps
-abbrev pub behind_turn : Found → Told Step SearchOutcome → (State → Told Step SearchOutcome) → List Step
-behind_turn NoMatch t next = (next t.value.state).events
-behind_turn Matched t next = (next t.value.state).events
-behind_turn Done t next = []
-behind_turn (Over ending) t next = []
+-- what comes after a turn's own steps
+abbrev pub after_turn : Found → Traced Step SearchOutcome → (State → Traced Step SearchOutcome) → List Step
+after_turn NoMatch t next = (next t.value.state).events
+after_turn Matched t next = (next t.value.state).events
+after_turn Done t next = []
+after_turn (Over ending) t next = []
 
-by_turn-front : (found : Found) (t : Told Step SearchOutcome) (next : State → Told Step SearchOutcome) → (by_turn found t next).events ≡ t.events ++ behind_turn found t next
-by_turn-front NoMatch t next = refl
-by_turn-front Matched t next = refl
-by_turn-front Done t next = sym (append-nil t.events)
-by_turn-front (Over ending) t next = sym (append-nil t.events)
+by_turn-prefix : (found : Found) (t : Traced Step SearchOutcome) (next : State → Traced Step SearchOutcome) → (by_turn found t next).events ≡ t.events ++ after_turn found t next
+by_turn-prefix NoMatch t next = refl
+by_turn-prefix Matched t next = refl
+by_turn-prefix Done t next = sym (append-nil t.events)
+by_turn-prefix (Over ending) t next = sym (append-nil t.events)
 
 -- the number of the group's own noun
 abbrev pub noun_at : Database → ℕ → ℕ
 noun_at db head = noun_of (action_at db head).vocab
 
 module _ (db : Database) (typed : List ℕ) (verb : ℕ) (noun : Option ℕ) (line head : ℕ) (s : State) (comes : ComesNext db verb line head) where
-  searched-turn : searched db typed verb noun (groups_for db verb line) s
-      ≡ by_turn (search_turn (is_for_noun (noun_at db head) noun) db typed (group_at db head) s).value.found (search_turn (is_for_noun (noun_at db head) noun) db typed (group_at db head) s) (searched db typed verb noun (groups_for db verb (head + 1)))
-  searched-turn =
-      ap (λ gs. searched db typed verb noun gs s) comes.first
-      ∙ ap (λ b. search_group (b && is_for_noun (noun_at db head) noun) db typed (group_at db head) s (searched db typed verb noun (groups_for db verb (head + 1)))) (eq-eqb (verb_of (action_at db head).vocab) verb (verb_of_head verb (action_at db head) comes.is_head))
-      ∙ search_group-turn (is_for_noun (noun_at db head) noun) db typed (group_at db head) s (searched db typed verb noun (groups_for db verb (head + 1)))
+  search_result-turn : search_result db typed verb noun (groups_for db verb line) s
+      ≡ by_turn (search_turn (is_for_noun (noun_at db head) noun) db typed (group_at db head) s).value.found (search_turn (is_for_noun (noun_at db head) noun) db typed (group_at db head) s) (search_result db typed verb noun (groups_for db verb (head + 1)))
+  search_result-turn =
+      ap (λ gs. search_result db typed verb noun gs s) comes.first
+      ∙ ap (λ b. search_group (b && is_for_noun (noun_at db head) noun) db typed (group_at db head) s (search_result db typed verb noun (groups_for db verb (head + 1)))) (eq-eqb (verb_of (action_at db head).vocab) verb (verb_of_head verb (action_at db head) comes.is_head))
+      ∙ search_group-turn (is_for_noun (noun_at db head) noun) db typed (group_at db head) s (search_result db typed verb noun (groups_for db verb (head + 1)))
 
-  -- behind a turn that doesn't end the search come the other groups
-  pub searched-on : (found before : Found) → found ≡ (search_turn (is_for_noun (noun_at db head) noun) db typed (group_at db head) s).value.found → ends_search found ≡ false → ends_search before ≡ false
+  -- after a turn that doesn't end the search come the other groups
+  pub search_result-on : (found before : Found) → found ≡ (search_turn (is_for_noun (noun_at db head) noun) db typed (group_at db head) s).value.found → ends_search found ≡ false → ends_search before ≡ false
       → (state : State) → state ≡ (search_turn (is_for_noun (noun_at db head) noun) db typed (group_at db head) s).value.state
-      → with_before before (searched db typed verb noun (groups_for db verb line) s)
-      ≡ after (search_turn (is_for_noun (noun_at db head) noun) db typed (group_at db head) s).events (with_before (at_least found before) (searched db typed verb noun (groups_for db verb (head + 1)) state))
-  searched-on found before is on begun state state_is =
+      → with_before before (search_result db typed verb noun (groups_for db verb line) s)
+      ≡ after (search_turn (is_for_noun (noun_at db head) noun) db typed (group_at db head) s).events (with_before (at_least found before) (search_result db typed verb noun (groups_for db verb (head + 1)) state))
+  search_result-on found before is on begun state state_is =
       let t = search_turn (is_for_noun (noun_at db head) noun) db typed (group_at db head) s in
-      let next = searched db typed verb noun (groups_for db verb (head + 1)) in
-      ap (with_before before) (searched-turn ∙ ap (λ f. by_turn f t next) (sym is))
+      let next = search_result db typed verb noun (groups_for db verb (head + 1)) in
+      ap (with_before before) (search_result-turn ∙ ap (λ f. by_turn f t next) (sym is))
       ∙ with_before-on found before t next on begun
       ∙ ap (λ r. after t.events (with_before (at_least found before) (next r))) (sym state_is)
 
   -- a turn that ends it is the whole of what is left
-  pub searched-end : (found before : Found) → found ≡ (search_turn (is_for_noun (noun_at db head) noun) db typed (group_at db head) s).value.found → ends_search found ≡ true
-      → with_before before (searched db typed verb noun (groups_for db verb line) s) ≡ search_turn (is_for_noun (noun_at db head) noun) db typed (group_at db head) s
-  searched-end found before is ends =
+  pub search_result-end : (found before : Found) → found ≡ (search_turn (is_for_noun (noun_at db head) noun) db typed (group_at db head) s).value.found → ends_search found ≡ true
+      → with_before before (search_result db typed verb noun (groups_for db verb line) s) ≡ search_turn (is_for_noun (noun_at db head) noun) db typed (group_at db head) s
+  search_result-end found before is ends =
       let t = search_turn (is_for_noun (noun_at db head) noun) db typed (group_at db head) s in
-      let next = searched db typed verb noun (groups_for db verb (head + 1)) in
-      ap (with_before before) (searched-turn ∙ ap (λ f. by_turn f t next) (sym is)) ∙ with_before-end found before t next is ends
+      let next = search_result db typed verb noun (groups_for db verb (head + 1)) in
+      ap (with_before before) (search_result-turn ∙ ap (λ f. by_turn f t next) (sym is)) ∙ with_before-end found before t next is ends
 
   -- the search begins with its first turn
-  pub searched-front : (before : Found) → (with_before before (searched db typed verb noun (groups_for db verb line) s)).events
+  pub search_result-prefix : (before : Found) → (with_before before (search_result db typed verb noun (groups_for db verb line) s)).events
       ≡ (search_turn (is_for_noun (noun_at db head) noun) db typed (group_at db head) s).events
-      ++ behind_turn (search_turn (is_for_noun (noun_at db head) noun) db typed (group_at db head) s).value.found (search_turn (is_for_noun (noun_at db head) noun) db typed (group_at db head) s) (searched db typed verb noun (groups_for db verb (head + 1)))
-  searched-front before =
+      ++ after_turn (search_turn (is_for_noun (noun_at db head) noun) db typed (group_at db head) s).value.found (search_turn (is_for_noun (noun_at db head) noun) db typed (group_at db head) s) (search_result db typed verb noun (groups_for db verb (head + 1)))
+  search_result-prefix before =
       let t = search_turn (is_for_noun (noun_at db head) noun) db typed (group_at db head) s in
-      with_before-events before (searched db typed verb noun (groups_for db verb line) s)
-      ∙ ap (λ w. w.events) searched-turn ∙ by_turn-front t.value.found t (searched db typed verb noun (groups_for db verb (head + 1)))
+      with_before-events before (search_result db typed verb noun (groups_for db verb line) s)
+      ∙ ap (λ w. w.events) search_result-turn ∙ by_turn-prefix t.value.found t (search_result db typed verb noun (groups_for db verb (head + 1)))
 
--- behind the last group the search has found what it found before
-pub searched-none : (db : Database) (typed : List ℕ) (verb : ℕ) (noun : Option ℕ) (line : ℕ) (s : State) (before : Found) → groups_for db verb line ≡ [] → ends_search before ≡ false
-    → with_before before (searched db typed verb noun (groups_for db verb line) s) ≡ telling [] (record { state = s; found = before })
-searched-none db typed verb noun line s NoMatch none begun = ap (λ gs. searched db typed verb noun gs s) none
-searched-none db typed verb noun line s Matched none begun = ap (λ gs. matched (searched db typed verb noun gs s)) none
-searched-none db typed verb noun line s Done none begun = absurd cc
-searched-none db typed verb noun line s (Over ending) none begun = absurd cc
+-- after the last group the search has found what it found before
+pub search_result-none : (db : Database) (typed : List ℕ) (verb : ℕ) (noun : Option ℕ) (line : ℕ) (s : State) (before : Found) → groups_for db verb line ≡ [] → ends_search before ≡ false
+    → with_before before (search_result db typed verb noun (groups_for db verb line) s) ≡ traced [] (record { state = s; found = before })
+search_result-none db typed verb noun line s NoMatch none begun = ap (λ gs. search_result db typed verb noun gs s) none
+search_result-none db typed verb noun line s Matched none begun = ap (λ gs. matched (search_result db typed verb noun gs s)) none
+search_result-none db typed verb noun line s Done none begun = absurd cc
+search_result-none db typed verb noun line s (Over ending) none begun = absurd cc
 
 -- with one more group that didn't end the search it hasn't ended
 pub at_least-begun : (found before : Found) → ends_search found ≡ false → ends_search before ≡ false → ends_search (at_least found before) ≡ false

@@ -45,24 +45,24 @@ put_found size word typed old new key entry v by_letters filled by_value updated
 
 -- ---- from entry to entry
 
--- what was found, then what is added, then what is found behind it
-found_or : (found plain rest : Option ℕ) (names : Bool) → option_or (option_or found (cond names plain None)) rest ≡ option_or found (cond (names && is_some plain) plain rest)
-found_or (Some n) plain rest names = refl
+-- what was found, then what is added, then what is found after it
+found_or : (found base rest : Option ℕ) (names : Bool) → option_or (option_or found (cond names base None)) rest ≡ option_or found (cond (names && is_some base) base rest)
+found_or (Some n) base rest names = refl
 found_or None None rest true = refl
 found_or None (Some n) rest true = refl
-found_or None plain rest false = refl
+found_or None base rest false = refl
 
 -- with the word of entry k an index has all words up to it
-pub finds_further : (db : Database) (column : Column) (before plain : Option ℕ) (k : ℕ) (word : List ℕ) (old new : WordIndex)
+pub finds_further : (db : Database) (column : Column) (before base : Option ℕ) (k : ℕ) (word : List ℕ) (old new : WordIndex)
     → old.size ≡ db.header.length
-    → ((typed : List ℕ) → which_from db column typed before k ≡ cond (is_typed db.header.length word typed && is_some plain) plain (which_from db column typed plain (k + 1)))
-    → ((typed : List ℕ) → found_in new typed ≡ option_or (found_in old typed) (cond (is_typed old.size word typed) plain None))
-    → FindsWordsBefore db column before k old → FindsWordsBefore db column plain (k + 1) new
-finds_further db column before plain k word old new size at added finds = λ typed.
-    let rest = which_from db column typed plain (k + 1) in
+    → ((typed : List ℕ) → which_from db column typed before k ≡ cond (is_typed db.header.length word typed && is_some base) base (which_from db column typed base (k + 1)))
+    → ((typed : List ℕ) → found_in new typed ≡ option_or (found_in old typed) (cond (is_typed old.size word typed) base None))
+    → FindsWordsBefore db column before k old → FindsWordsBefore db column base (k + 1) new
+finds_further db column before base k word old new size at added finds = λ typed.
+    let rest = which_from db column typed base (k + 1) in
     ap (λ o. option_or o rest) (added typed)
-    ∙ ap (λ n. option_or (option_or (found_in old typed) (cond (is_typed n word typed) plain None)) rest) size
-    ∙ found_or (found_in old typed) plain rest (is_typed db.header.length word typed)
+    ∙ ap (λ n. option_or (option_or (found_in old typed) (cond (is_typed n word typed) base None)) rest) size
+    ∙ found_or (found_in old typed) base rest (is_typed db.header.length word typed)
     ∙ ap (option_or (found_in old typed)) (sym (at typed))
     ∙ finds typed
 
@@ -70,10 +70,10 @@ or_none : (found : Option ℕ) → found ≡ option_or found None
 or_none None = refl
 or_none (Some n) = refl
 
--- behind the last entry it has all words
-pub finds_all : (db : Database) (column : Column) (plain : Option ℕ) (k : ℕ) (index : WordIndex) → length db.words ≤ k → FindsWordsBefore db column plain k index → FindsWords db column index
-finds_all db column plain k index past finds = λ word.
+-- after the last entry it has all words
+pub finds_all : (db : Database) (column : Column) (base : Option ℕ) (k : ℕ) (index : WordIndex) → length db.words ≤ k → FindsWordsBefore db column base k index → FindsWords db column index
+finds_all db column base k index past finds = λ word.
     or_none (found_in index word)
-    ∙ ap (λ entries. option_or (found_in index word) (entry_from db.header.length word plain k entries))
+    ∙ ap (λ entries. option_or (found_in index word) (entry_from db.header.length word base k entries))
     (sym (drop_all k (entries_of db column) (rw (length-map db.words (column_of column)) past)))
     ∙ finds word

@@ -1,9 +1,8 @@
-pub mod Seen
 pub mod Heads
 pub mod WordIndex
 pub mod Turns
-pub mod Meetings
+pub mod ItemTurns
 pub mod Ways
 pub mod Rounds
-pub mod Handed
+pub mod Fed
 pub mod Played

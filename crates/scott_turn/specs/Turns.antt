@@ -1,4 +1,4 @@
--- One turn of the walks over groups, and what it is to go on behind it.
+-- One turn of the walks over groups, and what it is to go on after it.
 use Rattle.std.specs.Prelude.{ℕ, nat_le, Bool, true, false, List, [], ◌∷◌, Option, Some, None}
 use Rattle.scott_types.specs.declared.states.State.{State}
 use Rattle.scott_types.specs.declared.endings.Ran.{Ran}
@@ -9,7 +9,7 @@ use Rattle.scott_types.specs.declared.endings.Found.{Found}
 use Rattle.scott_types.specs.declared.endings.Found.TheVariants.{Over, Done, Matched, NoMatch}
 use Rattle.scott_types.specs.Database.{Database}
 use Rattle.scott_types.specs.Action.{noun_of}
-use Rattle.scott_rules.specs.Told.{Told, Step, Drew, telling, after}
+use Rattle.adv_io.specs.Steps.{Drew, Step, Traced, after, traced}
 use Rattle.scott_rules.specs.Groups.{Group, AutoOutcome, over_of, group_tried}
 use Rattle.scott_rules.specs.Search.{SearchOutcome, matched}
 
@@ -20,18 +20,18 @@ halt_of None = Through
 halt_of (Some ending) = AtEnd ending
 
 -- a group that was tried, or not
-abbrev pub entered : Bool → Database → Group → State → List ℕ → Told Step AutoOutcome
+abbrev pub entered : Bool → Database → Group → State → List ℕ → Traced Step AutoOutcome
 entered true db g s draws =
-    let t = group_tried db [] g s in telling t.events (record { state = t.value.state; draws = draws; halt = halt_of (over_of t.value.ran) })
-entered false db g s draws = telling [] (record { state = s; draws = draws; halt = Through })
+    let t = group_tried db [] g s in traced t.events (record { state = t.value.state; draws = draws; halt = halt_of (over_of t.value.ran) })
+entered false db g s draws = traced [] (record { state = s; draws = draws; halt = Through })
 
 -- one automatic group takes its draw, and is tried where that lets it in; `Through` where the step goes on
-abbrev pub auto_turn : Database → Group → State → List ℕ → Told Step AutoOutcome
-auto_turn db g s [] = telling [] (record { state = s; draws = []; halt = Waits g.head })
+abbrev pub auto_turn : Database → Group → State → List ℕ → Traced Step AutoOutcome
+auto_turn db g s [] = traced [] (record { state = s; draws = []; halt = Waits g.head })
 auto_turn db g s (draw ∷ draws) = after (Drew draw ∷ []) (entered (nat_le draw (noun_of g.vocab)) db g s draws)
 
--- what comes behind it
-abbrev pub by_halt : Halt → Told Step AutoOutcome → (State → List ℕ → Told Step AutoOutcome) → Told Step AutoOutcome
+-- what comes after it
+abbrev pub by_halt : Halt → Traced Step AutoOutcome → (State → List ℕ → Traced Step AutoOutcome) → Traced Step AutoOutcome
 by_halt Through t next = after t.events (next t.value.state t.value.draws)
 by_halt (Waits head) t next = t
 by_halt (AtEnd ending) t next = t
@@ -49,13 +49,13 @@ found_of (Passed more) = Done
 found_of (Ended ending) = Over ending
 
 -- one group of the search: `NoMatch` where it isn't for the command, `Matched` where its head didn't pass
-abbrev pub search_turn : Bool → Database → List ℕ → Group → State → Told Step SearchOutcome
+abbrev pub search_turn : Bool → Database → List ℕ → Group → State → Traced Step SearchOutcome
 search_turn true db typed g s =
-    let t = group_tried db typed g s in telling t.events (record { state = t.value.state; found = found_of t.value.ran })
-search_turn false db typed g s = telling [] (record { state = s; found = NoMatch })
+    let t = group_tried db typed g s in traced t.events (record { state = t.value.state; found = found_of t.value.ran })
+search_turn false db typed g s = traced [] (record { state = s; found = NoMatch })
 
--- what comes behind it
-abbrev pub by_turn : Found → Told Step SearchOutcome → (State → Told Step SearchOutcome) → Told Step SearchOutcome
+-- what comes after it
+abbrev pub by_turn : Found → Traced Step SearchOutcome → (State → Traced Step SearchOutcome) → Traced Step SearchOutcome
 by_turn NoMatch t next = after t.events (next t.value.state)
 by_turn Matched t next = after t.events (matched (next t.value.state))
 by_turn Done t next = t
@@ -66,8 +66,8 @@ abbrev pub at_least : Found → Found → Found
 at_least NoMatch before = before
 at_least found before = found
 
--- what a search comes to where its groups so far came to this
-abbrev pub with_before : Found → Told Step SearchOutcome → Told Step SearchOutcome
+-- what a search gives where its groups so far gave this
+abbrev pub with_before : Found → Traced Step SearchOutcome → Traced Step SearchOutcome
 with_before NoMatch t = t
 with_before before t = matched t
 

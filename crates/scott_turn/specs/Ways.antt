@@ -1,4 +1,4 @@
--- What comes of a way: the texts and the ending of a walk, by whether it is dark and the room behind the exit.
+-- What comes of a way: the texts and the ending of a walk, by whether it is dark and the room beyond the exit.
 use Rattle.std.specs.Prelude.{ℕ, ◌==◌, ◌&&◌, Bool, List, Option, Some, None, if◌then◌else◌}
 use Rattle.scott_types.specs.declared.phrases.Phrase.TheVariants.{Moved, BrokenNeck, NoExitThere}
 use Rattle.scott_types.specs.Phrase.{text_of}

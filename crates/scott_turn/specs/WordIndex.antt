@@ -1,4 +1,4 @@
--- An index of the words of a column: the plain entry that each names, by its letters.
+-- An index of the words of a column: the base entry that each names, by its letters.
 use Rattle.std.specs.Prelude.{◌≡◌, ℕ, List, Option, nat_eq}
 use Rattle.std.specs.Cmp.Lexicographic.{pointwise}
 use Rattle.std.specs.Map.{lookup}
@@ -11,7 +11,7 @@ use Rattle.scott_rules.specs.Words.{which}
 use Rattle.scott_vocab.specs.Found.{which_from}
 use Rattle.scott_vocab.specs.Keys.{letters}
 
--- how many bytes of a word count, and for the letters of each word its plain entry
+-- how many bytes of a word count, and for the letters of each word its base entry
 pub record WordIndex : Type 0 where
   pub size : ℕ
   pub entries : List (ArrayVec ℕ × ℕ)
@@ -20,15 +20,15 @@ pub record WordIndex : Type 0 where
 abbrev pub found_in : WordIndex → List ℕ → Option ℕ
 found_in index word = lookup (λ key. pointwise nat_eq (letters index.size word) key.items) index.entries
 
--- for every word an index has the plain entry that it names
+-- for every word an index has the base entry that it names
 abbrev pub FindsWords : Database → Column → WordIndex → Type 0
 FindsWords db column index = (word : List ℕ) → found_in index word ≡ which db column word
 
--- for every word an index has the plain entry that it names, or the word names it from entry k on, where `plain` is the
--- nearest plain entry before that one
+-- for every word an index has the base entry that it names, or the word names it from entry k on, where `plain` is the
+-- nearest base entry before that one
 abbrev pub FindsWordsBefore : Database → Column → Option ℕ → ℕ → WordIndex → Type 0
-FindsWordsBefore db column plain k index = (word : List ℕ)
-    → option_or (found_in index word) (which_from db column word plain k) ≡ which db column word
+FindsWordsBefore db column base k index = (word : List ℕ)
+    → option_or (found_in index word) (which_from db column word base k) ≡ which db column word
 
 -- the indexes of both columns
 pub record FindsAllWords (db : Database) (verbs nouns : WordIndex) : Type 0 where

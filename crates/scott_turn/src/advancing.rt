@@ -1,18 +1,17 @@
-//! What comes up to the prompt.
+//! What is done up to the prompt.
 ghost use Rattle.std.specs.Prelude.{◌≡◌, ◌+◌, ◌++◌, IfOk, OnOk, [], length};
 ghost use Rattle.adv_io.specs.Console.{Speaks};
 ghost use Rattle.scott_types.specs.State.{Fits};
-ghost use Rattle.scott_rules.specs.Told.{says};
+ghost use Rattle.adv_io.specs.Steps.{said_steps, shown_of};
 ghost use Rattle.scott_rules.specs.Groups.{groups, groups_from, automatic};
 ghost use Rattle.scott_rules.specs.Rounds.{look_due, unmarked, prompted, to_prompt, advance};
 ghost use Rattle.scott_types.specs.declared.phrases.Phrase.TheVariants.{Prompt};
 ghost use Rattle.scott_types.specs.declared.endings.Position.TheVariants.{Fresh};
 ghost use Rattle.scott_types.specs.Phrase.{text_of};
-ghost use Rattle.scott_turn.specs.Seen.{seen};
 
 use crate::automatic::automatic;
 use crate::games::Game;
-use crate::saying::say_any;
+use crate::saying::say_text;
 use adv_draws::Draws;
 use adv_io::{Console, ConsoleFault};
 use scott_light::look;
@@ -29,32 +28,32 @@ fn unmark(state: &mut State) -> bool
 }
 
 // A look where one is due.
-#[tactic(auto, using(crate::proofs::Seeing::seen_says))]
+#[tactic(auto, using(crate::proofs::Showing::shown_said))]
 fn look_if_due<C: Console>(db: &Db, state: &mut State, console: &mut C) -> Result<(), ConsoleFault>
     requires { Fits db.now state.old }
-    ensures spoken { Speaks C.history C.left C.bound C.faults console.old console.new result
-        (seen (says (look_due db.now state.old))) }
+    ensures spoken { Speaks (C.seen console.old) (C.seen console.new) result
+        (shown_of (said_steps (look_due db.now state.old))) }
     ensures state { state.new ≡ unmarked state.old }
     ensures fits { Fits db.now state.new }
 {
     if unmark(state) {
         look(db, state, console)
     } else {
-        say_any(&[], console)
+        say_text(&[], console)
     }
 }
 
 // A look where one is due, and the prompt.
 fn prompt<C: Console>(db: &Db, state: &mut State, console: &mut C) -> Result<Position, ConsoleFault>
     requires { Fits db.now state.old }
-    ensures spoken { Speaks C.history C.left C.bound C.faults console.old console.new result
-        (seen (says (look_due db.now state.old ++ text_of Prompt))) }
+    ensures spoken { Speaks (C.seen console.old) (C.seen console.new) result
+        (shown_of (said_steps (look_due db.now state.old ++ text_of Prompt))) }
     ensures state { state.new ≡ unmarked state.old }
     ensures position { IfOk result (λ position. position ≡ Position.Line) }
     ensures fits { Fits db.now state.new }
 {
     look_if_due(db, state, console)?;
-    say_any(Phrase::Prompt.text(), console)?;
+    say_text(Phrase::Prompt.text(), console)?;
     Ok(Position::Line)
 }
 
@@ -66,8 +65,8 @@ fn go_to_prompt<C: Console>(
     console: &mut C,
 ) -> Result<Position, ConsoleFault>
     requires { Fits db.now state.old }
-    ensures spoken { Speaks C.history C.left C.bound C.faults console.old console.new result
-        (seen (prompted halt db.now state.old []).events) }
+    ensures spoken { Speaks (C.seen console.old) (C.seen console.new) result
+        (shown_of (prompted halt db.now state.old []).events) }
     ensures left { IfOk result (λ position. (prompted halt db.now state.old []).value
         ≡ record { position = position; state = state.new; draws = [] }) }
     ensures fits { Fits db.now state.new }
@@ -88,10 +87,12 @@ fn advance_from<C: Console>(
     console: &mut C,
 ) -> Result<Position, ConsoleFault>
     requires { Fits game.now state.old }
-    ensures spoken { Speaks C.history C.left C.bound C.faults console.old console.new result
-        (seen (to_prompt game.now (automatic game.now (groups_from game.now from) state.old draws.old.left)).events) }
+    ensures spoken { Speaks (C.seen console.old) (C.seen console.new) result
+        (shown_of (to_prompt game.now
+        (automatic game.now (groups_from game.now from) state.old draws.old.left)).events) }
     ensures left { IfOk result
-        (λ position. (to_prompt game.now (automatic game.now (groups_from game.now from) state.old draws.old.left)).value
+        (λ position. (to_prompt game.now
+        (automatic game.now (groups_from game.now from) state.old draws.old.left)).value
         ≡ record { position = position; state = state.new; draws = draws.new.left }) }
     ensures taken { draws.new.taken + length draws.new.left ≡ draws.old.taken + length draws.old.left }
     ensures fits { Fits game.now state.new }
@@ -108,9 +109,10 @@ fn begin<C: Console>(
     console: &mut C,
 ) -> Result<Position, ConsoleFault>
     requires { Fits game.now state.old }
-    ensures spoken { Speaks C.history C.left C.bound C.faults console.old console.new result
-        (seen (advance game.now Position.Fresh state.old draws.old.left).events) }
-    ensures left { IfOk result (λ position. (advance game.now Position.Fresh state.old draws.old.left).value
+    ensures spoken { Speaks (C.seen console.old) (C.seen console.new) result
+        (shown_of (advance game.now Position.Fresh state.old draws.old.left).events) }
+    ensures left { IfOk result (λ position.
+        (advance game.now Position.Fresh state.old draws.old.left).value
         ≡ record { position = position; state = state.new; draws = draws.new.left }) }
     ensures taken { draws.new.taken + length draws.new.left ≡ draws.old.taken + length draws.old.left }
     ensures fits { Fits game.now state.new }
@@ -131,9 +133,10 @@ pub fn advance<C: Console>(
     console: &mut C,
 ) -> Result<Position, ConsoleFault>
     requires { Fits game.now state.old }
-    ensures spoken { Speaks C.history C.left C.bound C.faults console.old console.new result
-        (seen (advance game.now position state.old draws.old.left).events) }
-    ensures left { IfOk result (λ reached. (advance game.now position state.old draws.old.left).value
+    ensures spoken { Speaks (C.seen console.old) (C.seen console.new) result
+        (shown_of (advance game.now position state.old draws.old.left).events) }
+    ensures left { IfOk result (λ reached.
+        (advance game.now position state.old draws.old.left).value
         ≡ record { position = reached; state = state.new; draws = draws.new.left }) }
     ensures taken { draws.new.taken + length draws.new.left ≡ draws.old.taken + length draws.old.left }
     ensures fits { Fits game.now state.new }

@@ -6,20 +6,20 @@ ghost use Rattle.scott_types.specs.declared.phrases.Phrase.TheVariants.{Prompt};
 ghost use Rattle.scott_types.specs.Phrase.{text_of};
 ghost use Rattle.scott_types.specs.State.{Fits};
 ghost use Rattle.scott_rules.specs.Commands.{heard};
-ghost use Rattle.scott_rules.specs.Rounds.{turn_ended, command_done, obeyed, asked_again, unknown_word, by_heard};
+ghost use Rattle.scott_rules.specs.Rounds.{turn_ended, command_done, command_result, asked_again, unknown_word, by_heard};
 ghost use Rattle.scott_vocab.specs.Heard.{IsEntry};
-ghost use Rattle.scott_turn.specs.Seen.{seen};
+ghost use Rattle.adv_io.specs.Steps.{shown_of};
 
+use crate::commands::do_command;
 use crate::games::Game;
-use crate::obeying::obey;
 use crate::searching::Command;
-use adv_io::{Console, ConsoleFault, Line};
-use scott_light::{Page, count_light};
+use adv_io::{Console, ConsoleFault, Line, say_all};
+use scott_light::count_light;
 use scott_types::{Db, Heard, Phrase, Position, State};
 use scott_vocab::{command, typed_noun, word_at};
 
-// Behind a command the light burns, where the game goes on, and a round begins.
-#[tactic(auto, using(crate::proofs::Seeing::seen_says))]
+// After a command the light burns, where the game goes on, and a round begins.
+#[tactic(auto, using(crate::proofs::Showing::shown_said))]
 fn end_turn<C: Console>(
     db: &Db,
     state: &mut State,
@@ -27,8 +27,8 @@ fn end_turn<C: Console>(
     console: &mut C,
 ) -> Result<Position, ConsoleFault>
     requires { Fits db.now state.old }
-    ensures spoken { Speaks C.history C.left C.bound C.faults console.old console.new result
-        (seen (turn_ended over state.old).events) }
+    ensures spoken { Speaks (C.seen console.old) (C.seen console.new) result
+        (shown_of (turn_ended over state.old).events) }
     ensures left { IfOk result (λ position. (turn_ended over state.old).value
         ≡ record { position = position; state = state.new }) }
     ensures fits { Fits db.now state.new }
@@ -43,7 +43,7 @@ fn end_turn<C: Console>(
 }
 
 // Does a command, and ends the turn.
-fn take_turn<C: Console>(
+fn do_turn<C: Console>(
     game: &Game,
     state: &mut State,
     command: Command,
@@ -52,20 +52,22 @@ fn take_turn<C: Console>(
 ) -> Result<Position, ConsoleFault>
     requires fits { Fits game.now state.old }
     requires there { IsEntry game.now command.noun }
-    ensures spoken { Speaks C.history C.left C.bound C.faults console.old console.new result
-        (seen (command_done (obeyed game.now typed.now command.verb command.noun state.old)).events) }
+    ensures spoken { Speaks (C.seen console.old) (C.seen console.new) result
+        (shown_of (command_done
+        (command_result game.now typed.now command.verb command.noun state.old)).events) }
     ensures left { IfOk result
-        (λ position. (command_done (obeyed game.now typed.now command.verb command.noun state.old)).value
+        (λ position. (command_done
+        (command_result game.now typed.now command.verb command.noun state.old)).value
         ≡ record { position = position; state = state.new }) }
     ensures fits { Fits game.now state.new }
 {
-    let over = obey(game, state, command, typed, console)?;
+    let over = do_command(game, state, command, typed, console)?;
     end_turn(game.db(), state, over, console)
 }
 
-// Asks again behind a blank line.
+// Asks again after a blank line.
 fn ask_again<C: Console>(console: &mut C) -> Result<Position, ConsoleFault>
-    ensures spoken { Speaks C.history C.left C.bound C.faults console.old console.new result
+    ensures spoken { Speaks (C.seen console.old) (C.seen console.new) result
         (says (text_of Prompt)) }
     ensures position { IfOk result (λ position. position ≡ Position.Line) }
 {
@@ -74,26 +76,24 @@ fn ask_again<C: Console>(console: &mut C) -> Result<Position, ConsoleFault>
 }
 
 // Says that a word isn't known, and asks again.
-fn refuse_word<C: Console>(word: &[u8], console: &mut C) -> Result<Position, ConsoleFault>
-    ensures spoken { Speaks C.history C.left C.bound C.faults console.old console.new result
+fn refuse_word<'a, C: Console>(word: &'a [u8], console: &mut C) -> Result<Position, ConsoleFault>
+    ensures spoken { Speaks (C.seen console.old) (C.seen console.new) result
         (says (unknown_word word.now ++ text_of Prompt)) }
     ensures position { IfOk result (λ position. position ≡ Position.Line) }
 {
-    let mut page = Page::new();
-    page.add(Phrase::UnknownFront.text());
-    page.add(word);
-    page.add(Phrase::UnknownBack.text());
-    page.add(Phrase::Prompt.text());
-    page.say(console)?;
+    let opening: &'a [u8] = Phrase::UnknownOpening.text();
+    let back: &'a [u8] = Phrase::UnknownBack.text();
+    let prompt: &'a [u8] = Phrase::Prompt.text();
+    say_all(console, &[opening, word, back, prompt])?;
     Ok(Position::Line)
 }
 
-/// Answers a line that was taken at the prompt, and tells where the play stands then: at a prompt again,
+/// Answers a line that was taken at the prompt, and gives where the play stands then: at a prompt again,
 /// where a round begins, or at the game's end.
 ///
 /// The console's fault alone is a refusal; the state fits then too. docs/TURN.md, "The round", has the
 /// rule.
-#[tactic(auto, using(crate::proofs::Seeing::seen_says))]
+#[tactic(auto, using(crate::proofs::Showing::shown_said))]
 pub fn answer<C: Console>(
     game: &Game,
     state: &mut State,
@@ -101,8 +101,8 @@ pub fn answer<C: Console>(
     console: &mut C,
 ) -> Result<Position, ConsoleFault>
     requires { Fits game.now state.old }
-    ensures spoken { Speaks C.history C.left C.bound C.faults console.old console.new result
-        (seen (by_heard (heard game.now line.now) game.now line.now state.old).events) }
+    ensures spoken { Speaks (C.seen console.old) (C.seen console.new) result
+        (shown_of (by_heard (heard game.now line.now) game.now line.now state.old).events) }
     ensures left { IfOk result
         (λ position. (by_heard (heard game.now line.now) game.now line.now state.old).value
         ≡ record { position = position; state = state.new }) }
@@ -112,7 +112,7 @@ pub fn answer<C: Console>(
         Heard::Blank => ask_again(console),
         Heard::Unknown(start, length) => refuse_word(word_at(line, start, length), console),
         Heard::Command(verb, noun) => {
-            take_turn(
+            do_turn(
                 game,
                 state,
                 Command { verb, noun },

@@ -1,11 +1,11 @@
 //! The automatic step: the groups of verb 0, each where a draw lets it in.
 ghost use Rattle.std.specs.Prelude.{◌≡◌, ◌+◌, ◌<◌, ◌==◌, nat_le, IfOk, OnOk, [], length};
+ghost use Rattle.scott_types.specs.Database.{action_at};
 ghost use Rattle.adv_io.specs.Console.{Speaks};
 ghost use Rattle.scott_types.specs.State.{Fits};
 ghost use Rattle.scott_types.specs.Action.{noun_of};
-ghost use Rattle.scott_rules.specs.Lines.{action_at};
 ghost use Rattle.scott_rules.specs.Groups.{over_of, group_tried, groups_from, automatic};
-ghost use Rattle.scott_turn.specs.Seen.{seen};
+ghost use Rattle.adv_io.specs.Steps.{shown_of};
 ghost use Rattle.scott_turn.specs.Heads.{group_at};
 ghost use Rattle.scott_turn.specs.Turns.{halt_of, entered, auto_turn, goes_through};
 
@@ -13,10 +13,8 @@ use crate::games::Game;
 use crate::trying::try_group;
 use adv_draws::Draws;
 use adv_io::{Console, ConsoleFault};
+use scott_types::verbs::AUTOMATIC;
 use scott_types::{Db, Halt, Ran, State};
-
-// The verb of the automatic groups.
-const AUTOMATIC: u16 = 0;
 
 // How far the step came with a group that was tried.
 fn halt_of(ran: Ran) -> Halt
@@ -37,7 +35,7 @@ fn lets_in(db: &Db, head: u16, draw: u8) -> bool
     u32::from(draw) <= action.vocab % 150
 }
 
-// Tries the group of a head where its draw lets it in, and tells how far the step came.
+// Tries the group of a head where its draw lets it in, and answers how far the step came.
 fn enter<C: Console>(
     db: &Db,
     state: &mut State,
@@ -48,12 +46,14 @@ fn enter<C: Console>(
     requires fits { Fits db.now state.old }
     requires there { head < length db.now.actions }
     ensures spoken { let b = nat_le draw (noun_of (action_at db.now head).vocab) in
-        Speaks C.history C.left C.bound C.faults console.old console.new result
-        (seen (entered b db.now (group_at db.now head) state.old []).events) }
+        Speaks (C.seen console.old) (C.seen console.new) result
+        (shown_of (entered b db.now (group_at db.now head) state.old []).events) }
     ensures state { let b = nat_le draw (noun_of (action_at db.now head).vocab) in
-        OnOk result (state.new ≡ (entered b db.now (group_at db.now head) state.old []).value.state) }
+        OnOk result (state.new
+        ≡ (entered b db.now (group_at db.now head) state.old []).value.state) }
     ensures halt { let b = nat_le draw (noun_of (action_at db.now head).vocab) in
-        IfOk result (λ halt. halt ≡ (entered b db.now (group_at db.now head) state.old []).value.halt) }
+        IfOk result (λ halt.
+        halt ≡ (entered b db.now (group_at db.now head) state.old []).value.halt) }
     ensures fits { Fits db.now state.new }
 {
     if lets_in(db, head, draw) {
@@ -65,7 +65,7 @@ fn enter<C: Console>(
 }
 
 // Takes the draw of a head's group, and tries the group where that lets it in.
-fn take_turn<C: Console>(
+fn auto_turn<C: Console>(
     game: &Game,
     state: &mut State,
     head: u16,
@@ -74,13 +74,16 @@ fn take_turn<C: Console>(
 ) -> Result<Halt, ConsoleFault>
     requires fits { Fits game.now state.old }
     requires there { head < length game.now.actions }
-    ensures spoken { Speaks C.history C.left C.bound C.faults console.old console.new result
-        (seen (auto_turn game.now (group_at game.now head) state.old draws.old.left).events) }
+    ensures spoken { Speaks (C.seen console.old) (C.seen console.new) result
+        (shown_of (auto_turn game.now (group_at game.now head) state.old draws.old.left).events) }
     ensures state { OnOk result
-        (state.new ≡ (auto_turn game.now (group_at game.now head) state.old draws.old.left).value.state) }
+        (state.new ≡ (auto_turn game.now
+        (group_at game.now head) state.old draws.old.left).value.state) }
     ensures halt { IfOk result
-        (λ halt. halt ≡ (auto_turn game.now (group_at game.now head) state.old draws.old.left).value.halt) }
-    ensures draws { draws.new.left ≡ (auto_turn game.now (group_at game.now head) state.old draws.old.left).value.draws }
+        (λ halt. halt ≡ (auto_turn game.now
+        (group_at game.now head) state.old draws.old.left).value.halt) }
+    ensures draws { draws.new.left
+        ≡ (auto_turn game.now (group_at game.now head) state.old draws.old.left).value.draws }
     ensures taken { draws.new.taken + length draws.new.left ≡ draws.old.taken + length draws.old.left }
     ensures fits { Fits game.now state.new }
 {
@@ -90,7 +93,7 @@ fn take_turn<C: Console>(
     }
 }
 
-// Whether the step goes on behind a group.
+// Whether the step goes on after a group.
 fn goes_on(halt: Halt) -> bool
     ensures { result ≡ goes_through halt }
 {
@@ -100,7 +103,7 @@ fn goes_on(halt: Halt) -> bool
     }
 }
 
-/// The automatic step from a line on: each group of verb 0 whose head stands there or behind takes a
+/// The automatic step from a line on: each group of verb 0 whose head stands there or after takes a
 /// draw, and is tried where that is at most its noun. It stops at a group that waits for its draw, and
 /// where the game ends.
 ///
@@ -113,20 +116,22 @@ pub fn automatic<C: Console>(
     console: &mut C,
 ) -> Result<Halt, ConsoleFault>
     requires { Fits game.now state.old }
-    ensures spoken { Speaks C.history C.left C.bound C.faults console.old console.new result
-        (seen (automatic game.now (groups_from game.now from) state.old draws.old.left).events) }
-    ensures left { IfOk result (λ halt. (automatic game.now (groups_from game.now from) state.old draws.old.left).value
+    ensures spoken { Speaks (C.seen console.old) (C.seen console.new) result
+        (shown_of (automatic game.now
+        (groups_from game.now from) state.old draws.old.left).events) }
+    ensures left { IfOk result
+        (λ halt. (automatic game.now (groups_from game.now from) state.old draws.old.left).value
         ≡ record { state = state.new; draws = draws.new.left; halt = halt }) }
     ensures taken { draws.new.taken + length draws.new.left ≡ draws.old.taken + length draws.old.left }
     ensures fits { Fits game.now state.new }
 {
     let mut next = game.first_head(AUTOMATIC, from);
     while let Some(head) = next {
-        let halt = take_turn(game, state, head, draws, console)?;
+        let halt = auto_turn(game, state, head, draws, console)?;
         if !goes_on(halt) {
             return Ok(halt);
         }
-        next = game.head_behind(head);
+        next = game.head_after(head);
     }
     Ok(Halt::Through)
 }

@@ -6,8 +6,8 @@ ghost use Rattle.scott_types.specs.State.{Fits};
 ghost use Rattle.scott_rules.specs.Words.{is_empty, is_typed, root};
 ghost use Rattle.scott_rules.specs.Transfer.{is_at_hand, item_named, one_moved, one_from, one_transferred};
 ghost use Rattle.scott_vocab.specs.Heard.{IsEntry};
-ghost use Rattle.scott_turn.specs.Seen.{seen};
-ghost use Rattle.scott_turn.specs.Meetings.{IsItem};
+ghost use Rattle.adv_io.specs.Steps.{shown_of};
+ghost use Rattle.scott_turn.specs.ItemTurns.{IsItem};
 
 use crate::saying::say_only;
 use crate::transferring::{is_at_hand, is_refused, transfer_item};
@@ -19,7 +19,8 @@ use scott_vocab::{is_typed, root};
 fn is_named(state: &State, transfer: Transfer, size: usize, word: &[u8], i: u8, item: &Item) -> bool
     requires { size ≤ 20 }
     ensures { result
-        ≡ (is_at_hand transfer state.now i && (not (is_empty word.now) && is_typed size (get_word item.now.text) word.now)) }
+        ≡ (is_at_hand transfer state.now i && (not (is_empty word.now) && is_typed size
+        (get_word item.now.text) word.now)) }
 {
     is_at_hand(state, transfer, i) && !word.is_empty() && is_typed(size, get_word(&item.text), word)
 }
@@ -49,7 +50,8 @@ fn least_named(
 // The least item at hand that a noun names.
 fn item_for(db: &Db, state: &State, transfer: Transfer, noun: u16) -> Option<u8>
     requires { noun < length db.now.words }
-    ensures value { result ≡ item_named transfer db.now.header.length (root db.now noun) 0 db.now.items state.now }
+    ensures value { result ≡ item_named transfer db.now.header.length
+        (root db.now noun) 0 db.now.items state.now }
     ensures there { IsItem db.now result }
 {
     let parts = db.parts();
@@ -58,7 +60,7 @@ fn item_for(db: &Db, state: &State, transfer: Transfer, noun: u16) -> Option<u8>
 }
 
 // Gets or drops an item, or says that it can't be done where there is none.
-#[tactic(auto, using(crate::proofs::Seeing::seen_says))]
+#[tactic(auto, using(crate::proofs::Showing::shown_said))]
 fn move_one<C: Console>(
     db: &Db,
     state: &mut State,
@@ -68,8 +70,8 @@ fn move_one<C: Console>(
 ) -> Result<Option<u8>, ConsoleFault>
     requires fits { Fits db.now state.old }
     requires there { IsItem db.now item }
-    ensures spoken { Speaks C.history C.left C.bound C.faults console.old console.new result
-        (seen (one_moved transfer item state.old).events) }
+    ensures spoken { Speaks (C.seen console.old) (C.seen console.new) result
+        (shown_of (one_moved transfer item state.old).events) }
     ensures left { IfOk result (λ over. (one_moved transfer item state.old).value
         ≡ record { state = state.new; over = over }) }
     ensures fits { Fits db.now state.new }
@@ -93,9 +95,10 @@ fn move_named<C: Console>(
 ) -> Result<Option<u8>, ConsoleFault>
     requires fits { Fits db.now state.old }
     requires there { noun < length db.now.words }
-    ensures spoken { Speaks C.history C.left C.bound C.faults console.old console.new result
-        (seen (one_transferred transfer db.now (Some noun) state.old).events) }
-    ensures left { IfOk result (λ over. (one_transferred transfer db.now (Some noun) state.old).value
+    ensures spoken { Speaks (C.seen console.old) (C.seen console.new) result
+        (shown_of (one_transferred transfer db.now (Some noun) state.old).events) }
+    ensures left { IfOk result
+        (λ over. (one_transferred transfer db.now (Some noun) state.old).value
         ≡ record { state = state.new; over = over }) }
     ensures fits { Fits db.now state.new }
 {
@@ -120,8 +123,8 @@ pub fn transfer_one<C: Console>(
 ) -> Result<Option<u8>, ConsoleFault>
     requires fits { Fits db.now state.old }
     requires there { IsEntry db.now noun }
-    ensures spoken { Speaks C.history C.left C.bound C.faults console.old console.new result
-        (seen (one_transferred transfer db.now noun state.old).events) }
+    ensures spoken { Speaks (C.seen console.old) (C.seen console.new) result
+        (shown_of (one_transferred transfer db.now noun state.old).events) }
     ensures left { IfOk result (λ over. (one_transferred transfer db.now noun state.old).value
         ≡ record { state = state.new; over = over }) }
     ensures fits { Fits db.now state.new }

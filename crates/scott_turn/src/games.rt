@@ -1,10 +1,10 @@
-//! A game with an index of its heads and one of its words: the first head of each verb, behind each head the next
-//! one of its verb, and the plain entry that each word names.
+//! A game with an index of its heads and one of its words: the first head of each verb, after each head the next
+//! one of its verb, and the base entry that each word names.
 ghost use Rattle.std.specs.Prelude.{◌≡◌, ◌≢◌, ◌+◌, ◌<◌, [], length, IfOk, OnOk, MatchOption, nat_eq};
+ghost use Rattle.scott_types.specs.Database.{action_at};
 ghost use Rattle.indexmap.specs.IndexMap.{get};
 ghost use Rattle.scott_types.specs.Action.{verb_of};
-ghost use Rattle.scott_rules.specs.Lines.{action_at};
-ghost use Rattle.scott_turn.specs.Heads.{groups_for, ComesNext, HasFirsts, IsBehind, IsIndex};
+ghost use Rattle.scott_turn.specs.Heads.{groups_for, ComesNext, HasFirsts, IsAfter, IsIndex};
 
 use crate::heads::next_head;
 use crate::words::WordIndex;
@@ -23,7 +23,7 @@ pub struct Game<'a> {
     db: &'a Db,
     // For each verb of a head its first head.
     firsts: IndexMap<u32, u16>,
-    // For each line that is a head the next head of its verb behind it.
+    // For each line that is a head the next head of its verb after it.
     nexts: Vec<Option<u16>>,
     verbs: WordIndex,
     nouns: WordIndex,
@@ -44,12 +44,17 @@ impl<'a> Model for Game<'a> {
         × FindsAllWords g.db.now g.verbs g.nouns };
 }
 
-// Puts a line in front of those whose first heads are known, and tells the head behind it of its verb.
-fn put_in_front(firsts: &mut IndexMap<u32, u16>, db: &Db, line: u16) -> Result<Option<u16>, Memory>
+// Puts a line before those whose first heads are known, and answers the head after it of its verb.
+fn put_first(
+    _alloc: Global,
+    firsts: &mut IndexMap<u32, u16>,
+    db: &Db,
+    line: u16,
+) -> Result<Option<u16>, Memory>
     requires there { line < length db.now.actions }
-    requires behind { HasFirsts db.now (line + 1) (get nat_eq firsts.old) }
+    requires rest { HasFirsts db.now (line + 1) (get nat_eq firsts.old) }
     ensures firsts { OnOk result (HasFirsts db.now line (get nat_eq firsts.new)) }
-    ensures next { IfOk result (λ next. IsBehind db.now line next) }
+    ensures next { IfOk result (λ next. IsAfter db.now line next) }
 {
     let action = &db.actions()[line as usize];
     if action.vocab == 0 {
@@ -68,7 +73,7 @@ fn index_heads(alloc: Global, db: &Db) -> Result<(IndexMap<u32, u16>, Vec<Option
     let mut firsts = IndexMap::new(alloc);
     let mut nexts: Vec<Option<u16>> = vec![in alloc; None; lines]?;
     for line in (0..lines).rev() {
-        nexts[line] = put_in_front(&mut firsts, db, line as u16)?;
+        nexts[line] = put_first(alloc, &mut firsts, db, line as u16)?;
     }
     Ok((firsts, nexts))
 }
@@ -97,7 +102,7 @@ impl<'a> Game<'a> {
         self.db
     }
 
-    /// The first head of a verb, at a line or behind it.
+    /// The first head of a verb, at a line or after it.
     ///
     /// From line 0 on the index has it. From any other the lines are walked: that comes only where a play
     /// goes on that waited for a draw.
@@ -112,13 +117,14 @@ impl<'a> Game<'a> {
         }
     }
 
-    /// The next head of a head's verb, behind it.
-    pub fn head_behind(&self, head: u16) -> Option<u16>
+    /// The next head of a head's verb, after it.
+    pub fn head_after(&self, head: u16) -> Option<u16>
         requires there { head < length self.now.actions }
         requires head { (action_at self.now head).vocab ≢ 0 }
         ensures { let verb = verb_of (action_at self.now head).vocab in
             MatchOption result
-            (groups_for self.now verb (head + 1) ≡ []) (λ next. ComesNext self.now verb (head + 1) next) }
+            (groups_for self.now verb (head + 1) ≡ [])
+            (λ next. ComesNext self.now verb (head + 1) next) }
     {
         self.nexts[head as usize]
     }

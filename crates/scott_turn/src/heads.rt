@@ -11,9 +11,10 @@ fn is_head_of(action: &Action, verb: u16) -> bool
     action.vocab != 0 && action.vocab / 150 == u32::from(verb)
 }
 
-// The next head of a verb, at a line or behind it.
+// The next head of a verb, at a line or after it.
 pub fn next_head(db: &Db, verb: u16, from: u16) -> Option<u16>
-    ensures { MatchOption result (groups_for db.now verb from ≡ []) (λ head. ComesNext db.now verb from head) }
+    ensures { MatchOption result (groups_for db.now verb from ≡ [])
+        (λ head. ComesNext db.now verb from head) }
 {
     let actions = db.actions();
     for line in from as usize..actions.len() {

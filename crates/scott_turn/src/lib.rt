@@ -10,21 +10,22 @@ mod trying;
 mod words;
 
 // What commands do by themselves: get, drop and go.
+mod all_items;
 mod choosing;
-mod meetings;
+mod item_turns;
 mod saying;
-mod sweeping;
 mod transferring;
 mod walking;
 
-// A command, the answer to a line, and what comes up to the prompt.
+// A command, the answer to a line, and what is done up to the prompt.
 mod advancing;
 mod answering;
-mod obeying;
+mod commands;
 
 // Rounds, and the session.
-mod hearing;
+mod feeding;
 mod rounds;
 mod sessions;
 
+pub use scott_types::{Ending, Position};
 pub use sessions::Session;

@@ -1,4 +1,4 @@
-//! Rounds, one behind another, until a line or a draw is wanted or the game is over.
+//! Rounds, one after another, until a line or a draw is wanted or the game is over.
 ghost use Rattle.std.specs.Prelude.{◌≡◌, ◌+◌, ◌<◌, ◌≤◌, false, length, IfOk, IfSome, OnOk};
 ghost use Rattle.adv_io.specs.Faults.{HasCause};
 ghost use Rattle.scott_types.specs.State.{Fits};
@@ -21,7 +21,7 @@ pub struct Round {
     pub stopped: bool,
 }
 
-// Whether a play stands behind a prompt.
+// Whether a play stands after a prompt.
 pub fn is_prompt(position: Position) -> bool
     ensures { result ≡ is_prompt position }
 {
@@ -31,7 +31,7 @@ pub fn is_prompt(position: Position) -> bool
     }
 }
 
-// Takes the next line and answers it, and tells where the play stands then; or finds that no line is left.
+// Takes the next line and answers it, and gives where the play stands then; or finds that no line is left.
 fn answer_next<C: Console>(
     game: &Game,
     state: &mut State,
@@ -39,11 +39,13 @@ fn answer_next<C: Console>(
     console: &mut C,
 ) -> Result<Option<Position>, ConsoleFault>
     requires { Fits game.now state.old }
-    ensures told { IfSome (C.left console.old) (λ lines.
-        AnswersNext C.history C.left console.old console.new game.now lines result state.old state.new) }
-    ensures falls { IfOk result (λ answered. IfSome answered (λ _. C.bound console.new < C.bound console.old)) }
-    ensures bounded { C.bound console.new ≤ C.bound console.old }
-    ensures cause { HasCause (C.faults console.old) (C.faults console.new) result }
+    ensures as_rules { IfSome (C.seen console.old).left (λ lines.
+        AnswersNext (C.seen console.old)
+        (C.seen console.new) game.now lines result state.old state.new) }
+    ensures falls { IfOk result (λ answered.
+        IfSome answered (λ _. (C.seen console.new).bound < (C.seen console.old).bound)) }
+    ensures bounded { (C.seen console.new).bound ≤ (C.seen console.old).bound }
+    ensures cause { HasCause (C.seen console.old).faults (C.seen console.new).faults result }
     ensures fits { Fits game.now state.new }
     ensures ends { IfOk result (λ answered. IfSome answered EndsWell) }
 {
@@ -69,12 +71,14 @@ fn go_round<C: Console>(
 ) -> Result<Round, ConsoleFault>
     requires fits { Fits game.now state.old }
     requires ends { EndsWell position }
-    ensures told { IfSome (C.left console.old) (λ lines.
-        GoesRound C.history C.left console.old console.new result (go game.now position state.old lines draws.old.left)
+    ensures as_rules { IfSome (C.seen console.old).left (λ lines.
+        GoesRound (C.seen console.old) (C.seen console.new) result
+        (go game.now position state.old lines draws.old.left)
         game.now state.new draws.new.left) }
-    ensures falls { IfOk result (λ round. round.stopped ≡ false → C.bound console.new < C.bound console.old) }
-    ensures bounded { C.bound console.new ≤ C.bound console.old }
-    ensures cause { HasCause (C.faults console.old) (C.faults console.new) result }
+    ensures falls { IfOk result (λ round. round.stopped ≡ false
+        → (C.seen console.new).bound < (C.seen console.old).bound) }
+    ensures bounded { (C.seen console.new).bound ≤ (C.seen console.old).bound }
+    ensures cause { HasCause (C.seen console.old).faults (C.seen console.new).faults result }
     ensures taken { draws.new.taken + length draws.new.left ≡ draws.old.taken + length draws.old.left }
     ensures fits { Fits game.now state.new }
     ensures ends { IfOk result (λ round. EndsWell round.position) }
@@ -113,11 +117,12 @@ pub fn play_on<C: Console>(
 ) -> Result<Position, ConsoleFault>
     requires fits { Fits game.now state.old }
     requires ends { EndsWell position }
-    ensures told { IfSome (C.left console.old) (λ lines.
-        PlaysOut C.history C.left console.old console.new result (go game.now position state.old lines draws.old.left)
+    ensures as_rules { IfSome (C.seen console.old).left (λ lines.
+        PlaysOut (C.seen console.old) (C.seen console.new) result
+        (go game.now position state.old lines draws.old.left)
         state.new draws.new.left) }
-    ensures bounded { C.bound console.new ≤ C.bound console.old }
-    ensures cause { HasCause (C.faults console.old) (C.faults console.new) result }
+    ensures bounded { (C.seen console.new).bound ≤ (C.seen console.old).bound }
+    ensures cause { HasCause (C.seen console.old).faults (C.seen console.new).faults result }
     ensures taken { draws.new.taken + length draws.new.left ≡ draws.old.taken + length draws.old.left }
     ensures fits { Fits game.now state.new }
     ensures ends { IfOk result EndsWell }

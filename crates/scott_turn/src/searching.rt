@@ -1,12 +1,12 @@
 //! The search for a command's group.
 ghost use Rattle.std.specs.Prelude.{◌≡◌, ◌+◌, ◌<◌, IfOk, OnOk, length};
+ghost use Rattle.scott_types.specs.Database.{action_at};
 ghost use Rattle.adv_io.specs.Console.{Speaks};
 ghost use Rattle.scott_types.specs.State.{Fits};
 ghost use Rattle.scott_types.specs.Action.{noun_of};
-ghost use Rattle.scott_rules.specs.Lines.{action_at};
 ghost use Rattle.scott_rules.specs.Groups.{group_tried, groups};
-ghost use Rattle.scott_rules.specs.Search.{is_for_noun, searched};
-ghost use Rattle.scott_turn.specs.Seen.{seen};
+ghost use Rattle.scott_rules.specs.Search.{is_for_noun, search_result};
+ghost use Rattle.adv_io.specs.Steps.{shown_of};
 ghost use Rattle.scott_turn.specs.Heads.{group_at};
 ghost use Rattle.scott_turn.specs.Turns.{found_of, search_turn, ends_search, at_least};
 
@@ -41,7 +41,7 @@ fn is_meant(db: &Db, head: u16, noun: Option<u16>) -> bool
     is_for_noun(action.vocab % 150, noun)
 }
 
-// What a group that was tried comes to in a search.
+// What a group that was tried gives in a search.
 fn found_of(ran: Ran) -> Found
     ensures { result ≡ found_of ran }
 {
@@ -53,7 +53,7 @@ fn found_of(ran: Ran) -> Found
 }
 
 // Tries the group of a head where it is for the noun.
-fn take_turn<C: Console>(
+fn search_turn<C: Console>(
     game: &Game,
     state: &mut State,
     head: u16,
@@ -64,12 +64,14 @@ fn take_turn<C: Console>(
     requires fits { Fits game.now state.old }
     requires there { head < length game.now.actions }
     ensures spoken { let b = is_for_noun (noun_of (action_at game.now head).vocab) noun in
-        Speaks C.history C.left C.bound C.faults console.old console.new result
-        (seen (search_turn b game.now typed.now (group_at game.now head) state.old).events) }
+        Speaks (C.seen console.old) (C.seen console.new) result
+        (shown_of (search_turn b game.now typed.now (group_at game.now head) state.old).events) }
     ensures state { let b = is_for_noun (noun_of (action_at game.now head).vocab) noun in
-        OnOk result (state.new ≡ (search_turn b game.now typed.now (group_at game.now head) state.old).value.state) }
+        OnOk result (state.new
+        ≡ (search_turn b game.now typed.now (group_at game.now head) state.old).value.state) }
     ensures found { let b = is_for_noun (noun_of (action_at game.now head).vocab) noun in
-        IfOk result (λ found. found ≡ (search_turn b game.now typed.now (group_at game.now head) state.old).value.found) }
+        IfOk result (λ found.
+        found ≡ (search_turn b game.now typed.now (group_at game.now head) state.old).value.found) }
     ensures fits { Fits game.now state.new }
 {
     if is_meant(game.db(), head, noun) {
@@ -91,7 +93,7 @@ fn ends_search(found: Found) -> bool
     }
 }
 
-// What a search has found so far, behind one more group.
+// What a search has found so far, after one more group.
 fn at_least(found: Found, before: Found) -> Found
     ensures { result ≡ at_least found before }
 {
@@ -113,22 +115,24 @@ pub fn search<C: Console>(
     console: &mut C,
 ) -> Result<Found, ConsoleFault>
     requires { Fits game.now state.old }
-    ensures spoken { Speaks C.history C.left C.bound C.faults console.old console.new result
-        (seen (searched game.now typed.now command.verb command.noun (groups game.now) state.old).events) }
+    ensures spoken { Speaks (C.seen console.old) (C.seen console.new) result
+        (shown_of (search_result game.now typed.now command.verb command.noun
+        (groups game.now) state.old).events) }
     ensures left { IfOk result
-        (λ found. (searched game.now typed.now command.verb command.noun (groups game.now) state.old).value
+        (λ found. (search_result game.now typed.now command.verb command.noun
+        (groups game.now) state.old).value
         ≡ record { state = state.new; found = found }) }
     ensures fits { Fits game.now state.new }
 {
     let mut before = Found::NoMatch;
     let mut next = game.first_head(command.verb, 0);
     while let Some(head) = next {
-        let found = take_turn(game, state, head, command.noun, typed, console)?;
+        let found = search_turn(game, state, head, command.noun, typed, console)?;
         if ends_search(found) {
             return Ok(found);
         }
         before = at_least(found, before);
-        next = game.head_behind(head);
+        next = game.head_after(head);
     }
     Ok(before)
 }

@@ -2,14 +2,15 @@
 ghost use Rattle.std.specs.Prelude.{◌≡◌, ◌≤◌, ◌↔◌, true, false, IfOk, IfSome, OnOk, IsOk, IsFalse};
 ghost use Rattle.adv_io.specs.Console.{Speaks};
 ghost use Rattle.adv_io.specs.Faults.{HasCause};
-ghost use Rattle.scott_types.specs.State.{start};
+ghost use Rattle.scott_types.specs.State.{Fits, start};
+ghost use Rattle.scott_rules.specs.Laws.{EndsWell};
 ghost use Rattle.scott_types.specs.declared.endings.Position.TheVariants.{Fresh};
 ghost use Rattle.scott_rules.specs.Play.{go, ending_of};
-ghost use Rattle.scott_turn.specs.Handed.{given, said};
+ghost use Rattle.scott_turn.specs.Fed.{given, said};
 ghost use Rattle.scott_turn.specs.Played.{Leaves, Plays, GoesOn, EndingIsKnown};
 
+use crate::feeding::feed;
 use crate::games::Game;
-use crate::hearing::hear_on;
 use crate::rounds::play_on;
 use adv_draws::Draws;
 use adv_io::{Console, ConsoleFault, Line, Memory};
@@ -33,11 +34,12 @@ pub struct Session<'a> {
 impl<'a> Model for Session<'a> {
     ghost use Rattle.scott_types.specs.State.{Fits};
     ghost use Rattle.scott_rules.specs.Laws.{EndsWell};
-    ghost use Rattle.scott_turn.specs.Played.{Sitting};
+    ghost use Rattle.scott_turn.specs.Played.{SessionView};
 
-    ghost Value = { Sitting };
+    ghost Value = { SessionView };
 
-    ghost view = { λ s. record { game = s.game; position = s.position; state = s.state; broken = s.broken } };
+    ghost view = { λ s.
+        record { game = s.game; position = s.position; state = s.state; broken = s.broken } };
 
     ghost invariant = { λ s. Fits s.game s.state × EndsWell s.position };
 }
@@ -71,7 +73,7 @@ impl<'a> Session<'a> {
         })
     }
 
-    /// Plays on until a line or a draw is wanted and none is left, or the game is over, and tells which.
+    /// Plays on until a line or a draw is wanted and none is left, or the game is over, and answers which.
     ///
     /// The console's fault alone is a refusal, and breaks the session: it can't be played on. docs/TURN.md,
     /// "Play", has the rule.
@@ -81,14 +83,14 @@ impl<'a> Session<'a> {
         console: &mut C,
     ) -> Result<Ending, ConsoleFault>
         requires { self.old.broken ≡ false }
-        ensures plays { IfSome (C.left console.old) (λ lines.
-            Plays C.history C.left console.old console.new result
+        ensures plays { IfSome (C.seen console.old).left (λ lines.
+            Plays (C.seen console.old) (C.seen console.new) result
             (go self.old.game self.old.position self.old.state lines draws.old.left) self.new draws.old draws.new) }
-        ensures goes_on { IfSome (C.left console.old) (λ lines. OnOk result
+        ensures goes_on { IfSome (C.seen console.old).left (λ lines. OnOk result
             (GoesOn self.old self.new lines draws.old.left
             (go self.old.game self.old.position self.old.state lines draws.old.left))) }
-        ensures bounded { C.bound console.new ≤ C.bound console.old }
-        ensures cause { HasCause (C.faults console.old) (C.faults console.new) result }
+        ensures bounded { (C.seen console.new).bound ≤ (C.seen console.old).bound }
+        ensures cause { HasCause (C.seen console.old).faults (C.seen console.new).faults result }
         ensures game { self.new.game ≡ self.old.game }
         ensures breaks { IsOk result ↔ IsFalse self.new.broken }
         ensures three { IfOk result (λ ending. EndingIsKnown ending) }
@@ -107,8 +109,8 @@ impl<'a> Session<'a> {
         }
     }
 
-    /// Goes on as a play does whose lines are the one that is handed in, or none, and tells why it stopped.
-    /// The console only says: no line is taken from it, and one that the play doesn't come to take is dropped.
+    /// Goes on as a play does whose lines are the one that is fed, or none, and answers why it stopped.
+    /// The console only says: no line is taken from it, and one that the play doesn't take is dropped.
     ///
     /// The console's fault alone is a refusal, and breaks the session: it can't be played on. docs/TURN.md,
     /// "Play", has the rule.
@@ -119,7 +121,7 @@ impl<'a> Session<'a> {
         console: &mut C,
     ) -> Result<Ending, ConsoleFault>
         requires { self.old.broken ≡ false }
-        ensures spoken { Speaks C.history C.left C.bound C.faults console.old console.new result
+        ensures spoken { Speaks (C.seen console.old) (C.seen console.new) result
             (said (go self.old.game self.old.position self.old.state (given line.entry) draws.old.left).events) }
         ensures leaves { IfOk result (λ ending.
             Leaves (go self.old.game self.old.position self.old.state (given line.entry) draws.old.left)
@@ -130,7 +132,7 @@ impl<'a> Session<'a> {
     {
         play_spends();
         endings_are_three();
-        match hear_on(
+        match feed(
             &self.game,
             &mut self.state,
             self.position,
@@ -151,14 +153,16 @@ impl<'a> Session<'a> {
 
     /// The state of the play.
     pub fn state(&self) -> &State
-        ensures { result.now ≡ self.now.state }
+        ensures value { result.now ≡ self.now.state }
+        ensures fits { Fits self.now.game self.now.state }
     {
         &self.state
     }
 
     /// Where the play stands.
     pub fn position(&self) -> Position
-        ensures { result ≡ self.now.position }
+        ensures value { result ≡ self.now.position }
+        ensures three { EndsWell self.now.position }
     {
         self.position
     }

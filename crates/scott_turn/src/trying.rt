@@ -2,9 +2,9 @@
 ghost use Rattle.std.specs.Prelude.{◌≡◌, ◌+◌, ◌<◌, IfOk, OnOk, length};
 ghost use Rattle.adv_io.specs.Console.{Speaks};
 ghost use Rattle.scott_types.specs.State.{Fits};
-ghost use Rattle.scott_rules.specs.Lines.{line_tried};
-ghost use Rattle.scott_rules.specs.Groups.{over_of, tail_line, tail_tried, passed_or_over, group_tried};
-ghost use Rattle.scott_turn.specs.Seen.{seen};
+ghost use Rattle.scott_rules.specs.Actions.{try_action};
+ghost use Rattle.scott_rules.specs.Groups.{over_of, tail_action, tail_tried, passed_or_over, group_tried};
+ghost use Rattle.adv_io.specs.Steps.{shown_of};
 ghost use Rattle.scott_turn.specs.Heads.{tail_from, group_at};
 
 use crate::heads::tail_goes_on;
@@ -13,8 +13,8 @@ use scott_actions::perform;
 use scott_types::{Db, Ran, State};
 
 // Tries an action line.
-#[tactic(auto, using(crate::proofs::Seeing::seen_line))]
-fn try_line<C: Console>(
+#[tactic(auto, using(crate::proofs::Showing::shown_action))]
+fn try_action<C: Console>(
     db: &Db,
     state: &mut State,
     line: u16,
@@ -23,10 +23,11 @@ fn try_line<C: Console>(
 ) -> Result<Ran, ConsoleFault>
     requires fits { Fits db.now state.old }
     requires there { line < length db.now.actions }
-    ensures spoken { Speaks C.history C.left C.bound C.faults console.old console.new result
-        (seen (line_tried db.now noun.now line state.old).events) }
-    ensures state { OnOk result (state.new ≡ (line_tried db.now noun.now line state.old).value.state) }
-    ensures ran { IfOk result (λ ran. ran ≡ (line_tried db.now noun.now line state.old).value.ran) }
+    ensures spoken { Speaks (C.seen console.old) (C.seen console.new) result
+        (shown_of (try_action db.now noun.now line state.old).events) }
+    ensures state { OnOk result (state.new
+        ≡ (try_action db.now noun.now line state.old).value.state) }
+    ensures ran { IfOk result (λ ran. ran ≡ (try_action db.now noun.now line state.old).value.ran) }
     ensures fits { Fits db.now state.new }
 {
     perform(db, state, line, noun, console)
@@ -42,8 +43,8 @@ fn over_of(ran: Ran) -> Option<u8>
     }
 }
 
-// Tries a line of a tail, and tells whether it ended the game.
-fn try_tail_line<C: Console>(
+// Tries a line of a tail, and answers whether it ended the game.
+fn try_tail_action<C: Console>(
     db: &Db,
     state: &mut State,
     line: u16,
@@ -52,13 +53,15 @@ fn try_tail_line<C: Console>(
 ) -> Result<Option<u8>, ConsoleFault>
     requires fits { Fits db.now state.old }
     requires there { line < length db.now.actions }
-    ensures spoken { Speaks C.history C.left C.bound C.faults console.old console.new result
-        (seen (tail_line db.now noun.now line state.old).events) }
-    ensures state { OnOk result (state.new ≡ (tail_line db.now noun.now line state.old).value.state) }
-    ensures over { IfOk result (λ over. over ≡ (tail_line db.now noun.now line state.old).value.over) }
+    ensures spoken { Speaks (C.seen console.old) (C.seen console.new) result
+        (shown_of (tail_action db.now noun.now line state.old).events) }
+    ensures state { OnOk result (state.new
+        ≡ (tail_action db.now noun.now line state.old).value.state) }
+    ensures over { IfOk result
+        (λ over. over ≡ (tail_action db.now noun.now line state.old).value.over) }
     ensures fits { Fits db.now state.new }
 {
-    let ran = try_line(db, state, line, noun, console)?;
+    let ran = try_action(db, state, line, noun, console)?;
     Ok(over_of(ran))
 }
 
@@ -71,8 +74,8 @@ fn try_tail<C: Console>(
     console: &mut C,
 ) -> Result<Option<u8>, ConsoleFault>
     requires { Fits db.now state.old }
-    ensures spoken { Speaks C.history C.left C.bound C.faults console.old console.new result
-        (seen (tail_tried db.now noun.now (tail_from db.now from) state.old).events) }
+    ensures spoken { Speaks (C.seen console.old) (C.seen console.new) result
+        (shown_of (tail_tried db.now noun.now (tail_from db.now from) state.old).events) }
     ensures state { OnOk result
         (state.new ≡ (tail_tried db.now noun.now (tail_from db.now from) state.old).value.state) }
     ensures over { IfOk result
@@ -82,7 +85,7 @@ fn try_tail<C: Console>(
     let _lines = db.actions();
     let mut line = from;
     while tail_goes_on(db, line) {
-        let over = try_tail_line(db, state, line, noun, console)?;
+        let over = try_tail_action(db, state, line, noun, console)?;
         if over.is_some() {
             return Ok(over);
         }
@@ -114,14 +117,16 @@ pub fn try_group<C: Console>(
 ) -> Result<Ran, ConsoleFault>
     requires fits { Fits db.now state.old }
     requires there { head < length db.now.actions }
-    ensures spoken { Speaks C.history C.left C.bound C.faults console.old console.new result
-        (seen (group_tried db.now noun.now (group_at db.now head) state.old).events) }
-    ensures state { OnOk result (state.new ≡ (group_tried db.now noun.now (group_at db.now head) state.old).value.state) }
-    ensures ran { IfOk result (λ ran. ran ≡ (group_tried db.now noun.now (group_at db.now head) state.old).value.ran) }
+    ensures spoken { Speaks (C.seen console.old) (C.seen console.new) result
+        (shown_of (group_tried db.now noun.now (group_at db.now head) state.old).events) }
+    ensures state { OnOk result (state.new
+        ≡ (group_tried db.now noun.now (group_at db.now head) state.old).value.state) }
+    ensures ran { IfOk result
+        (λ ran. ran ≡ (group_tried db.now noun.now (group_at db.now head) state.old).value.ran) }
     ensures fits { Fits db.now state.new }
 {
     let _lines = db.actions();
-    match try_line(db, state, head, noun, console) {
+    match try_action(db, state, head, noun, console) {
         Ok(Ran::Passed(true)) => match try_tail(db, state, head + 1, noun, console) {
             Ok(over) => Ok(with_tail(over)),
             Err(fault) => Err(fault),

@@ -7,12 +7,11 @@ ghost use Rattle.scott_types.specs.Phrase.{text_of};
 ghost use Rattle.scott_types.specs.Room.{exit_of};
 ghost use Rattle.scott_types.specs.State.{Fits, is_dark};
 ghost use Rattle.scott_rules.specs.Commands.{is_direction};
-ghost use Rattle.scott_rules.specs.Rounds.{way, walked};
-ghost use Rattle.scott_turn.specs.Seen.{seen};
+ghost use Rattle.scott_rules.specs.Rounds.{way, walk_result};
+ghost use Rattle.adv_io.specs.Steps.{shown_of};
 ghost use Rattle.scott_turn.specs.Ways.{way_text, way_over};
 
-use adv_io::{Console, ConsoleFault};
-use scott_light::Page;
+use adv_io::{Console, ConsoleFault, say_both};
 use scott_rules::laws::walk_fits;
 use scott_types::{Db, Phrase, State, exit};
 
@@ -43,7 +42,7 @@ fn way_over(dark: bool, room: u8) -> Option<u8>
     if room == 0 && dark { Some(2) } else { None }
 }
 
-// The room becomes the one behind an exit, where there is one.
+// The room becomes the one beyond an exit, where there is one.
 fn go(state: &mut State, room: u8)
     ensures { state.new ≡ (way room state.old).value.state }
 {
@@ -65,9 +64,9 @@ pub fn walk<C: Console>(
 ) -> Result<Option<u8>, ConsoleFault>
     requires fits { Fits db.now state.old }
     requires direction { IsTrue (is_direction noun) }
-    ensures spoken { Speaks C.history C.left C.bound C.faults console.old console.new result
-        (seen (walked db.now noun state.old).events) }
-    ensures left { IfOk result (λ over. (walked db.now noun state.old).value
+    ensures spoken { Speaks (C.seen console.old) (C.seen console.new) result
+        (shown_of (walk_result db.now noun state.old).events) }
+    ensures left { IfOk result (λ over. (walk_result db.now noun state.old).value
         ≡ record { state = state.new; over = over }) }
     ensures fits { Fits db.now state.new }
 {
@@ -75,9 +74,6 @@ pub fn walk<C: Console>(
     let dark = state.is_dark();
     let room = exit(db, state.room, noun as usize - 1);
     go(state, room);
-    let mut page = Page::new();
-    page.add(warning(dark));
-    page.add(way_text(dark, room));
-    page.say(console)?;
+    say_both(warning(dark), way_text(dark, room), console)?;
     Ok(way_over(dark, room))
 }

@@ -1,4 +1,4 @@
-//! An index of the words: the plain entry that each word of a column names.
+//! An index of the words: the base entry that each word of a column names.
 ghost use Rattle.std.specs.Prelude.{◌≡◌, List, ℕ, None, IfOk, OnOk, if◌then◌else◌};
 ghost use Rattle.std.specs.Option.{option_or};
 ghost use Rattle.scott_rules.specs.Words.{is_typed};
@@ -13,11 +13,11 @@ use std::alloc::Global;
 use std::marker::Model;
 
 /// An index of the words of a column: by the letters of each word, as many as count, the number of the
-/// plain entry that it names.
+/// base entry that it names.
 #[derive(Drop)]
 pub struct WordIndex {
     size: usize,
-    plain: IndexMap<ArrayVec<u8, 20>, u16>,
+    base: IndexMap<ArrayVec<u8, 20>, u16>,
 }
 
 impl Model for WordIndex {
@@ -26,7 +26,7 @@ impl Model for WordIndex {
 
     ghost Value = { WordIndex };
 
-    ghost view = { λ index. record { size = index.size; entries = index.plain.entries } };
+    ghost view = { λ index. record { size = index.size; entries = index.base.entries } };
 
     ghost invariant = { λ index. index.size ≤ 20 };
 }
@@ -40,8 +40,8 @@ impl WordIndex {
         let mut nearest = None;
         for k in 1..db.words().len() {
             let entry = entry_at(db, column, k, nearest);
-            nearest = entry.plain;
-            index.add(&entry)?;
+            nearest = entry.base;
+            index.add(alloc, &entry)?;
         }
         Ok(index)
     }
@@ -54,33 +54,33 @@ impl WordIndex {
         let parts = db.parts();
         Ok(WordIndex {
             size: parts.header.length as usize,
-            plain: IndexMap::with_capacity(alloc, parts.words.len())?,
+            base: IndexMap::with_capacity(alloc, parts.words.len())?,
         })
     }
 
-    // Adds the word of an entry that stands for a plain one, where it isn't there yet. An empty word names
+    // Adds the word of an entry that has a base entry, where it isn't there yet. An empty word names
     // nothing.
-    fn add(&mut self, entry: &Entry) -> Result<(), Memory>
+    fn add(&mut self, _alloc: Global, entry: &Entry) -> Result<(), Memory>
         ensures size { OnOk result (self.new.size ≡ self.old.size) }
         ensures found { OnOk result ((typed : List ℕ) → found_in self.new typed
             ≡ option_or (found_in self.old typed)
-            (if is_typed self.old.size entry.now.word.now typed then entry.now.plain else None)) }
+            (if is_typed self.old.size entry.now.word.now typed then entry.now.base else None)) }
     {
         if entry.word.is_empty() {
             return Ok(());
         }
-        if let Some(plain) = entry.plain {
-            self.plain
+        if let Some(base) = entry.base {
+            self.base
                 .entry(letters(self.size, entry.word))?
-                .or_insert(plain);
+                .or_insert(base);
         }
         Ok(())
     }
 
-    /// The number of the plain entry that a word names, by one look-up.
+    /// The number of the base entry that a word names, by one look-up.
     pub fn find(&self, word: &[u8]) -> Option<u16>
         ensures { result ≡ found_in self.now word.now }
     {
-        self.plain.get(&letters(self.size, word)).copied()
+        self.base.get(&letters(self.size, word)).copied()
     }
 }

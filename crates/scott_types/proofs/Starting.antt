@@ -10,7 +10,7 @@ use Rattle.std.proofs.lemmas.List.Elements.{All-replicate}
 use Rattle.scott_types.specs.declared.parts.Item.{Item}
 use Rattle.scott_types.specs.declared.states.State.{State}
 use Rattle.scott_types.specs.Database.{Database, place_of_item}
-use Rattle.scott_types.specs.Limits.{KeepsLimits, is_item, is_text}
+use Rattle.scott_types.specs.Limits.{KeepsLimits, is_item, is_file_text}
 use Rattle.scott_types.specs.State.{Fits, start, is_room_of, is_place}
 
 -- ---- the first state
@@ -20,7 +20,7 @@ starts : (items : List Item) → IsTrue (list_all is_item items) → IsTrue (lis
 starts [] all = refl
 starts (item ∷ items) all =
     let parts = and_parts (is_item item) (list_all is_item items) all in
-    and_from _ _ (and_parts (is_text item.text) (is_place item.place) parts.0).1 (starts items parts.1)
+    and_from _ _ (and_parts (is_file_text item.text) (is_place item.place) parts.0).1 (starts items parts.1)
 
 -- the first state fits
 pub Fits-start : (db : Database) → KeepsLimits db → Fits db (start db)

@@ -28,5 +28,5 @@ abbrev pub is_zero : ℕ → Bool
 is_zero n = n == 0
 
 -- a line whose eight numbers are zeros
-abbrev pub is_blank : Action → Bool
-is_blank a = is_zero a.vocab && (list_all is_zero a.conds && list_all is_zero a.pairs)
+abbrev pub is_zero_action : Action → Bool
+is_zero_action a = is_zero a.vocab && (list_all is_zero a.conds && list_all is_zero a.pairs)

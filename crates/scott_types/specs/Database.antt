@@ -31,7 +31,20 @@ database_of p = record {
   trailer = p.trailer;
 }
 
--- the room of a number; one that isn't there has no exits and no text
+-- ---- the entries of a number
+
+-- an action that isn't there is empty
+abbrev pub action_at : Database → ℕ → Action
+action_at db action = slice_index_or db.actions action (record { vocab = 0; conds = []; pairs = [] })
+
+-- an item that isn't there has no text, and is out of the game
+abbrev pub item_in : List Item → ℕ → Item
+item_in items item = slice_index_or items item (record { text = []; place = 0 })
+
+abbrev pub item_at : Database → ℕ → Item
+item_at db item = item_in db.items item
+
+-- a room that isn't there has no exits and no text
 abbrev pub room_at : Database → ℕ → Room
 room_at db room = slice_index_or db.rooms room (record { exits = []; text = [] })
 

@@ -1,14 +1,15 @@
 -- What an item's text says: what is shown of it, the word that takes it, and whether it is a treasure.
 use Rattle.std.specs.Prelude.{ℕ, ◌==◌, Bool, false, List, [], ◌∷◌, if◌then◌else◌}
 use Rattle.std.specs.List.{before_first, after_first}
+use Rattle.adv_io.specs.Text.{star, slash}
 
 -- a text that begins with `*`: a treasure, a room that needs no `I'm in a`, a synonym
 abbrev pub is_starred : List ℕ → Bool
 is_starred [] = false
-is_starred (byte ∷ text) = byte == 42
+is_starred (byte ∷ text) = byte == star
 
 abbrev pub is_slash : ℕ → Bool
-is_slash byte = byte == 47
+is_slash byte = byte == slash
 
 -- what stands before the first `/`, or the whole text
 abbrev pub shown : List ℕ → List ℕ

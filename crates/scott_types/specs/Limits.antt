@@ -1,6 +1,7 @@
 -- The limits that every database keeps.
 use Rattle.std.specs.Prelude.{ℕ, ◌≤◌, ◌<◌, ◌≡◌, ◌==◌, ◌||◌, ◌&&◌, Bool, not, List, [], ◌∷◌, length, nat_le, nat_lt, ℤ, pos, negsuc, ◌≤ℤ◌, int_le, IsTrue}
 use Rattle.std.specs.List.{list_all}
+use Rattle.adv_io.specs.Text.{is_text_byte, text_limit}
 use Rattle.scott_types.specs.declared.parts.Header.{Header}
 use Rattle.scott_types.specs.declared.parts.Action.{Action}
 use Rattle.scott_types.specs.declared.parts.Word.{Word}
@@ -11,13 +12,13 @@ use Rattle.scott_types.specs.Database.{Database}
 
 -- ---- one value
 
--- a byte other than a return and a grave accent, which no text of a file can give
-abbrev pub is_text_byte : ℕ → Bool
-is_text_byte byte = nat_lt byte 256 && not (byte == 13 || byte == 96)
+-- a byte that a string of a file can give
+abbrev pub is_file_byte : ℕ → Bool
+is_file_byte byte = nat_lt byte 256 && is_text_byte byte
 
--- at most 4,096 such bytes
-abbrev pub is_text : List ℕ → Bool
-is_text text = nat_le (length text) 4096 && list_all is_text_byte text
+-- so many of them at most
+abbrev pub is_file_text : List ℕ → Bool
+is_file_text text = nat_le (length text) text_limit && list_all is_file_byte text
 
 -- a number of 32 bits with a sign
 abbrev pub is_number : ℤ → Bool
@@ -33,13 +34,13 @@ abbrev pub is_action : Action → Bool
 is_action a = is_natural a.vocab && (length a.conds == 5 && (list_all is_natural a.conds && (length a.pairs == 2 && list_all is_natural a.pairs)))
 
 abbrev pub is_word : Word → Bool
-is_word w = is_text w.verb && is_text w.noun
+is_word w = is_file_text w.verb && is_file_text w.noun
 
 abbrev pub is_room : Room → Bool
-is_room r = length r.exits == 6 && (list_all is_number r.exits && is_text r.text)
+is_room r = length r.exits == 6 && (list_all is_number r.exits && is_file_text r.text)
 
 abbrev pub is_item : Item → Bool
-is_item i = is_text i.text && nat_le i.place 255
+is_item i = is_file_text i.text && nat_le i.place 255
 
 abbrev pub are_header_numbers : Header → Bool
 are_header_numbers h = list_all is_number (h.unused ∷ h.carry ∷ h.treasures ∷ h.light ∷ h.home ∷ [])
@@ -71,7 +72,7 @@ pub record KeepsEntryLimits (db : Database) : Type 0 where
   pub words : IsTrue (list_all is_word db.words)
   pub rooms : IsTrue (list_all is_room db.rooms)
   pub items : IsTrue (list_all is_item db.items)
-  pub texts : IsTrue (list_all is_text db.messages && list_all is_text db.comments)
+  pub texts : IsTrue (list_all is_file_text db.messages && list_all is_file_text db.comments)
 
 pub record KeepsLimits (db : Database) : Type 0 where
   pub header : KeepsHeaderLimits (length db.rooms) db.header

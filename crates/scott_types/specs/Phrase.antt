@@ -1,7 +1,7 @@
 -- The one table of the fixed texts.
 use Rattle.std.specs.Prelude.{ℕ, List, codes}
 use Rattle.scott_types.specs.declared.phrases.Phrase.{Phrase}
-use Rattle.scott_types.specs.declared.phrases.Phrase.TheVariants.{TooDark, InA, ObviousExits, North, South, East, West, Up, Down, NoExits, BetweenExits, ListEnd, AlsoSee, BetweenItems, CarryingList, NothingCarried, Stored, Rating, WellDone, GameOver, LightOut, LightDim, TooMuch, Dead, NoSaving, Newline, Prompt, UnknownFront, UnknownBack, NeedDirection, DarkMove, Moved, BrokenNeck, NoExitThere, NotYet, NotUnderstood, DarkGet, ItemDone, NothingTaken, NothingDropped, WhatItem, Done, BeyondPower}
+use Rattle.scott_types.specs.declared.phrases.Phrase.TheVariants.{TooDark, InA, ObviousExits, North, South, East, West, Up, Down, NoExits, BetweenExits, ListEnd, AlsoSee, BetweenItems, CarryingList, NothingCarried, Stored, Rating, WellDone, GameOver, LightOut, LightDim, TooMuch, Dead, NoSaving, Newline, Prompt, UnknownOpening, UnknownBack, NeedDirection, DarkMove, Moved, BrokenNeck, NoExitThere, NotYet, NotUnderstood, DarkGet, ItemDone, NothingTaken, NothingDropped, WhatItem, Done, BeyondPower}
 
 -- the bytes of a fixed text
 unfoldable pub text_of : Phrase → List ℕ
@@ -32,7 +32,7 @@ text_of Dead = codes "I am dead.\n"
 text_of NoSaving = codes "[Saving is left out.]\n"
 text_of Newline = codes "\n"
 text_of Prompt = codes "\nTell me what to do ? "
-text_of UnknownFront = codes "\""
+text_of UnknownOpening = codes "\""
 text_of UnknownBack = codes "\" is a word I don't know. "
 text_of NeedDirection = codes "Give me a direction too. "
 text_of DarkMove = codes "Dangerous to move in the dark! "

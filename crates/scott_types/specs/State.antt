@@ -4,16 +4,17 @@ use Rattle.std.specs.List.{list_all}
 use Rattle.scott_types.specs.declared.states.State.{State}
 use Rattle.scott_types.specs.Limits.{KeepsLimits}
 use Rattle.scott_types.specs.Database.{Database, place_of_item}
+use Rattle.scott_types.specs.declared.places.TheConstants.{CARRIED, LAMP, DARK_FLAG, OUT_FLAG}
 
 -- ---- places
 
 -- where an item that is carried is
 abbrev pub carried_place : ℕ
-carried_place = 255
+carried_place = CARRIED
 
 -- the item that gives light
 abbrev pub lamp : ℕ
-lamp = 9
+lamp = LAMP
 
 abbrev pub has_item : State → ℕ → Bool
 has_item s item = nat_lt item (length s.places.items)
@@ -40,11 +41,11 @@ with_place s item place = record s { places = record { items = slice_set s.place
 -- ---- flags and the dark
 
 abbrev pub dark_flag : ℕ
-dark_flag = 15
+dark_flag = DARK_FLAG
 
 -- the flag that says that the light is out
 abbrev pub out_flag : ℕ
-out_flag = 16
+out_flag = OUT_FLAG
 
 -- a flag above 31 is clear
 abbrev pub flag_of : State → ℕ → Bool

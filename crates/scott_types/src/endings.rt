@@ -5,7 +5,7 @@
 pub enum Ran {
     /// A condition didn't hold.
     Not,
-    /// It passed, and told whether the lines behind it go on.
+    /// It passed; whether the actions after it are tried.
     Passed(bool),
     /// It ended the game.
     Over(u8),

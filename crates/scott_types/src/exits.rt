@@ -1,6 +1,6 @@
 //! Where the exits of a room lead.
 ghost use Rattle.std.specs.Prelude.{◌≡◌, ◌<◌, ◌≤◌, length};
-ghost use Rattle.scott_types.specs.Room.{room_behind, exit_of};
+ghost use Rattle.scott_types.specs.Room.{room_beyond, exit_of};
 ghost use Rattle.scott_types.specs.Database.{room_at};
 
 use crate::databases::Db;
@@ -15,13 +15,13 @@ pub fn exit(db: &Db, room: u8, direction: usize) -> u8
     ensures six { length (room_at db.now room).exits ≡ 6 }
 {
     let rooms = &db.parts().rooms;
-    exit_behind(rooms.len(), rooms[room as usize].exits[direction])
+    exit_beyond(rooms.len(), rooms[room as usize].exits[direction])
 }
 
 // The room that an exit's number means, or 0.
-fn exit_behind(rooms: usize, number: i32) -> u8
+fn exit_beyond(rooms: usize, number: i32) -> u8
     requires { rooms ≤ 255 }
-    ensures { result ≡ room_behind rooms number }
+    ensures { result ≡ room_beyond rooms number }
 {
     if 0 < number && (number as usize) < rooms {
         number as u8

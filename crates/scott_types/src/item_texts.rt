@@ -17,7 +17,7 @@ pub fn shown(text: &Text) -> &[u8]
 pub fn get_word(text: &Text) -> &[u8]
     ensures { result.now ≡ word_part text.now }
 {
-    let word = before_slash(behind_slash(text.bytes()));
+    let word = before_slash(after_slash(text.bytes()));
     if starts_with_star(word) { &[] } else { word }
 }
 
@@ -60,7 +60,7 @@ fn before_slash(bytes: &[u8]) -> &[u8]
     &bytes[..slash_place(bytes)]
 }
 
-fn behind_slash(bytes: &[u8]) -> &[u8]
+fn after_slash(bytes: &[u8]) -> &[u8]
     ensures { result.now ≡ after_first is_slash bytes.now }
 {
     let at = slash_place(bytes);

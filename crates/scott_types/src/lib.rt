@@ -16,6 +16,7 @@ pub mod exits;
 pub mod item_texts;
 pub mod opcodes;
 pub mod parameters;
+pub mod verbs;
 
 // A play: its state, what a line means, how things end, and the fixed texts.
 pub mod commands;

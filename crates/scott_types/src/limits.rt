@@ -2,7 +2,7 @@
 ghost use Rattle.std.specs.Prelude.{◌≡◌, ◌&&◌, ◌↔◌, IsTrue, nat_le};
 ghost use Rattle.std.specs.List.{list_all};
 ghost use Rattle.scott_types.specs.Database.{database_of};
-ghost use Rattle.scott_types.specs.Limits.{is_text, is_text_byte, is_number, is_natural, is_action, is_word, is_room, is_item, are_header_numbers, is_trailer, KeepsHeaderLimits, KeepsSizes, KeepsEntryLimits, KeepsLimits};
+ghost use Rattle.scott_types.specs.Limits.{is_file_byte, is_file_text, is_number, is_natural, is_action, is_word, is_room, is_item, are_header_numbers, is_trailer, KeepsHeaderLimits, KeepsSizes, KeepsEntryLimits, KeepsLimits};
 
 use crate::parts::{Action, Header, Item, Parts, Room, Trailer, Word};
 use crate::texts::Text;
@@ -13,21 +13,21 @@ pub const TEXT_LIMIT: usize = 4096;
 /// The greatest number of an action line.
 pub const ACTION_LIMIT: u32 = 2147483647;
 
-// Any byte but a return and a grave accent, which no text of a file can give.
+// Any byte but a return and a grave accent, which no string of a file can give.
 fn byte_fits(byte: u8) -> bool
-    ensures { result ≡ is_text_byte byte }
+    ensures { result ≡ is_file_byte byte }
 {
-    byte != 13 && byte != 96
+    byte != b'\r' && byte != b'`'
 }
 
 fn bytes_fit(bytes: &[u8]) -> bool
-    ensures { result ≡ list_all is_text_byte bytes.now }
+    ensures { result ≡ list_all is_file_byte bytes.now }
 {
     bytes.iter().all(|byte| byte_fits(*byte))
 }
 
 fn text_fits(text: &Text) -> bool
-    ensures { result ≡ is_text text.now }
+    ensures { result ≡ is_file_text text.now }
 {
     let bytes = text.bytes();
     bytes.len() <= TEXT_LIMIT && bytes_fit(bytes)
@@ -142,7 +142,7 @@ fn items_fit(items: &[Item]) -> bool
 }
 
 fn texts_fit(texts: &[Text]) -> bool
-    ensures { result ≡ list_all is_text texts.now }
+    ensures { result ≡ list_all is_file_text texts.now }
 {
     texts.iter().all(|text| text_fits(text))
 }

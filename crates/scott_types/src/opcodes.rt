@@ -27,7 +27,7 @@ pub enum Opcode {
     Screen,
     /// Shows a picture, of which nothing is left here but its parameter.
     Picture,
-    /// Goes on with the lines behind the head.
+    /// Goes on with the actions after the head.
     More,
 }
 

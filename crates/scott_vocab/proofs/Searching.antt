@@ -18,33 +18,33 @@ entries_from f words k w h e =
     ∙ ap (λ n. f w ∷ map f (drop n words)) (sym (add-one k))
     ∙ ap (λ xs. f w ∷ xs) (sym (drop-map f (k + 1) words))
 
--- what a word names from entry k on: the plain entry that this one stands for where the word matches it, or what it names behind it
-pub which_from-at : (db : Database) (column : Column) (word : List ℕ) (plain : Option ℕ) (k : ℕ) (w : Word) (text : List ℕ) (nearest : Option ℕ)
+-- what a word names from entry k on: the base entry that this one stands for where the word matches it, or what it names after it
+pub which_from-at : (db : Database) (column : Column) (word : List ℕ) (base : Option ℕ) (k : ℕ) (w : Word) (text : List ℕ) (nearest : Option ℕ)
     → k < length db.words → w ≡ get_or db.words k w
     → text ≡ column_of column w
-    → nearest ≡ cond (is_starred text) plain (Some k)
-    → which_from db column word plain k
+    → nearest ≡ cond (is_starred text) base (Some k)
+    → which_from db column word base k
     ≡ cond (is_typed db.header.length (spelling text) word && is_some nearest) nearest (which_from db column word nearest (k + 1))
-which_from-at db column word plain k w text nearest there is by_column by_mark =
-    rw (by_mark, by_column) (ap (entry_from db.header.length word plain k) (entries_from (column_of column) db.words k w there is))
+which_from-at db column word base k w text nearest there is by_column by_mark =
+    rw (by_mark, by_column) (ap (entry_from db.header.length word base k) (entries_from (column_of column) db.words k w there is))
 
 -- ---- what is found is there
 
--- one more entry, where the nearest plain one stands before the next
-found-there : (starred names : Bool) (plain : Option ℕ) (k : ℕ) (rest : Option ℕ → Option ℕ) (end : ℕ) → IfSome plain (λ p. p < k) → k < end
+-- one more entry, where the nearest base entry stands before the next
+found-there : (starred names : Bool) (base : Option ℕ) (k : ℕ) (rest : Option ℕ → Option ℕ) (end : ℕ) → IfSome base (λ p. p < k) → k < end
     → ((nearest : Option ℕ) → IfSome nearest (λ p. p < k + 1) → IfSome (rest nearest) (λ n. n < end))
-    → IfSome (let nearest = if starred then plain else Some k in if names && is_some nearest then nearest else rest nearest) (λ n. n < end)
+    → IfSome (let nearest = if starred then base else Some k in if names && is_some nearest then nearest else rest nearest) (λ n. n < end)
 found-there true true None k rest end before within others = others None tt
 found-there true true (Some p) k rest end before within others = omega (arith, before, within)
 found-there true false None k rest end before within others = others None tt
 found-there true false (Some p) k rest end before within others = others (Some p) (omega (arith, before))
-found-there false true plain k rest end before within others = within
-found-there false false plain k rest end before within others = others (Some k) (omega arith)
+found-there false true base k rest end before within others = within
+found-there false false base k rest end before within others = others (Some k) (omega arith)
 
-entry_from-there : (size : ℕ) (word : List ℕ) (plain : Option ℕ) (k : ℕ) (entries : List (List ℕ)) → IfSome plain (λ p. p < k) → IfSome (entry_from size word plain k entries) (λ n. n < k + length entries)
-entry_from-there size word plain k [] before = tt
-entry_from-there size word plain k (entry ∷ entries) before =
-    found-there (is_starred entry) (is_typed size (spelling entry) word) plain k (λ nearest. entry_from size word nearest (k + 1) entries) (k + length (entry ∷ entries)) before (omega arith)
+entry_from-there : (size : ℕ) (word : List ℕ) (base : Option ℕ) (k : ℕ) (entries : List (List ℕ)) → IfSome base (λ p. p < k) → IfSome (entry_from size word base k entries) (λ n. n < k + length entries)
+entry_from-there size word base k [] before = tt
+entry_from-there size word base k (entry ∷ entries) before =
+    found-there (is_starred entry) (is_typed size (spelling entry) word) base k (λ nearest. entry_from size word nearest (k + 1) entries) (k + length (entry ∷ entries)) before (omega arith)
     (λ nearest before. subst (λ end. IfSome (entry_from size word nearest (k + 1) entries) (λ n. n < end)) (omega arith) (entry_from-there size word nearest (k + 1) entries before))
 
 named-there : (size : ℕ) (word : List ℕ) (column : Column) (words : List Word) → IfSome (entry_from size word None 1 (drop 1 (map (column_of column) words))) (λ n. n < length words)

@@ -2,14 +2,14 @@
 use Rattle.std.specs.Prelude.{◌≡◌, ℕ, List, take}
 use Rattle.std.specs.Str.{str_to_ascii_lowercase}
 
--- the bytes of a word that count, in small letters
+-- the bytes of a word that count, in lower case
 abbrev pub letters : ℕ → List ℕ → List ℕ
 letters size word = str_to_ascii_lowercase (take size word)
 
--- how many bytes count, and those of the word, in small letters
+-- how many bytes count, and those of the word, in lower case
 pub record Key : Type 0 where
   pub size : ℕ
-  pub small : List ℕ
+  pub lower : List ℕ
 
 abbrev pub IsKeyOf : Key → List ℕ → Type 0
-IsKeyOf key typed = key.small ≡ letters key.size typed
+IsKeyOf key typed = key.lower ≡ letters key.size typed

@@ -9,18 +9,13 @@ ghost use Rattle.scott_vocab.specs.Heard.{IsEntry, IsThere};
 use crate::splitting::{split, word_at};
 use crate::vocabularies::Vocabulary;
 use adv_io::Line;
+use scott_types::verbs::{GO, LAST_DIRECTION};
 use scott_types::{Column, Heard};
 
-/// The verb that goes somewhere.
-pub const GO: u16 = 1;
-
-/// The directions are the nouns from 1 to this one: north, south, east, west, up and down.
-pub const LAST_DIRECTION: u16 = 6;
-
 /// What a line means: nothing, a word that isn't known and where it stands in the line, or a verb and
-/// perhaps a noun, by the numbers of their plain entries.
+/// perhaps a noun, by the numbers of their base entries.
 ///
-/// The vocabulary is asked for a direction, for the verb, and for the noun that stands behind it.
+/// The vocabulary is asked for a direction, for the verb, and for the noun that stands after it.
 ///
 /// docs/TURN.md, "A line", states the rule.
 pub fn command<V: Vocabulary>(vocabulary: &V, line: &Line) -> Heard

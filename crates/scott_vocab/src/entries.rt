@@ -1,4 +1,4 @@
-//! The entries of the vocabulary: the word of each, and the plain entry that it stands for.
+//! The entries of the vocabulary: the word of each, and the base entry that it stands for.
 ghost use Rattle.std.specs.Prelude.{◌≡◌, ◌+◌, ◌<◌, ◌&&◌, List, ℕ, length, is_some, IfSome, if◌then◌else◌};
 ghost use Rattle.scott_types.specs.ItemText.{is_starred};
 ghost use Rattle.scott_rules.specs.Words.{column_of, is_typed, spelling};
@@ -6,31 +6,31 @@ ghost use Rattle.scott_vocab.specs.Found.{which_from};
 
 use scott_types::{Column, Db, Word, starts_with_star};
 
-/// An entry of the vocabulary: its word, without the mark of a synonym, and the plain entry that it stands
+/// An entry of the vocabulary: its word, without the mark of a synonym, and the base entry that it stands
 /// for.
 ///
-/// A plain entry stands for itself, and a synonym for the nearest plain one before it, if there is one.
+/// A base entry stands for itself, and a synonym for the nearest base entry before it, if there is one.
 #[derive(Clone, Copy)]
 pub struct Entry<'a> {
     pub word: &'a [u8],
-    pub plain: Option<u16>,
+    pub base: Option<u16>,
 }
 
-/// The entry of a column at a place from 1 on, where `before` is the nearest plain entry before it.
+/// The entry of a column at a place from 1 on, where `before` is the nearest base entry before it.
 ///
-/// A word names the plain entry that this one stands for, if it matches it, or what it names behind it.
+/// A word names the base entry that this one stands for, if it matches it, or what it names after it.
 pub fn entry_at<'a>(db: &'a Db, column: Column, k: usize, before: Option<u16>) -> Entry<'a>
     requires there { k < length db.now.words }
-    requires before { IfSome before (λ plain. plain < k) }
+    requires before { IfSome before (λ base. base < k) }
     ensures names { (word : List ℕ) → which_from db.now column word before k
-        ≡ (if is_typed db.now.header.length result.word.now word && is_some result.plain
-        then result.plain else which_from db.now column word result.plain (k + 1)) }
-    ensures plain { IfSome result.plain (λ plain. plain < k + 1) }
+        ≡ (if is_typed db.now.header.length result.word.now word && is_some result.base
+        then result.base else which_from db.now column word result.base (k + 1)) }
+    ensures base { IfSome result.base (λ base. base < k + 1) }
 {
     let text = entry_text(&db.words()[k], column);
     Entry {
         word: spelling(text),
-        plain: plain_at(before, text, k as u16),
+        base: base_at(before, text, k as u16),
     }
 }
 
@@ -55,11 +55,11 @@ fn spelling(entry: &[u8]) -> &[u8]
     }
 }
 
-// The nearest plain entry at or before entry k, where `before` is the nearest one before it.
-fn plain_at(before: Option<u16>, entry: &[u8], k: u16) -> Option<u16>
-    requires { IfSome before (λ plain. plain < k) }
+// The nearest base entry at or before entry k, where `before` is the nearest one before it.
+fn base_at(before: Option<u16>, entry: &[u8], k: u16) -> Option<u16>
+    requires { IfSome before (λ base. base < k) }
     ensures value { result ≡ (if is_starred entry.now then before else Some k) }
-    ensures there { IfSome result (λ plain. plain < k + 1) }
+    ensures there { IfSome result (λ base. base < k + 1) }
 {
     if starts_with_star(entry) {
         before

@@ -8,7 +8,7 @@ mod splitting;
 mod vocabularies;
 mod vocabulary;
 
-pub use commands::{GO, LAST_DIRECTION, command, is_direction};
+pub use commands::{command, is_direction};
 pub use entries::{Entry, entry_at};
 pub use matching::{is_typed, letters};
 pub use scott_types::{Column, Heard, Words};

@@ -7,13 +7,13 @@ ghost use Rattle.scott_vocab.specs.Keys.{letters, IsKeyOf};
 use arrayvec::ArrayVec;
 use std::marker::Model;
 
-/// A typed word as far as it counts: its first bytes, as many as the word length, in small letters.
+/// A typed word as far as it counts: its first bytes, as many as the word length, in lower case.
 ///
 /// A clause sees how many bytes count, and those of the word.
 #[derive(Drop)]
 pub struct Key {
     size: usize,
-    small: ArrayVec<u8, 20>,
+    lower: ArrayVec<u8, 20>,
 }
 
 impl Model for Key {
@@ -21,7 +21,7 @@ impl Model for Key {
 
     ghost Value = { Key };
 
-    ghost view = { λ k. record { size = k.size; small = k.small.items } };
+    ghost view = { λ k. record { size = k.size; lower = k.lower.items } };
 }
 
 impl Key {
@@ -33,7 +33,7 @@ impl Key {
     {
         Key {
             size,
-            small: letters(size, typed),
+            lower: letters(size, typed),
         }
     }
 
@@ -41,20 +41,21 @@ impl Key {
     /// count, are the same, capitals aside, and a shorter word counts whole. An empty word of the database
     /// matches nothing. docs/TURN.md, "Words", states the rule.
     pub fn matches(&self, word: &[u8]) -> bool
-        ensures { (typed : List ℕ) → IsKeyOf self.now typed → result ≡ is_typed self.now.size word.now typed }
+        ensures { (typed : List ℕ) → IsKeyOf self.now typed
+            → result ≡ is_typed self.now.size word.now typed }
     {
-        !word.is_empty() && is_spelled(front(word, self.size), self.small.as_slice())
+        !word.is_empty() && is_spelled(prefix(word, self.size), self.lower.as_slice())
     }
 }
 
-/// The letters of a word: its first bytes, as many as the word length, in small letters.
+/// The letters of a word: its first bytes, as many as the word length, in lower case.
 ///
 /// A word of the database that isn't empty matches a typed word exactly where their letters are the same.
 pub fn letters(size: usize, word: &[u8]) -> ArrayVec<u8, 20>
     requires { size ≤ 20 }
     ensures { result.items ≡ letters size word.now }
 {
-    small_letters(front(word, size))
+    lower_case(prefix(word, size))
 }
 
 /// Whether a word of the database matches the typed one, at a word length of at most 20.
@@ -68,34 +69,34 @@ pub fn is_typed(size: usize, word: &[u8], typed: &[u8]) -> bool
 }
 
 // The bytes of a word that count.
-fn front(word: &[u8], size: usize) -> &[u8]
+fn prefix(word: &[u8], size: usize) -> &[u8]
     ensures value { result.now ≡ take size word.now }
     ensures short { length result.now ≤ size }
 {
     &word[..size.min(word.len())]
 }
 
-// The bytes in small letters.
-fn small_letters(bytes: &[u8]) -> ArrayVec<u8, 20>
+// The bytes in lower case.
+fn lower_case(bytes: &[u8]) -> ArrayVec<u8, 20>
     requires { length bytes.now ≤ 20 }
     ensures { result.items ≡ str_to_ascii_lowercase bytes.now }
 {
-    let mut small = ArrayVec::new();
+    let mut lower = ArrayVec::new();
     for byte in bytes {
-        small.push(byte.to_ascii_lowercase());
+        lower.push(byte.to_ascii_lowercase());
     }
-    small
+    lower
 }
 
-// Whether a word is spelled so, in small letters.
-fn is_spelled(word: &[u8], small: &[u8]) -> bool
-    ensures { result ≡ bytes_eq (str_to_ascii_lowercase word.now) small.now }
+// Whether a word is spelled so, in lower case.
+fn is_spelled(word: &[u8], lower: &[u8]) -> bool
+    ensures { result ≡ bytes_eq (str_to_ascii_lowercase word.now) lower.now }
 {
-    if word.len() != small.len() {
+    if word.len() != lower.len() {
         return false;
     }
     for i in 0..word.len() {
-        if word[i].to_ascii_lowercase() != small[i] {
+        if word[i].to_ascii_lowercase() != lower[i] {
             return false;
         }
     }

@@ -1,7 +1,7 @@
 //! The words of a typed line.
 ghost use Rattle.std.specs.Prelude.{◌≡◌, ◌≤◌, not, length, IfSome};
 ghost use Rattle.std.specs.List.{prefix_len};
-ghost use Rattle.scott_rules.specs.Commands.{is_space, next_word, word_at, word_behind, split, typed_noun};
+ghost use Rattle.scott_rules.specs.Commands.{is_space, next_word, word_at, word_after, split, typed_noun};
 ghost use Rattle.scott_vocab.specs.Span.{IsWithin};
 
 use adv_io::Line;
@@ -43,23 +43,23 @@ pub fn word_at(line: &Line, start: u8, length: u8) -> &[u8]
     &line.bytes()[start..start + length as usize]
 }
 
-// The first word at or behind a place.
+// The first word at or after a place.
 fn word_from(bytes: &[u8], place: usize) -> Option<(u8, u8)>
     requires there { place ≤ length bytes.now }
     requires short { length bytes.now ≤ 120 }
     ensures value { result ≡ next_word bytes.now place }
     ensures within { IfSome result (λ span. IsWithin span bytes.now) }
 {
-    let start = place + blanks_at(&bytes[place..]);
+    let start = place + spaces_at(&bytes[place..]);
     let size = length_at(&bytes[start..]);
     (size > 0).then_some((start as u8, size as u8))
 }
 
-// The first word behind another one.
+// The first word after another one.
 fn second_word(bytes: &[u8], first: Option<(u8, u8)>) -> Option<(u8, u8)>
     requires there { IfSome first (λ span. IsWithin span bytes.now) }
     requires short { length bytes.now ≤ 120 }
-    ensures value { result ≡ word_behind bytes.now first }
+    ensures value { result ≡ word_after bytes.now first }
     ensures within { IfSome result (λ span. IsWithin span bytes.now) }
 {
     let (start, size) = first?;
@@ -67,7 +67,7 @@ fn second_word(bytes: &[u8], first: Option<(u8, u8)>) -> Option<(u8, u8)>
 }
 
 // How many blanks the bytes begin with.
-fn blanks_at(bytes: &[u8]) -> usize
+fn spaces_at(bytes: &[u8]) -> usize
     ensures value { result ≡ prefix_len is_space bytes.now }
     ensures within { result ≤ length bytes.now }
 {

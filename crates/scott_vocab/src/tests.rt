@@ -86,7 +86,7 @@ fn game(alloc: Global) -> Result<Db, Fail> {
 }
 
 #[test]
-fn words_name_plain_entries(rt: HostRuntime) -> Result<(), Fail> {
+fn words_name_base_entries(rt: HostRuntime) -> Result<(), Fail> {
     let db = game(rt.alloc())?;
     for (column, word, entry) in [
         (Column::Verbs, "go", Some(2)),
@@ -110,30 +110,30 @@ fn words_name_plain_entries(rt: HostRuntime) -> Result<(), Fail> {
 #[test]
 fn a_database_is_a_vocabulary(rt: HostRuntime) -> Result<(), Fail> {
     let db = game(rt.alloc())?;
-    for (column, word, plain) in [
+    for (column, word, base) in [
         (Column::Nouns, "NORTHWARD", Some(1)),
         (Column::Nouns, "lant", Some(7)),
         (Column::Nouns, "any", None),
         (Column::Verbs, "walk", Some(2)),
     ] {
-        assert_eq!(rt; db.named(column, word.as_bytes()), plain, "at {word}");
+        assert_eq!(rt; db.named(column, word.as_bytes()), base, "at {word}");
     }
     Ok(())
 }
 
 #[test]
-fn entries_stand_for_plain_ones(rt: HostRuntime) -> Result<(), Fail> {
+fn entries_stand_for_base_ones(rt: HostRuntime) -> Result<(), Fail> {
     let db = game(rt.alloc())?;
     let entries = db.words().len();
     assert_eq!(rt; entries, 12);
     let run = entry_at(&db, Column::Verbs, 1, None);
     assert_eq!(rt; run.word, b"RUN".as_slice());
-    assert_eq!(rt; run.plain, None);
+    assert_eq!(rt; run.base, None);
     let walk = entry_at(&db, Column::Verbs, 3, Some(2));
     assert_eq!(rt; walk.word, b"WALK".as_slice());
-    assert_eq!(rt; walk.plain, Some(2));
+    assert_eq!(rt; walk.base, Some(2));
     let lamp = entry_at(&db, Column::Nouns, 7, Some(6));
-    assert_eq!(rt; lamp.plain, Some(7));
+    assert_eq!(rt; lamp.base, Some(7));
     Ok(())
 }
 
@@ -204,11 +204,11 @@ fn six_nouns_are_directions(rt: HostRuntime) {
 }
 
 #[test]
-fn letters_are_small_and_few(rt: HostRuntime) {
-    for (size, word, small) in [(3, "LAMP", "lam"), (20, "Lamp", "lamp"), (0, "lamp", "")] {
+fn letters_are_lower_case_and_few(rt: HostRuntime) {
+    for (size, word, lower) in [(3, "LAMP", "lam"), (20, "Lamp", "lamp"), (0, "lamp", "")] {
         assert_eq!(rt;
             letters(size, word.as_bytes()).as_slice(),
-            small.as_bytes(),
+            lower.as_bytes(),
             "at {word}"
         );
     }

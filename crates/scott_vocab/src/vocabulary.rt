@@ -8,7 +8,7 @@ use crate::entries::{Entry, entry_at, entry_text};
 use crate::matching::Key;
 use scott_types::{Column, Db};
 
-/// The number of the plain entry that a word names: that of the first entry from 1 on that matches it.
+/// The number of the base entry that a word names: that of the first entry from 1 on that matches it.
 /// There is none exactly where no entry does.
 ///
 /// docs/TURN.md, "Words", states the rule.
@@ -21,8 +21,8 @@ pub fn which(db: &Db, column: Column, word: &[u8]) -> Option<u16>
     let mut nearest = None;
     for k in 1..parts.words.len() {
         let entry = entry_at(db, column, k, nearest);
-        nearest = entry.plain;
-        if names_plain(&entry, &key) {
+        nearest = entry.base;
+        if names_base(&entry, &key) {
             return nearest;
         }
     }
@@ -37,10 +37,10 @@ pub fn root(db: &Db, noun: u16) -> &[u8]
     entry_text(&db.parts().words[noun as usize], Column::Nouns)
 }
 
-// Whether a word of this key matches an entry that stands for a plain one.
-fn names_plain(entry: &Entry, key: &Key) -> bool
+// Whether a word of this key matches an entry that has a base entry.
+fn names_base(entry: &Entry, key: &Key) -> bool
     ensures { (word : List ℕ) → IsKeyOf key.now word
-        → result ≡ (is_typed key.now.size entry.now.word.now word && is_some entry.now.plain) }
+        → result ≡ (is_typed key.now.size entry.now.word.now word && is_some entry.now.base) }
 {
-    entry.plain.is_some() && key.matches(entry.word)
+    entry.base.is_some() && key.matches(entry.word)
 }

@@ -14,13 +14,13 @@ use std::test::Fail;
 fn lines_are_handed_in(rt: HostRuntime) -> Result<(), Fail> {
     let alloc = rt.alloc();
     let text = T.text(alloc)?;
-    assert!(rt; text.len() < 1000);
+    assert!(rt; text.len() <= 1_048_576);
     let db = read_db(alloc, text.as_bytes()).ok().ok_or("no database")?;
     let Ok(mut session) = Session::open(alloc, &db) else {
         return Err(Fail::from("no session"));
     };
     let mut draws = Draws::seeded(1);
-    let mut console = console_of(alloc, NOTHING)?;
+    let mut console = console_of(alloc, &NOTHING)?;
     let Ok(first) = session.hear(&mut draws, None, &mut console) else {
         return Err(Fail::from("the console failed"));
     };

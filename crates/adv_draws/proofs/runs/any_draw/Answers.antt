@@ -1,6 +1,6 @@
 use Rattle.std.proofs.Common.{◌≡◌, ◌+◌, ◌∷◌, get_or, length, None, ap, sym, ◌∙◌, inl, inr, arith}
-use Rattle.adv_draws.specs.Run.{draw_behind}
-use Rattle.adv_draws.proofs.RunLemmas.{run_at, run_at-solid, draw_behind-stuck, draw_behind-digit}
+use Rattle.adv_draws.specs.Run.{draw_after}
+use Rattle.adv_draws.proofs.RunLemmas.{run_at, run_at-solid, draw_after-stuck, draw_after-digit}
 use Rattle.adv_draws.proofs.runs.any_draw.Goals as goal
 
 pub returns-then-not-is_ascii_digit-clause-refused :
@@ -8,24 +8,24 @@ pub returns-then-not-is_ascii_digit-clause-refused :
 returns-then-not-is_ascii_digit-clause-refused c =
     let text = c.args.text.now in
     let at = c.loop-byte.byte-index in
-    let run = run_at-solid text at c.loop-byte-test.true (sym c.is_blank.ensures ∙ c.if-is_blank.false) in
-    let stuck = elim c.then-not-is_ascii_digit.either as (λ _. draw_behind c.loop-byte.number (get_or text at 0 ∷ run_at text (at + 1)) ≡ None) [
-      | inl other ↦ draw_behind-stuck c.loop-byte.number (get_or text at 0) (run_at text (at + 1)) (inl (sym c.is_ascii_digit.ensures.value ∙ other))
-      | inr large ↦ draw_behind-stuck c.loop-byte.number (get_or text at 0) (run_at text (at + 1)) (inr large.1)
+    let run = run_at-solid text at c.loop-byte-test.true (sym c.is_whitespace.ensures ∙ c.if-is_whitespace.false) in
+    let stuck = elim c.then-not-is_ascii_digit.either as (λ _. draw_after c.loop-byte.number (get_or text at 0 ∷ run_at text (at + 1)) ≡ None) [
+      | inl other ↦ draw_after-stuck c.loop-byte.number (get_or text at 0) (run_at text (at + 1)) (inl (sym c.is_ascii_digit.ensures.value ∙ other))
+      | inr large ↦ draw_after-stuck c.loop-byte.number (get_or text at 0) (run_at text (at + 1)) (inr large.1)
     ] in
-    sym c.loop-byte.invariant.goes_on ∙ ap (draw_behind c.loop-byte.number) run ∙ stuck
+    sym c.loop-byte.invariant.goes_on ∙ ap (draw_after c.loop-byte.number) run ∙ stuck
 
 pub loop-byte-preserved : goal.loop-byte-preserved
 loop-byte-preserved c =
     let text = c.args.text.now in
     let at = c.loop-byte.byte-index in
-    let run = run_at-solid text at c.loop-byte-test.true (sym c.is_blank.ensures ∙ c.if-is_blank.false) in
-    let digit = draw_behind-digit c.loop-byte.number (get_or text at 0) (run_at text (at + 1)) (sym c.is_ascii_digit.ensures.value ∙ c.if-not-is_ascii_digit.false) in
+    let run = run_at-solid text at c.loop-byte-test.true (sym c.is_whitespace.ensures ∙ c.if-is_whitespace.false) in
+    let digit = draw_after-digit c.loop-byte.number (get_or text at 0) (run_at text (at + 1)) (sym c.is_ascii_digit.ensures.value ∙ c.if-not-is_ascii_digit.false) in
     record {
       small = omega (arith, c.type_inv.text at);
       goes_on =
           rw c.from.ensures
-          (sym digit ∙ sym (ap (draw_behind c.loop-byte.number) run) ∙ c.loop-byte.invariant.goes_on);
+          (sym digit ∙ sym (ap (draw_after c.loop-byte.number) run) ∙ c.loop-byte.invariant.goes_on);
       counted = omega arith;
       longer = omega (arith, ap length run);
     }

@@ -1,4 +1,4 @@
-use Rattle.scott_format.proofs.Told.{never_both}
+use Rattle.scott_format.proofs.Answered.{never_both}
 use Rattle.scott_format.proofs.laws.never_both.Goals as goal
 
 pub returns : goal.returns

@@ -1,4 +1,4 @@
-use Rattle.scott_format.proofs.Told.{one_database}
+use Rattle.scott_format.proofs.Answered.{one_database}
 use Rattle.scott_format.proofs.laws.one_database.Goals as goal
 
 pub returns : goal.returns

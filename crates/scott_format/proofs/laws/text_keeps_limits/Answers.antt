@@ -1,4 +1,4 @@
-use Rattle.scott_format.proofs.Told.{text_keeps_limits}
+use Rattle.scott_format.proofs.Answered.{text_keeps_limits}
 use Rattle.scott_format.proofs.laws.text_keeps_limits.Goals as goal
 
 pub returns : goal.returns

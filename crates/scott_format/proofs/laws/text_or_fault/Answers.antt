@@ -1,4 +1,4 @@
-use Rattle.scott_format.proofs.Told.{text_or_fault}
+use Rattle.scott_format.proofs.Answered.{text_or_fault}
 use Rattle.scott_format.proofs.laws.text_or_fault.Goals as goal
 
 pub returns : goal.returns

@@ -1,7 +1,7 @@
 use Rattle.std.proofs.Common.{◌≡◌, ◌++◌, take}
 use Rattle.std.specs.List.{flat_map}
-use Rattle.scott_format.specs.Canon.{number_and_blank}
+use Rattle.scott_format.specs.Canon.{number_and_space}
 use Rattle.scott_format.proofs.lines.put_numbers.Given as goal
 
 abbrev pub invariant-loop-number : goal.invariant-loop-number
-invariant-loop-number l = l.out.items ≡ l.fn.out.items ++ flat_map number_and_blank (take l.number-index l.numbers)
+invariant-loop-number l = l.out.items ≡ l.fn.out.items ++ flat_map number_and_space (take l.number-index l.numbers)

@@ -7,7 +7,7 @@ use Rattle.scott_types.specs.declared.phrases.Phrase.{Phrase}
 use Rattle.scott_types.specs.declared.phrases.Phrase.TheVariants.{North}
 use Rattle.scott_types.specs.Database.{room_at}
 use Rattle.scott_types.specs.Phrase.{text_of}
-use Rattle.scott_types.specs.Room.{room_behind, exit_of}
+use Rattle.scott_types.specs.Room.{room_beyond, exit_of}
 use Rattle.scott_rules.specs.Looking.{chosen, directions}
 use Rattle.scott_light.proofs.Choosing.{chosen-kept, chosen-passed_over, chosen-whole}
 use Rattle.scott_light.proofs.listing.exit_names.Goals as goal
@@ -16,20 +16,20 @@ use Rattle.scott_light.proofs.listing.exit_names.Goals.{then-exit-ne0, else-exit
 module _ (rooms : ℕ) (exits : List ℤ) (i : ℕ) (within : i < 6) (six : length exits ≡ 6) (there : ℕ) (is : there ≡ exit_of rooms exits i) where
   -- an exit that is there is named
   named : (names : List (Bor (List ℕ))) (text : Bor (List ℕ)) (d : Phrase) → (there ≡ 0 → ⊥) → text.now ≡ text_of (get_or directions i d)
-      → map (λ t. t.now) names ≡ chosen (λ exit. not (room_behind rooms exit == 0)) text_of (take i directions) (take i exits)
-      → map (λ t. t.now) (names ++ text ∷ []) ≡ chosen (λ exit. not (room_behind rooms exit == 0)) text_of (take (i + 1) directions) (take (i + 1) exits)
+      → map (λ t. t.now) names ≡ chosen (λ exit. not (room_beyond rooms exit == 0)) text_of (take i directions) (take i exits)
+      → map (λ t. t.now) (names ++ text ∷ []) ≡ chosen (λ exit. not (room_beyond rooms exit == 0)) text_of (take (i + 1) directions) (take (i + 1) exits)
   named names text d leads said before =
-      let passes : not (eqb (room_behind rooms (get_or exits i (pos 0))) 0) ≡ true = rw (← is) (grind (arith, nat_tests)) in
+      let passes : not (eqb (room_beyond rooms (get_or exits i (pos 0))) 0) ≡ true = rw (← is) (grind (arith, nat_tests)) in
       map_push (λ (t : Bor (List ℕ)). t.now) names text
-      ∙ rw (before, said) (sym (chosen-kept (λ exit. not (room_behind rooms exit == 0)) text_of directions exits i d (pos 0) within (omega arith) passes))
+      ∙ rw (before, said) (sym (chosen-kept (λ exit. not (room_beyond rooms exit == 0)) text_of directions exits i d (pos 0) within (omega arith) passes))
 
   -- one that isn't there isn't
   unnamed : (names : List (List ℕ)) (d : Phrase) → there ≡ 0
-      → names ≡ chosen (λ exit. not (room_behind rooms exit == 0)) text_of (take i directions) (take i exits)
-      → names ≡ chosen (λ exit. not (room_behind rooms exit == 0)) text_of (take (i + 1) directions) (take (i + 1) exits)
+      → names ≡ chosen (λ exit. not (room_beyond rooms exit == 0)) text_of (take i directions) (take i exits)
+      → names ≡ chosen (λ exit. not (room_beyond rooms exit == 0)) text_of (take (i + 1) directions) (take (i + 1) exits)
   unnamed names d closed before =
-      let passes : not (eqb (room_behind rooms (get_or exits i (pos 0))) 0) ≡ false = rw (← is, closed) refl in
-      before ∙ sym (chosen-passed_over (λ exit. not (room_behind rooms exit == 0)) text_of directions exits i d (pos 0) within (omega arith) passes)
+      let passes : not (eqb (room_beyond rooms (get_or exits i (pos 0))) 0) ≡ false = rw (← is, closed) refl in
+      before ∙ sym (chosen-passed_over (λ exit. not (room_beyond rooms exit == 0)) text_of directions exits i d (pos 0) within (omega arith) passes)
 
 pub loop-i-preserved : goal.loop-i-preserved
 loop-i-preserved c =
@@ -51,4 +51,4 @@ loop-i-preserved c =
 pub returns : goal.returns
 returns c =
     c.loop-i.invariant.names
-    ∙ chosen-whole (λ exit. not (room_behind (length c.args.db.now.rooms) exit == 0)) text_of directions (room_at c.args.db.now c.args.room).exits c.loop-i.i c.loop-i-test.false
+    ∙ chosen-whole (λ exit. not (room_beyond (length c.args.db.now.rooms) exit == 0)) text_of directions (room_at c.args.db.now c.args.room).exits c.loop-i.i c.loop-i-test.false

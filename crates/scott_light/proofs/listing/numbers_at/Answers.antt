@@ -1,11 +1,12 @@
 use Rattle.std.proofs.Common.{◌≡◌, ◌∙◌, ℕ, ◌+◌, ◌<◌, List, eqb, eq-eqb, length, take, get_or, sym, arith, ◌∷◌, [], ◌++◌}
+use Rattle.scott_types.specs.Database.{item_in}
 use Rattle.std.proofs.lemmas.List.{map_push}
 use Rattle.std.proofs.lemmas.List.Elements.{All-push}
 use Rattle.std.proofs.lemmas.Bool.Decides.{nat_tests}
 use Rattle.scott_types.specs.declared.parts.Item.{Item}
 use Rattle.scott_types.specs.ItemText.{shown}
 use Rattle.scott_rules.specs.Looking.{items_at_place}
-use Rattle.scott_light.specs.Numbered.{item_at, shown_at, texts_of}
+use Rattle.scott_light.specs.ItemTexts.{shown_at, texts_of}
 use Rattle.scott_light.proofs.Choosing.{chosen-kept, chosen-passed_over}
 use Rattle.scott_light.proofs.listing.numbers_at.Goals as goal
 use Rattle.scott_light.proofs.listing.numbers_at.Goals.{then-places-i, else-places-i}
@@ -15,12 +16,12 @@ module _ (items : List Item) (places numbers : List ℕ) (place i : ℕ) (h : i 
   listed : get_or places i 0 ≡ place → texts_of items (numbers ++ i ∷ []) ≡ items_at_place (take (i + 1) items) (take (i + 1) places) place
   listed at =
       map_push (shown_at items) numbers i
-      ∙ rw before (sym (chosen-kept (λ at. eqb at place) (λ (item : Item). shown item.text) items places i (item_at [] 0) 0 h k (eq-eqb (get_or places i 0) place at)))
+      ∙ rw before (sym (chosen-kept (λ at. eqb at place) (λ (item : Item). shown item.text) items places i (item_in [] 0) 0 h k (eq-eqb (get_or places i 0) place at)))
 
   -- an item elsewhere isn't
   passed_over : (get_or places i 0 ≡ place → ⊥) → texts_of items numbers ≡ items_at_place (take (i + 1) items) (take (i + 1) places) place
   passed_over at =
-      before ∙ sym (chosen-passed_over (λ at. eqb at place) (λ (item : Item). shown item.text) items places i (item_at [] 0) 0 h k (grind (arith, nat_tests)))
+      before ∙ sym (chosen-passed_over (λ at. eqb at place) (λ (item : Item). shown item.text) items places i (item_in [] 0) 0 h k (grind (arith, nat_tests)))
 
 pub loop-i-preserved : goal.loop-i-preserved
 loop-i-preserved c =

@@ -2,7 +2,7 @@ use Rattle.std.proofs.Common.{◌≡◌, ◌≤◌, ◌<◌, List, take, length}
 use Rattle.std.specs.List.{All}
 use Rattle.scott_types.specs.declared.parts.Item.{Item}
 use Rattle.scott_rules.specs.Looking.{items_at_place}
-use Rattle.scott_light.specs.Numbered.{texts_of}
+use Rattle.scott_light.specs.ItemTexts.{texts_of}
 use Rattle.scott_light.proofs.listing.numbers_at.Given as goal
 
 -- the numbers so far are those of the items so far

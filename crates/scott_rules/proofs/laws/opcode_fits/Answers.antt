@@ -1,4 +1,4 @@
-use Rattle.scott_rules.proofs.FittingLines.{Fits-changed}
+use Rattle.scott_rules.proofs.FittingActions.{Fits-changed}
 use Rattle.scott_rules.proofs.laws.opcode_fits.Goals as goal
 
 pub returns : goal.returns

@@ -5,4 +5,4 @@ use Rattle.scott_rules.proofs.worked.condition_fails.Goals as goal
 
 pub returns : goal.returns
 unfolding go text_of
-returns c = record { said = refl; ran = refl; state = refl; played = record { told = refl; stopped = refl; lines_left = refl; draws_left = refl } }
+returns c = record { said = refl; ran = refl; state = refl; played = record { events_are = refl; stopped = refl; lines_left = refl; draws_left = refl } }

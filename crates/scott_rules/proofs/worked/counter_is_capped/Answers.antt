@@ -6,4 +6,4 @@ use Rattle.scott_rules.proofs.worked.counter_is_capped.Goals as goal
 
 pub returns : goal.returns
 unfolding go text_of digits
-returns c = record { said = refl; counter = refl; played = record { told = refl; stopped = refl; lines_left = refl; draws_left = refl } }
+returns c = record { said = refl; counter = refl; played = record { events_are = refl; stopped = refl; lines_left = refl; draws_left = refl } }

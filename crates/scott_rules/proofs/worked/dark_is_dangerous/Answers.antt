@@ -5,4 +5,4 @@ use Rattle.scott_rules.proofs.worked.dark_is_dangerous.Goals as goal
 
 pub returns : goal.returns
 unfolding go text_of
-returns c = record { told = refl; stopped = refl; lines_left = refl; draws_left = refl }
+returns c = record { events_are = refl; stopped = refl; lines_left = refl; draws_left = refl }

@@ -5,4 +5,4 @@ use Rattle.scott_rules.proofs.worked.draws_run_out.Goals as goal
 
 pub returns : goal.returns
 unfolding go text_of
-returns c = record { waits = record { told = refl; stopped = refl; lines_left = refl; draws_left = refl }; goes_on = record { told = refl; stopped = refl; lines_left = refl; draws_left = refl } }
+returns c = record { waits = record { events_are = refl; stopped = refl; lines_left = refl; draws_left = refl }; goes_on = record { events_are = refl; stopped = refl; lines_left = refl; draws_left = refl } }

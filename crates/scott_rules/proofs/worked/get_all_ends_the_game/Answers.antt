@@ -5,4 +5,4 @@ use Rattle.scott_rules.proofs.worked.get_all_ends_the_game.Goals as goal
 
 pub returns : goal.returns
 unfolding go text_of
-returns c = record { played = record { told = refl; stopped = refl; lines_left = refl; draws_left = refl }; rug = refl; pin = refl }
+returns c = record { played = record { events_are = refl; stopped = refl; lines_left = refl; draws_left = refl }; rug = refl; pin = refl }

@@ -5,4 +5,4 @@ use Rattle.scott_rules.proofs.worked.missing_parameter_is_zero.Goals as goal
 
 pub returns : goal.returns
 unfolding go text_of
-returns c = record { told = refl; stopped = refl; lines_left = refl; draws_left = refl }
+returns c = record { events_are = refl; stopped = refl; lines_left = refl; draws_left = refl }

@@ -6,4 +6,4 @@ use Rattle.scott_rules.proofs.worked.score_goes_on.Goals as goal
 
 pub returns : goal.returns
 unfolding go text_of digits
-returns c = record { told = refl; stopped = refl; lines_left = refl; draws_left = refl }
+returns c = record { events_are = refl; stopped = refl; lines_left = refl; draws_left = refl }

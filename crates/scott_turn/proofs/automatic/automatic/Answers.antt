@@ -1,13 +1,13 @@
 use Rattle.std.proofs.Common.{◌∙◌, ◌+◌, refl, sym, ap, arith}
+use Rattle.scott_types.specs.Database.{action_at}
 use Rattle.std.proofs.lemmas.Result.{err_from_is_err_and}
-use Rattle.scott_rules.specs.Lines.{action_at}
-use Rattle.scott_rules.specs.Told.{after}
+use Rattle.adv_io.specs.Steps.{after}
 use Rattle.scott_rules.specs.Groups.{automatic}
 use Rattle.scott_turn.specs.Heads.{group_at, groups_for, line_of, IsFirst}
 use Rattle.scott_turn.specs.Turns.{auto_turn}
-use Rattle.scott_turn.proofs.Going.{along_start, along_step, along_end, along_stop}
+use Rattle.adv_io.proofs.Along.{along_start, along_step, along_end, along_stop}
 use Rattle.scott_turn.proofs.Groups.{verb_of_head, comes_here, head_found, groups_for-found}
-use Rattle.scott_turn.proofs.Turning.{automatic-for, automatic-on, automatic-stop, automatic-front, behind_halt}
+use Rattle.scott_turn.proofs.Turning.{automatic-for, automatic-on, automatic-stop, automatic-prefix, after_halt}
 use Rattle.scott_turn.proofs.automatic.automatic.Goals as goal
 
 pub loop-next-init : goal.loop-next-init
@@ -28,8 +28,8 @@ returns-in_err-halt-clause-spoken g c =
     let p = err_from_is_err_and c.from_residual.result c.from_residual.ensures.1 in
     let comes = comes_here db 0 head (rw c.in-Some.is at c.loop-next.invariant.at_head) in
     rw (p.1)
-    (along_stop p.0 t.events (behind_halt t.value.halt t (automatic db (groups_for db 0 (head + 1)))) (rw c.in-Some.is at c.loop-next.invariant.along)
-    (automatic-front db head head c.loop-next.state c.loop-next.draws.left comes)
+    (along_stop p.0 t.events (after_halt t.value.halt t (automatic db (groups_for db 0 (head + 1)))) (rw c.in-Some.is at c.loop-next.invariant.along)
+    (automatic-prefix db head head c.loop-next.state c.loop-next.draws.left comes)
     c.in_err-halt.ensures.spoken)
 
 pub returns-then-not-goes_on-clause-spoken : goal.returns-then-not-goes_on-clause-spoken
@@ -47,14 +47,14 @@ loop-next-preserved g c =
     let head = c.in-Some.head in
     let t = auto_turn db (group_at db head) c.loop-next.state c.loop-next.draws.left in
     let comes = comes_here db 0 head (rw c.in-Some.is at c.loop-next.invariant.at_head) in
-    let behind : IsFirst db 0 (head + 1) c.head_behind-next.result = rw (verb_of_head 0 (action_at db head) comes.is_head) at c.head_behind-next.ensures in
+    let rest : IsFirst db 0 (head + 1) c.head_after-next.result = rw (verb_of_head 0 (action_at db head) comes.is_head) at c.head_after-next.ensures in
     record {
-      at_head = head_found db 0 (head + 1) c.head_behind-next.result behind;
-      fits = c.take_turn.ensures.fits;
-      taken = omega (arith, c.loop-next.invariant.taken, c.take_turn.ensures.taken);
-      along = along_step t.events (automatic db (groups_for db 0 (line_of db c.head_behind-next.result)) c.take_turn.new.state c.take_turn.new.draws.left) (rw c.in-Some.is at c.loop-next.invariant.along)
+      at_head = head_found db 0 (head + 1) c.head_after-next.result rest;
+      fits = c.auto_turn.ensures.fits;
+      taken = omega (arith, c.loop-next.invariant.taken, c.auto_turn.ensures.taken);
+      along = along_step t.events (automatic db (groups_for db 0 (line_of db c.head_after-next.result)) c.auto_turn.new.state c.auto_turn.new.draws.left) (rw c.in-Some.is at c.loop-next.invariant.along)
           (automatic-on db head head c.loop-next.state c.loop-next.draws.left comes c.in_ok-halt.halt c.in_ok-halt.ensures.halt (sym c.if-not-goes_on.ensures)
-          c.take_turn.new.state c.in_ok-halt.ensures.state c.take_turn.new.draws.left c.in_ok-halt.ensures.draws
-          ∙ ap (λ gs. after t.events (automatic db gs c.take_turn.new.state c.take_turn.new.draws.left)) (groups_for-found db 0 (head + 1) c.head_behind-next.result behind))
+          c.auto_turn.new.state c.in_ok-halt.ensures.state c.auto_turn.new.draws.left c.in_ok-halt.ensures.draws
+          ∙ ap (λ gs. after t.events (automatic db gs c.auto_turn.new.state c.auto_turn.new.draws.left)) (groups_for-found db 0 (head + 1) c.head_after-next.result rest))
           c.in_ok-halt.ensures.spoken;
     }

@@ -2,20 +2,20 @@ use Rattle.std.proofs.Common.{◌≡◌, ◌+◌, ◌-◌, length}
 use Rattle.scott_types.specs.State.{Fits}
 use Rattle.scott_rules.specs.Groups.{groups_from, automatic}
 use Rattle.scott_turn.specs.Heads.{groups_for, line_of, IsHead}
-use Rattle.scott_turn.proofs.Going.{Along}
+use Rattle.adv_io.proofs.Along.{Along}
 use Rattle.scott_turn.proofs.automatic.automatic.Given as goal
 
 -- what is still to come are the automatic groups from the next head on
 abbrev pub invariant-loop-next : goal.invariant-loop-next
 invariant-loop-next g l =
-    let console = g.C.Console in
+    let seen = g.C.Console.seen in
     record {
       at_head : IsHead l.game 0 l.next;
       fits : Fits l.game l.state;
       taken : l.draws.taken + length l.draws.left ≡ l.initial.draws.taken + length l.initial.draws.left;
-      along : Along console.history console.left console.bound console.faults
+      along : Along
           (automatic l.game (groups_from l.game l.from) l.initial.state l.initial.draws.left)
-          (automatic l.game (groups_for l.game 0 (line_of l.game l.next)) l.state l.draws.left) l.initial.console l.console;
+          (automatic l.game (groups_for l.game 0 (line_of l.game l.next)) l.state l.draws.left) (seen l.initial.console) (seen l.console);
     }
 
 abbrev pub decreases-loop-next : goal.decreases-loop-next

@@ -1,47 +1,47 @@
-use Rattle.std.proofs.Common.{refl, arith}
+use Rattle.std.proofs.Common.{refl, arith, rules}
 use Rattle.std.proofs.lemmas.Result.{err_from_is_err_and}
 use Rattle.scott_rules.specs.Play.{go}
 use Rattle.scott_turn.proofs.Playing.{ahead_start, ahead_step, ahead_end, ahead_fail}
 use Rattle.scott_turn.proofs.rounds.play_on.Goals as goal
 
-pub returns-in_err-round-clause-told : goal.returns-in_err-round-clause-told
-returns-in_err-round-clause-told g c =
-    let console = g.C.Console in
+pub returns-in_err-round-clause-as_rules : goal.returns-in_err-round-clause-as_rules
+returns-in_err-round-clause-as_rules g c =
+    let seen = g.C.Console.seen in
     let p = err_from_is_err_and c.from_residual.result c.from_residual.ensures.1 in
     rw (p.1)
-    (ahead_fail console.history console.left c.args.console.now c.loop-round.console c.go_round.new.console
+    (ahead_fail (seen c.args.console.now) (seen c.loop-round.console) (seen c.go_round.new.console)
     (λ lines. go c.args.game.now c.args.position c.args.state.now lines c.args.draws.now.left) c.args.game.now c.loop-round.position c.loop-round.state c.loop-round.draws.left
-    (console.left c.args.console.now) c.in_err-round.field-0.0 p.0 c.go_round.new.state c.go_round.new.draws.left c.loop-round.invariant.ahead c.in_err-round.ensures.told)
+    ((seen c.args.console.now).left) c.in_err-round.field-0.0 p.0 c.go_round.new.state c.go_round.new.draws.left c.loop-round.invariant.ahead c.in_err-round.ensures.as_rules)
 
-pub returns-then-round-clause-told : goal.returns-then-round-clause-told
-returns-then-round-clause-told g c =
-    let console = g.C.Console in
-    ahead_end console.history console.left c.args.console.now c.loop-round.console c.go_round.new.console
+pub returns-then-round-clause-as_rules : goal.returns-then-round-clause-as_rules
+returns-then-round-clause-as_rules g c =
+    let seen = g.C.Console.seen in
+    ahead_end (seen c.args.console.now) (seen c.loop-round.console) (seen c.go_round.new.console)
     (λ lines. go c.args.game.now c.args.position c.args.state.now lines c.args.draws.now.left) c.args.game.now c.loop-round.position c.loop-round.state c.loop-round.draws.left
-    (console.left c.args.console.now) c.in_ok-round.round c.go_round.new.state c.go_round.new.draws.left c.if-round.true c.loop-round.invariant.ahead c.in_ok-round.ensures.told
+    ((seen c.args.console.now).left) c.in_ok-round.round c.go_round.new.state c.go_round.new.draws.left c.if-round.true c.loop-round.invariant.ahead c.in_ok-round.ensures.as_rules
 
 pub loop-round-preserved : goal.loop-round-preserved
 loop-round-preserved g c =
-    let console = g.C.Console in
+    let seen = g.C.Console.seen in
     record {
       fits = c.go_round.ensures.fits;
       ends = c.in_ok-round.ensures.ends;
       taken = omega (arith, c.loop-round.invariant.taken, c.go_round.ensures.taken);
       bounded = omega (arith, c.loop-round.invariant.bounded, c.go_round.ensures.bounded);
-      later = omega (arith, c.loop-round.invariant.later, c.go_round.ensures.cause.later);
-      ahead = ahead_step console.history console.left c.args.console.now c.loop-round.console c.go_round.new.console
+      steady = search rules;
+      ahead = ahead_step (seen c.args.console.now) (seen c.loop-round.console) (seen c.go_round.new.console)
           (λ lines. go c.args.game.now c.args.position c.args.state.now lines c.args.draws.now.left) c.args.game.now c.loop-round.position c.loop-round.state c.loop-round.draws.left
-          (console.left c.args.console.now) c.in_ok-round.round c.go_round.new.state c.go_round.new.draws.left c.if-round.false c.loop-round.invariant.ahead c.in_ok-round.ensures.told;
+          ((seen c.args.console.now).left) c.in_ok-round.round c.go_round.new.state c.go_round.new.draws.left c.if-round.false c.loop-round.invariant.ahead c.in_ok-round.ensures.as_rules;
     }
 
 pub loop-round-init : goal.loop-round-init
 loop-round-init g c =
-    let console = g.C.Console in
+    let seen = g.C.Console.seen in
     record {
       fits = c.requires.fits;
       ends = c.requires.ends;
       taken = refl;
       bounded = omega arith;
-      later = omega arith;
-      ahead = ahead_start console.history console.left c.args.console.now (console.left c.args.console.now) c.args.game.now c.args.position c.args.state.now c.args.draws.now.left refl;
+      steady = refl;
+      ahead = ahead_start (seen c.args.console.now) ((seen c.args.console.now).left) c.args.game.now c.args.position c.args.state.now c.args.draws.now.left refl;
     }

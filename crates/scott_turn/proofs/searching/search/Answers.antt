@@ -1,13 +1,13 @@
 use Rattle.std.proofs.Common.{◌∙◌, ◌+◌, refl, sym, ap}
+use Rattle.scott_types.specs.Database.{action_at}
 use Rattle.std.proofs.lemmas.Result.{err_from_is_err_and}
-use Rattle.scott_rules.specs.Told.{after}
-use Rattle.scott_rules.specs.Lines.{action_at}
-use Rattle.scott_rules.specs.Search.{is_for_noun, searched}
+use Rattle.adv_io.specs.Steps.{after}
+use Rattle.scott_rules.specs.Search.{is_for_noun, search_result}
 use Rattle.scott_turn.specs.Heads.{group_at, groups_for, line_of, IsFirst}
 use Rattle.scott_turn.specs.Turns.{search_turn, at_least, with_before}
-use Rattle.scott_turn.proofs.Going.{along_start, along_step, along_end, along_stop, along_value}
+use Rattle.adv_io.proofs.Along.{along_start, along_step, along_end, along_stop, along_value}
 use Rattle.scott_turn.proofs.Groups.{verb_of_head, comes_here, head_found, groups_for-found}
-use Rattle.scott_turn.proofs.Turning.{searched-for, searched-on, searched-end, searched-front, at_least-begun, behind_turn, noun_at}
+use Rattle.scott_turn.proofs.Turning.{search_result-for, search_result-on, search_result-end, search_result-prefix, at_least-begun, after_turn, noun_at}
 use Rattle.scott_turn.proofs.searching.search.Goals as goal
 
 pub loop-next-init : goal.loop-next-init
@@ -18,7 +18,7 @@ loop-next-init g c =
       at_head = head_found db verb 0 c.first_head-next.result c.first_head-next.ensures;
       fits = c.requires;
       begun = refl;
-      along = rw (searched-for db c.args.typed.now verb c.args.command.noun c.args.state.now, groups_for-found db verb 0 c.first_head-next.result c.first_head-next.ensures) (along_start _ _);
+      along = rw (search_result-for db c.args.typed.now verb c.args.command.noun c.args.state.now, groups_for-found db verb 0 c.first_head-next.result c.first_head-next.ensures) (along_start _ _);
     }
 
 pub returns-in_err-found-clause-spoken : goal.returns-in_err-found-clause-spoken
@@ -32,8 +32,8 @@ returns-in_err-found-clause-spoken g c =
     let p = err_from_is_err_and c.from_residual.result c.from_residual.ensures.1 in
     let comes = comes_here db verb head (rw c.in-Some.is at c.loop-next.invariant.at_head) in
     rw (p.1)
-    (along_stop p.0 t.events (behind_turn t.value.found t (searched db typed verb noun (groups_for db verb (head + 1)))) (rw c.in-Some.is at c.loop-next.invariant.along)
-    (searched-front db typed verb noun head head c.loop-next.state comes c.loop-next.before)
+    (along_stop p.0 t.events (after_turn t.value.found t (search_result db typed verb noun (groups_for db verb (head + 1)))) (rw c.in-Some.is at c.loop-next.invariant.along)
+    (search_result-prefix db typed verb noun head head c.loop-next.state comes c.loop-next.before)
     c.in_err-found.ensures.spoken)
 
 pub returns-then-ends_search-clause-spoken : goal.returns-then-ends_search-clause-spoken
@@ -44,7 +44,7 @@ returns-then-ends_search-clause-spoken g c =
     let head = c.in-Some.head in
     let comes = comes_here db verb head (rw c.in-Some.is at c.loop-next.invariant.at_head) in
     along_end (search_turn (is_for_noun (noun_at db head) noun) db c.args.typed.now (group_at db head) c.loop-next.state).events (rw c.in-Some.is at c.loop-next.invariant.along)
-    (ap (λ w. w.events) (searched-end db c.args.typed.now verb noun head head c.loop-next.state comes c.in_ok-found.found c.loop-next.before c.in_ok-found.ensures.found (sym c.if-ends_search.ensures)))
+    (ap (λ w. w.events) (search_result-end db c.args.typed.now verb noun head head c.loop-next.state comes c.in_ok-found.found c.loop-next.before c.in_ok-found.ensures.found (sym c.if-ends_search.ensures)))
     c.in_ok-found.ensures.spoken
 
 pub returns-then-ends_search-clause-left : goal.returns-then-ends_search-clause-left
@@ -55,7 +55,7 @@ returns-then-ends_search-clause-left g c =
     let head = c.in-Some.head in
     let comes = comes_here db verb head (rw c.in-Some.is at c.loop-next.invariant.at_head) in
     along_value (rw c.in-Some.is at c.loop-next.invariant.along)
-    ∙ ap (λ w. w.value) (searched-end db c.args.typed.now verb noun head head c.loop-next.state comes c.in_ok-found.found c.loop-next.before c.in_ok-found.ensures.found (sym c.if-ends_search.ensures))
+    ∙ ap (λ w. w.value) (search_result-end db c.args.typed.now verb noun head head c.loop-next.state comes c.in_ok-found.found c.loop-next.before c.in_ok-found.ensures.found (sym c.if-ends_search.ensures))
     ∙ rw (c.in_ok-found.ensures.state, c.in_ok-found.ensures.found) refl
 
 pub loop-next-preserved : goal.loop-next-preserved
@@ -69,15 +69,15 @@ loop-next-preserved g c =
     let found = c.in_ok-found.found in
     let before = c.loop-next.before in
     let comes = comes_here db verb head (rw c.in-Some.is at c.loop-next.invariant.at_head) in
-    let behind : IsFirst db verb (head + 1) c.head_behind-next.result = rw (verb_of_head verb (action_at db head) comes.is_head) at c.head_behind-next.ensures in
+    let rest : IsFirst db verb (head + 1) c.head_after-next.result = rw (verb_of_head verb (action_at db head) comes.is_head) at c.head_after-next.ensures in
     record {
-      at_head = head_found db verb (head + 1) c.head_behind-next.result behind;
-      fits = c.take_turn.ensures.fits;
+      at_head = head_found db verb (head + 1) c.head_after-next.result rest;
+      fits = c.search_turn.ensures.fits;
       begun = rw c.at_least-before.ensures (at_least-begun found before (sym c.if-ends_search.ensures) c.loop-next.invariant.begun);
       along = rw c.at_least-before.ensures
-          (along_step t.events (with_before (at_least found before) (searched db typed verb noun (groups_for db verb (line_of db c.head_behind-next.result)) c.take_turn.new.state)) (rw c.in-Some.is at c.loop-next.invariant.along)
-          (searched-on db typed verb noun head head c.loop-next.state comes found before c.in_ok-found.ensures.found (sym c.if-ends_search.ensures) c.loop-next.invariant.begun
-          c.take_turn.new.state c.in_ok-found.ensures.state
-          ∙ ap (λ gs. after t.events (with_before (at_least found before) (searched db typed verb noun gs c.take_turn.new.state))) (groups_for-found db verb (head + 1) c.head_behind-next.result behind))
+          (along_step t.events (with_before (at_least found before) (search_result db typed verb noun (groups_for db verb (line_of db c.head_after-next.result)) c.search_turn.new.state)) (rw c.in-Some.is at c.loop-next.invariant.along)
+          (search_result-on db typed verb noun head head c.loop-next.state comes found before c.in_ok-found.ensures.found (sym c.if-ends_search.ensures) c.loop-next.invariant.begun
+          c.search_turn.new.state c.in_ok-found.ensures.state
+          ∙ ap (λ gs. after t.events (with_before (at_least found before) (search_result db typed verb noun gs c.search_turn.new.state))) (groups_for-found db verb (head + 1) c.head_after-next.result rest))
           c.in_ok-found.ensures.spoken);
     }

@@ -1,23 +1,23 @@
 use Rattle.std.proofs.Common.{◌≡◌, ◌-◌, false, length}
 use Rattle.scott_types.specs.State.{Fits}
 use Rattle.scott_rules.specs.Groups.{groups}
-use Rattle.scott_rules.specs.Search.{searched}
+use Rattle.scott_rules.specs.Search.{search_result}
 use Rattle.scott_turn.specs.Heads.{groups_for, line_of, IsHead}
 use Rattle.scott_turn.specs.Turns.{with_before, ends_search}
-use Rattle.scott_turn.proofs.Going.{Along}
+use Rattle.adv_io.proofs.Along.{Along}
 use Rattle.scott_turn.proofs.searching.search.Given as goal
 
 -- what is still to come are the verb's groups from the next head on, and what those before came to
 abbrev pub invariant-loop-next : goal.invariant-loop-next
 invariant-loop-next g l =
-    let console = g.C.Console in
+    let seen = g.C.Console.seen in
     record {
       at_head : IsHead l.game l.command.verb l.next;
       fits : Fits l.game l.state;
       begun : ends_search l.before ≡ false;
-      along : Along console.history console.left console.bound console.faults
-          (searched l.game l.typed l.command.verb l.command.noun (groups l.game) l.initial.state)
-          (with_before l.before (searched l.game l.typed l.command.verb l.command.noun (groups_for l.game l.command.verb (line_of l.game l.next)) l.state)) l.initial.console l.console;
+      along : Along
+          (search_result l.game l.typed l.command.verb l.command.noun (groups l.game) l.initial.state)
+          (with_before l.before (search_result l.game l.typed l.command.verb l.command.noun (groups_for l.game l.command.verb (line_of l.game l.next)) l.state)) (seen l.initial.console) (seen l.console);
     }
 
 abbrev pub decreases-loop-next : goal.decreases-loop-next

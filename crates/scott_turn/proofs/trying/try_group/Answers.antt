@@ -1,17 +1,17 @@
 use Rattle.std.proofs.Common.{◌≡◌, ◌∙◌, ◌+◌, true, sym, ap}
 use Rattle.scott_types.specs.declared.endings.Ran.TheVariants.{Passed}
-use Rattle.scott_rules.specs.Lines.{line_tried}
+use Rattle.scott_rules.specs.Actions.{try_action}
 use Rattle.scott_rules.specs.Groups.{tail_tried}
 use Rattle.scott_turn.specs.Heads.{tail_from, group_at}
-use Rattle.scott_turn.proofs.Going.{as_ok, as_err, steps_then, steps_stop}
-use Rattle.scott_turn.proofs.Tries.{group-goes_on, group-front, behind}
+use Rattle.adv_io.proofs.Along.{as_ok, as_err, steps_then, steps_stop}
+use Rattle.scott_turn.proofs.Tries.{group-goes_on, group-prefix, tail_steps}
 use Rattle.scott_turn.proofs.trying.try_group.Goals as goal
 
 pub returns-in-Ok-try_tail-clause-spoken : goal.returns-in-Ok-try_tail-clause-spoken
 returns-in-Ok-try_tail-clause-spoken g c =
     let db = c.args.db.now in
     let noun = c.args.noun.now in
-    let t = line_tried db noun c.args.head c.args.state.now in
+    let t = try_action db noun c.args.head c.args.state.now in
     let on : t.value.ran ≡ Passed true = sym c.in-Ok-Passed-true.ensures.ran ∙ c.in-Ok-Passed-true.field-0-is ∙ ap Passed c.in-Ok-Passed-true.field-0-0-test in
     rw (group-goes_on db noun (group_at db c.args.head) c.args.state.now on)
     (steps_then t.events (tail_tried db noun (tail_from db (c.args.head + 1)) t.value.state).events
@@ -22,7 +22,7 @@ pub returns-in-Err-try_tail-clause-spoken : goal.returns-in-Err-try_tail-clause-
 returns-in-Err-try_tail-clause-spoken g c =
     let db = c.args.db.now in
     let noun = c.args.noun.now in
-    let t = line_tried db noun c.args.head c.args.state.now in
+    let t = try_action db noun c.args.head c.args.state.now in
     let on : t.value.ran ≡ Passed true = sym c.in-Ok-Passed-true.ensures.ran ∙ c.in-Ok-Passed-true.field-0-is ∙ ap Passed c.in-Ok-Passed-true.field-0-0-test in
     rw (group-goes_on db noun (group_at db c.args.head) c.args.state.now on)
     (steps_then t.events (tail_tried db noun (tail_from db (c.args.head + 1)) t.value.state).events
@@ -33,6 +33,6 @@ pub returns-in-Err-clause-spoken : goal.returns-in-Err-clause-spoken
 returns-in-Err-clause-spoken g c =
     let db = c.args.db.now in
     let noun = c.args.noun.now in
-    let t = line_tried db noun c.args.head c.args.state.now in
-    rw (group-front db noun (group_at db c.args.head) c.args.state.now)
-    (steps_stop c.in-Err.fault t.events (behind t.value.ran db noun (group_at db c.args.head) t) c.in-Err.ensures.spoken)
+    let t = try_action db noun c.args.head c.args.state.now in
+    rw (group-prefix db noun (group_at db c.args.head) c.args.state.now)
+    (steps_stop c.in-Err.fault t.events (tail_steps t.value.ran db noun (group_at db c.args.head) t) c.in-Err.ensures.spoken)

@@ -1,10 +1,10 @@
 use Rattle.std.proofs.Common.{◌+◌, sym, ap, arith}
 use Rattle.std.proofs.lemmas.Result.{err_from_is_err_and}
-use Rattle.scott_rules.specs.Groups.{tail_line, tail_tried}
+use Rattle.scott_rules.specs.Groups.{tail_action, tail_tried}
 use Rattle.scott_turn.specs.Heads.{tail_from}
-use Rattle.scott_turn.proofs.Seeing.{behind_part}
-use Rattle.scott_turn.proofs.Going.{along_step, along_end, along_stop}
-use Rattle.scott_turn.proofs.Tries.{tail-on, tail-over, tail-front}
+use Rattle.scott_turn.proofs.Showing.{after_part}
+use Rattle.adv_io.proofs.Along.{along_step, along_end, along_stop}
+use Rattle.scott_turn.proofs.Tries.{tail-on, tail-over, tail-prefix}
 use Rattle.scott_turn.proofs.trying.try_tail.Goals as goal
 
 pub returns-in_err-over-clause-spoken : goal.returns-in_err-over-clause-spoken
@@ -12,11 +12,11 @@ returns-in_err-over-clause-spoken g c =
     let db = c.args.db.now in
     let noun = c.args.noun.now in
     let line = c.loop-state.line in
-    let t = tail_line db noun line c.loop-state.state in
+    let t = tail_action db noun line c.loop-state.state in
     let p = err_from_is_err_and c.from_residual.result c.from_residual.ensures.1 in
     rw (p.1)
-    (along_stop p.0 t.events (behind_part t.value.over t (tail_tried db noun (tail_from db (line + 1)))) c.loop-state.invariant.along
-    (tail-front db noun line c.loop-state.state c.loop-state-test.ensures.1)
+    (along_stop p.0 t.events (after_part t.value.over t (tail_tried db noun (tail_from db (line + 1)))) c.loop-state.invariant.along
+    (tail-prefix db noun line c.loop-state.state c.loop-state-test.ensures.1)
     c.in_err-over.ensures.spoken)
 
 pub returns-then-is_some-clause-spoken : goal.returns-then-is_some-clause-spoken
@@ -24,7 +24,7 @@ returns-then-is_some-clause-spoken g c =
     let db = c.args.db.now in
     let noun = c.args.noun.now in
     let line = c.loop-state.line in
-    let t = tail_line db noun line c.loop-state.state in
+    let t = tail_action db noun line c.loop-state.state in
     along_end t.events c.loop-state.invariant.along
     (ap (λ w. w.events) (tail-over db noun line c.loop-state.state c.in_ok-over.over c.in_ok-over.ensures.over c.loop-state-test.ensures.1 (sym c.if-is_some.ensures)))
     c.in_ok-over.ensures.spoken
@@ -34,11 +34,11 @@ loop-state-preserved g c =
     let db = c.args.db.now in
     let noun = c.args.noun.now in
     let line = c.loop-state.line in
-    let t = tail_line db noun line c.loop-state.state in
+    let t = tail_action db noun line c.loop-state.state in
     record {
       few = omega arith;
-      fits = c.try_tail_line.ensures.fits;
-      along = along_step t.events (tail_tried db noun (tail_from db (line + 1)) c.try_tail_line.new.state) c.loop-state.invariant.along
-          (tail-on db noun line c.loop-state.state c.in_ok-over.over c.in_ok-over.ensures.over c.loop-state-test.ensures.1 (sym c.if-is_some.ensures) c.try_tail_line.new.state c.in_ok-over.ensures.state)
+      fits = c.try_tail_action.ensures.fits;
+      along = along_step t.events (tail_tried db noun (tail_from db (line + 1)) c.try_tail_action.new.state) c.loop-state.invariant.along
+          (tail-on db noun line c.loop-state.state c.in_ok-over.over c.in_ok-over.ensures.over c.loop-state-test.ensures.1 (sym c.if-is_some.ensures) c.try_tail_action.new.state c.in_ok-over.ensures.state)
           c.in_ok-over.ensures.spoken;
     }

@@ -2,19 +2,19 @@ use Rattle.std.proofs.Common.{◌-◌, ◌≤◌, length}
 use Rattle.scott_types.specs.State.{Fits}
 use Rattle.scott_rules.specs.Groups.{tail_tried}
 use Rattle.scott_turn.specs.Heads.{tail_from}
-use Rattle.scott_turn.proofs.Going.{Along}
+use Rattle.adv_io.proofs.Along.{Along}
 use Rattle.scott_turn.proofs.trying.try_tail.Given as goal
 
 -- what is still to come is the tail from this line on
 abbrev pub invariant-loop-state : goal.invariant-loop-state
 invariant-loop-state g l =
-    let console = g.C.Console in
+    let seen = g.C.Console.seen in
     record {
       few : length l.db.actions ≤ 5000;
       fits : Fits l.db l.state;
-      along : Along console.history console.left console.bound console.faults
+      along : Along
           (tail_tried l.db l.noun (tail_from l.db l.initial.line) l.initial.state)
-          (tail_tried l.db l.noun (tail_from l.db l.line) l.state) l.initial.console l.console;
+          (tail_tried l.db l.noun (tail_from l.db l.line) l.state) (seen l.initial.console) (seen l.console);
     }
 
 abbrev pub decreases-loop-state : goal.decreases-loop-state

@@ -7,8 +7,8 @@ pub returns-in_ok-self-inside-clause-found : goal.returns-in_ok-self-inside-clau
 returns-in_ok-self-inside-clause-found c = λ typed.
     let v = c.or_insert.result.now in
     let e = (c.in_ok-self-inside.ensures.update.0 v).0 (key_of c.self.inside.size typed) in
-    rw (c.in-Some.is, ← c.self.view_is) (put_found c.self.inside.size c.args.entry.now.word.now typed c.self.inside.plain.entries _ c.letters.result c.in-Some.plain v
+    rw (c.in-Some.is, ← c.self.view_is) (put_found c.self.inside.size c.args.entry.now.word.now typed c.self.inside.base.entries _ c.letters.result c.in-Some.base v
     c.letters.ensures
     (grind (arith, common_steps, c.is_empty.ensures))
-    (c.or_insert.ensures.value ∙ ap (λ o. unwrap_or o c.in-Some.plain) c.in_ok-self-inside.ensures.value)
+    (c.or_insert.ensures.value ∙ ap (λ o. unwrap_or o c.in-Some.base) c.in_ok-self-inside.ensures.value)
     (search rules))

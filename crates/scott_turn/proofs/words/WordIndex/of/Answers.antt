@@ -5,10 +5,10 @@ use Rattle.scott_turn.proofs.words.WordIndex.of.Goals as goal
 pub loop-k-preserved : goal.loop-k-preserved
 loop-k-preserved c = record {
   finds =
-      finds_further c.args.db.now c.args.column c.loop-k.nearest c.entry_at-entry.result.plain c.loop-k.k c.entry_at-entry.result.word.now c.loop-k.index c.add.new.self
+      finds_further c.args.db.now c.args.column c.loop-k.nearest c.entry_at-entry.result.base c.loop-k.k c.entry_at-entry.result.word.now c.loop-k.index c.add.new.self
       c.loop-k.invariant.size c.entry_at-entry.ensures.names c.in_ok-add.ensures.found c.loop-k.invariant.finds;
   size = c.in_ok-add.ensures.size ∙ c.loop-k.invariant.size;
-  before = c.entry_at-entry.ensures.plain;
+  before = c.entry_at-entry.ensures.base;
 }
 
 pub returns : goal.returns

@@ -1,7 +1,0 @@
--- Texts that were gathered.
-use Rattle.std.specs.Prelude.{ℕ, List}
-
--- the text that they make, and how many they are
-pub record Gathered : Type 0 where
-  pub text : List ℕ
-  pub pieces : ℕ

@@ -1,0 +1,4 @@
+pub mod Parts
+pub mod Settings
+pub mod Request
+pub mod Views

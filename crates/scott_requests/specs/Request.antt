@@ -1,0 +1,38 @@
+-- What the words of the command line ask for.
+use Rattle.std.specs.Prelude.{ℕ, List, [], ◌∷◌, map, String, string_bytes, Option, Some, None, option_map, unwrap_or, bytes_eq, codes, if◌then◌else◌}
+use Rattle.std.specs.Option.{option_and_then}
+use Rattle.scott_requests.specs.declared.settings.TheConstants.{FIRST_SEED}
+use Rattle.scott_requests.specs.Parts.{file_name}
+use Rattle.scott_requests.specs.Settings.{DrawSource, seeded, no_settings, settings_from}
+
+-- the file of this name is to be checked, or to be played with these draws
+pub data Request : Type 0 where
+  check : List ℕ → Request
+  play : List ℕ → DrawSource → Request
+
+-- ---- the forms of the commands: what the words after a command ask for
+
+-- one file
+abbrev pub check_form : List (List ℕ) → Option Request
+check_form (game ∷ []) = option_map check (file_name game)
+check_form _ = None
+
+-- one file, and settings: where the draws come from
+abbrev pub play_form : List (List ℕ) → Option Request
+play_form [] = None
+play_form (game ∷ words) =
+    option_and_then (λ name. option_map (λ settings. play name (unwrap_or settings.source (seeded FIRST_SEED))) (settings_from no_settings words))
+    (file_name game)
+
+-- ---- requests
+
+-- what words ask for: a command, and its form
+abbrev pub request_in : List (List ℕ) → Option Request
+request_in [] = None
+request_in (command ∷ words) =
+    if bytes_eq command (codes "check") then check_form words else
+    if bytes_eq command (codes "play") then play_form words else None
+
+-- the same of the program's words
+abbrev pub asked_by : {Z : Type 0} → List (String Z) → Option Request
+asked_by words = request_in (map string_bytes words)

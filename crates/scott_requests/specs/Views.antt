@@ -1,0 +1,25 @@
+-- Requests and settings as the program holds them.
+use Rattle.std.specs.Prelude.{option_map}
+use Rattle.scott_requests.specs.declared.settings.DrawSource.{DrawSource as HeldSource}
+use Rattle.scott_requests.specs.declared.settings.DrawSource.TheVariants.{Listed, Seeded}
+use Rattle.scott_requests.specs.declared.settings.Setting.{Setting as HeldSetting}
+use Rattle.scott_requests.specs.declared.settings.Setting.TheVariants.{Draws}
+use Rattle.scott_requests.specs.declared.settings.Settings.{Settings as HeldSettings}
+use Rattle.scott_requests.specs.declared.requests.Request.{Request as HeldRequest}
+use Rattle.scott_requests.specs.declared.requests.Request.TheVariants.{Check, Play}
+use Rattle.scott_requests.specs.Settings.{DrawSource, listed, seeded, Setting, draws, Settings}
+use Rattle.scott_requests.specs.Request.{Request, check, play}
+
+abbrev pub source_of : HeldSource → DrawSource
+source_of (Listed name) = listed name.now
+source_of (Seeded seed) = seeded seed
+
+abbrev pub setting_of : HeldSetting → Setting
+setting_of (Draws source) = draws (source_of source)
+
+abbrev pub settings_of : HeldSettings → Settings
+settings_of settings = record { source = option_map source_of settings.draws }
+
+abbrev pub request_of : HeldRequest → Request
+request_of (Check game) = check game.now
+request_of (Play game source) = play game.now (source_of source)

@@ -1,0 +1,15 @@
+//! Requests: what the words of the command line ask for.
+#![tactic(auto)]
+
+// The parts of a request: names, numbers and settings.
+mod parts;
+mod settings;
+
+// The requests.
+mod requests;
+
+pub use requests::{Request, request_in};
+pub use settings::{DrawSource, FIRST_SEED};
+
+#[cfg(test)]
+mod tests;

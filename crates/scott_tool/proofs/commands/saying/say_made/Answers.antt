@@ -1,0 +1,21 @@
+use Rattle.std.proofs.Common.{refl}
+use Rattle.adv_io.specs.History.{says}
+use Rattle.scott_tool.specs.Views.{refusal_of}
+use Rattle.scott_tool.proofs.Obeying.{obeys-shown, obeys-declined, known_said, known_part}
+use Rattle.scott_tool.proofs.commands.saying.say_made.Goals as goal
+
+pub returns-in-Ok : goal.returns-in-Ok
+returns-in-Ok g c = λ expected makes.
+    let old = g.C.Console.seen c.args.console.now in
+    let new = g.C.Console.seen c.say.new.self in
+    let bytes = c.in-Ok.bytes.items in
+    let made = rw c.in-Ok.is at makes in
+    obeys-shown old new c.concluded.result made.0 (λ lines. says bytes) made.2 expected c.say.result made.1
+    (known_said old new c.concluded.result made.0 (λ lines. says bytes) made.2 c.say.result (says bytes) (λ lines. refl) (rw c.deref.ensures.value at c.say.ensures.said))
+    (known_part old new c.concluded.result made.0 (λ lines. says bytes) made.2 c.say.result (says bytes) (λ lines. refl) (rw c.deref.ensures.value at c.say.ensures.part))
+    c.say.ensures.cause c.concluded.ensures
+
+pub returns-in-Err : goal.returns-in-Err
+returns-in-Err g c = λ expected makes.
+    obeys-declined (g.C.Console.seen c.args.console.now) (g.C.Console.seen c.end.new.console) c.end.result
+    expected (refusal_of c.in-Err.refusal) (rw c.in-Err.is at makes) c.end.ensures

@@ -1,0 +1,59 @@
+-- The files that a request loads, before any of them is read.
+use Rattle.std.specs.Prelude.{◌≡◌, ◌⊎◌, ℕ, nat_le, List, [], length, Option, Some, None, Result, Ok, Err, if◌then◌else◌}
+use Rattle.std.specs.FinMap.{get}
+use Rattle.adv_io.specs.Shelf.{Files}
+use Rattle.scott_format.specs.declared.reading.TheConstants.{DATABASE_LIMIT}
+use Rattle.scott_requests.specs.Settings.{DrawSource, listed, seeded}
+use Rattle.scott_requests.specs.Request.{Request, check, play}
+use Rattle.scott_tool.specs.declared.loads.TheConstants.{DRAWS_LIMIT}
+use Rattle.scott_tool.specs.Steps.{◌>>=◌}
+use Rattle.scott_tool.specs.Refusal.{Refusal, unread, too_long}
+
+-- the file of this name is loaded, if it has at most so many bytes
+pub record Load : Type 0 where
+  pub name : List ℕ
+  pub limit : ℕ
+
+abbrev pub database_load : List ℕ → Load
+database_load name = record { name = name; limit = DATABASE_LIMIT }
+
+abbrev pub draws_load : DrawSource → Option Load
+draws_load (listed name) = Some (record { name = name; limit = DRAWS_LIMIT })
+draws_load (seeded seed) = None
+
+-- ---- what each request loads, in this order
+
+abbrev pub main_of : Request → Option Load
+main_of (check game) = Some (database_load game)
+main_of (play game source) = Some (database_load game)
+
+abbrev pub draws_of : Request → Option Load
+draws_of (check game) = None
+draws_of (play game source) = draws_load source
+
+-- one of the files that a request loads
+abbrev pub IsLoad : Request → Load → Type 0
+IsLoad request load = (main_of request ≡ Some load) ⊎ (draws_of request ≡ Some load)
+
+-- ---- loading
+
+-- a file is there and within its limit
+abbrev pub within_limit : Load → Option (List ℕ) → Result (List ℕ) Refusal
+within_limit load None = Err (unread load.name)
+within_limit load (Some bytes) = if nat_le (length bytes) load.limit then Ok bytes else Err (too_long load.name load.limit)
+
+-- the bytes of a file; where none is loaded, there are none
+abbrev pub loaded : Files → Option Load → Result (List ℕ) Refusal
+loaded files None = Ok []
+loaded files (Some load) = within_limit load (get files load.name)
+
+-- what a request loads
+pub record Texts : Type 0 where
+  pub main : List ℕ
+  pub draws : List ℕ
+
+abbrev pub texts_of : Files → Request → Result Texts Refusal
+texts_of files request = do
+  main ← loaded files (main_of request)
+  draws ← loaded files (draws_of request)
+  Ok (record { main = main; draws = draws })

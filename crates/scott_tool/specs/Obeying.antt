@@ -1,0 +1,110 @@
+-- What the functions of the program promise each other.
+use Rattle.std.specs.Prelude.{◌≡◌, ◌⊎◌, ◌≤◌, ℕ, List, length, Option, Some, None, IfSome, Result, Ok, Err, Contains, IfOk, IfErr, OnOk, Vec}
+use Rattle.adv_io.specs.Console.{ConsoleView}
+use Rattle.adv_io.specs.Faults.{Rose}
+use Rattle.adv_io.specs.History.{says}
+use Rattle.adv_io.specs.Shelf.{Files, ShelfView, Lacks}
+use Rattle.scott_format.specs.declared.faults.FormatFault.{FormatFault}
+use Rattle.scott_format.specs.declared.faults.FormatFault.TheVariants as answer
+use Rattle.scott_requests.specs.Request.{Request}
+use Rattle.scott_tool.specs.declared.refusals.ContentFault.TheVariants.{NoDatabase}
+use Rattle.scott_tool.specs.declared.refusals.Refusal.{Refusal as HeldRefusal}
+use Rattle.scott_tool.specs.Refusal.{Refusal, Unfit, no_request, unread, too_long, unfit, refusing}
+use Rattle.scott_tool.specs.Outcome.{Outcome, done, refused, Concludes, Silent}
+use Rattle.scott_tool.specs.Loading.{Load, Texts, main_of, IsLoad, texts_of}
+use Rattle.scott_tool.specs.Work.{Task, Does, work, statuses_of, IsExpected}
+use Rattle.scott_tool.specs.Views.{refusal_of}
+
+-- ---- the console
+
+-- One of these statuses; or, in its place, 9 for want of memory, or 3 or 2 where the console or the shelf failed.
+abbrev pub Stands : (ShelfFailed ConsoleFailed : Type 0) → List ℕ → (status : ℕ) → Type 0
+Stands ShelfFailed ConsoleFailed expected status =
+    Contains expected status ⊎ (status ≡ 9) ⊎ ((status ≡ 3) × ConsoleFailed) ⊎ ((status ≡ 2) × ShelfFailed)
+
+-- what is seen is an outcome that is expected, unless memory runs out
+abbrev pub Answers : (old new : ConsoleView) → List (List ℕ) → Result Task Refusal → (status : ℕ) → Type 0
+Answers old new lines expected status = ((o : Outcome) × IsExpected expected lines o × Concludes old new o status) ⊎ Silent old new status
+
+-- what a call promises that does what is expected
+pub record Obeys (old new : ConsoleView) (expected : Result Task Refusal) (status : ℕ) : Type 0 where
+  pub answered : IfSome old.left (λ lines. Answers old new lines expected status)
+  pub stands : Stands ⊥ (Rose old.faults new.faults) (statuses_of expected) status
+  pub silent : status ≡ 9 → new.history ≡ old.history
+  pub lines : (status ≡ 0) ⊎ (status ≡ 3) ⊎ (new.left ≡ old.left)
+  pub later : old.faults ≤ new.faults
+  pub steady : (status ≡ 0) ⊎ (status ≡ 9) → new.faults ≡ old.faults
+
+-- for a refusal with its status and its line; for want of memory with status 9, and nothing is said
+abbrev pub EndsFor : (old new : ConsoleView) → Option Refusal → (status : ℕ) → Type 0
+EndsFor old new None status = Silent old new status
+EndsFor old new (Some refusal) status = Concludes old new (refused refusal) status
+
+-- what a call promises that ends for a refusal
+pub record Refuses (old new : ConsoleView) (refusal : Option Refusal) (status : ℕ) : Type 0 where
+  pub ended : EndsFor old new refusal status
+  pub lines : new.left ≡ old.left
+  pub later : old.faults ≤ new.faults
+  pub steady : status ≡ 9 → new.faults ≡ old.faults
+
+-- ---- contents
+
+-- a content is refused as is due, unless memory ran out
+abbrev pub Declines : {X : Type 0} → Result X Unfit → Option Refusal → Type 0
+Declines expected None = Unit {0}
+Declines expected (Some no_request) = ⊥
+Declines expected (Some (unread name)) = ⊥
+Declines expected (Some (too_long name limit)) = ⊥
+Declines expected (Some (unfit u)) = expected ≡ Err u
+
+-- a value is the one that is expected, unless memory ran out
+abbrev pub Gives : {T X : Type 0} → (T → X) → Result T HeldRefusal → Result X Unfit → Type 0
+Gives view (Ok given) expected = expected ≡ Ok (view given)
+Gives view (Err refusal) expected = Declines expected (refusal_of refusal)
+
+-- the refusal of a fault of the format; want of memory is none
+abbrev pub database_refusal : List ℕ → FormatFault → Option Refusal
+database_refusal name answer.Memory = None
+database_refusal name fault = Some (unfit (record { name = name; fault = NoDatabase fault }))
+
+-- bytes are all that the expected task says, whatever lines are left
+abbrev pub Makes : {A : Type 0} → Result (Vec ℕ A) HeldRefusal → Result Task Unfit → Type 0
+Makes (Ok bytes) expected = (task : Task) × (expected ≡ Ok task) × ((lines : List (List ℕ)) → Does task lines (done (says bytes.items)))
+Makes (Err refusal) expected = Declines expected (refusal_of refusal)
+
+-- ---- files
+
+-- Why files weren't loaded, of which `Loaded` are. That one can't be read can come of a shelf that failed; else it isn't there.
+abbrev pub Misses : {X : Type 0} → (old new : ShelfView) → (Loaded : Load → Type 0) → (Files → Result X Refusal) → Option Refusal → Type 0
+Misses old new Loaded expected None = new.faults ≡ old.faults
+Misses old new Loaded expected (Some no_request) = ⊥
+Misses old new Loaded expected (Some (unread name)) =
+    ((load : Load) × Loaded load × (load.name ≡ name))
+    × (Rose old.faults new.faults ⊎ (Lacks old.files name × IfSome old.files (λ files. expected files ≡ Err (unread name))))
+Misses old new Loaded expected (Some (too_long name limit)) = IfSome old.files (λ files. expected files ≡ Err (too_long name limit))
+Misses old new Loaded expected (Some (unfit u)) = ⊥
+
+-- what a call promises that loads: a value as it is expected of the files, or why not
+pub record Fetches {T X : Type 0} (view : T → X) (old new : ShelfView) (Loaded : Load → Type 0) (expected : Files → Result X Refusal) (result : Result T HeldRefusal) : Type 0 where
+  pub found : IfOk result (λ given. IfSome old.files (λ files. expected files ≡ Ok (view given)))
+  pub missed : IfErr result (λ refusal. Misses old new Loaded expected (refusal_of refusal))
+  pub files_stay : new.files ≡ old.files
+  pub later : old.faults ≤ new.faults
+  pub steady : OnOk result (new.faults ≡ old.faults)
+
+-- the main file that was loaded is within its limit
+abbrev pub MainFits : Request → Texts → Type 0
+MainFits request texts = IfSome (main_of request) (λ load. length texts.main ≤ load.limit)
+
+-- ---- requests
+
+-- How what was asked for was handled: the words were no request, a file wasn't loaded, or all were and the work was done on them.
+pub data Handled (shelf shelf' : ShelfView) (console console' : ConsoleView) (asked : Option Request) (status : ℕ) : Type 0 where
+  not_asked : asked ≡ None → shelf' ≡ shelf → Refuses console console' (Some no_request) status
+      → Handled shelf shelf' console console' asked status
+  not_loaded : (request : Request) (refusal : Option Refusal) → asked ≡ Some request
+      → Misses shelf shelf' (IsLoad request) (λ files. texts_of files request) refusal → shelf'.files ≡ shelf.files → shelf.faults ≤ shelf'.faults
+      → Refuses console console' refusal status → Handled shelf shelf' console console' asked status
+  worked : (request : Request) (texts : Texts) → asked ≡ Some request
+      → IfSome shelf.files (λ files. texts_of files request ≡ Ok texts) → shelf'.files ≡ shelf.files → shelf'.faults ≡ shelf.faults
+      → Obeys console console' (refusing (work request texts)) status → Handled shelf shelf' console console' asked status

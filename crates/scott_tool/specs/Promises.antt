@@ -1,0 +1,70 @@
+-- What the program promises, whatever words, files and lines it is given.
+use Rattle.std.specs.Prelude.{◌≡◌, ◌⊎◌, ◌≤◌, ℕ, List, [], ◌∷◌, Option, Some, None, IfSome, Contains}
+use Rattle.adv_io.specs.Console.{ConsoleView}
+use Rattle.adv_io.specs.Faults.{Rose}
+use Rattle.adv_io.specs.Shelf.{Files, ShelfView}
+use Rattle.scott_requests.specs.Settings.{DrawSource}
+use Rattle.scott_requests.specs.Request.{Request, check, play}
+use Rattle.scott_tool.specs.Refusal.{no_request, unread}
+use Rattle.scott_tool.specs.Outcome.{statuses, refused, Concludes}
+use Rattle.scott_tool.specs.Work.{expected, statuses_of}
+use Rattle.scott_tool.specs.Obeying.{Stands, Answers}
+use Rattle.scott_tool.specs.Causes.{OneLoaded, HasCause, IsAccepted}
+use Rattle.scott_tool.specs.Check.{Checked}
+use Rattle.scott_tool.specs.Play.{Played}
+
+-- where the files and the lines are known, this holds of both
+abbrev pub IfKnown : ShelfView → ConsoleView → (Files → List (List ℕ) → Type 0) → Type 0
+IfKnown shelf console P = IfSome shelf.files (λ files. IfSome console.left (P files))
+
+-- ---- the status
+
+-- one of these; or 9 for want of memory, or 3 or 2 where the console or the shelf failed in this call
+abbrev pub IsOneOf : (shelf shelf' : ShelfView) → (console console' : ConsoleView) → List ℕ → (status : ℕ) → Type 0
+IsOneOf shelf shelf' console console' wanted status = Stands (Rose shelf.faults shelf'.faults) (Rose console.faults console'.faults) wanted status
+
+-- There are eight statuses, each comes only with its cause, and it is the expected one: that of the first refusal in the order of the
+-- steps, or of what is done.
+pub record HasStatus (shelf shelf' : ShelfView) (console console' : ConsoleView) (asked : Option Request) (status : ℕ) : Type 0 where
+  pub known : Contains statuses status
+  pub cause : HasCause shelf shelf' console console' asked status
+  pub first : IfSome shelf.files (λ files. IsOneOf shelf shelf' console console' (statuses_of (expected files asked)) status)
+
+-- where all files are there and accepted, it is 0
+abbrev pub Completes : (shelf shelf' : ShelfView) → (console console' : ConsoleView) → Option Request → (status : ℕ) → Type 0
+Completes shelf shelf' console console' asked status =
+    IfSome shelf.files (λ files. IsAccepted files asked → IsOneOf shelf shelf' console console' (0 ∷ []) status)
+
+-- ---- what is seen
+
+-- where the shelf failed, it is said that a file of the request can't be read
+abbrev pub SaysUnread : (shelf shelf' : ShelfView) → (console console' : ConsoleView) → Option Request → (status : ℕ) → Type 0
+SaysUnread shelf shelf' console console' asked status =
+    Rose shelf.faults shelf'.faults × OneLoaded asked (λ load. Concludes console console' (refused (unread load.name)) status)
+
+-- It is what is expected, or a prefix of it where the console failed. With 9 it is nothing, and only what is done, or fails at the
+-- console, may take a line.
+pub record IsSeen (shelf shelf' : ShelfView) (console console' : ConsoleView) (asked : Option Request) (status : ℕ) : Type 0 where
+  pub all : IfKnown shelf console (λ files lines. Answers console console' lines (expected files asked) status ⊎ SaysUnread shelf shelf' console console' asked status)
+  pub usage : asked ≡ None → Concludes console console' (refused no_request) status
+  pub silent : status ≡ 9 → console'.history ≡ console.history
+  pub lines : (status ≡ 0) ⊎ (status ≡ 3) ⊎ (console'.left ≡ console.left)
+
+-- ---- with status 0
+
+abbrev pub HasChecked : ShelfView → (console console' : ConsoleView) → Option Request → Type 0
+HasChecked shelf console console' asked =
+    (game : List ℕ) → asked ≡ Some (check game) → IfKnown shelf console (λ files lines. Checked files game console console')
+
+abbrev pub HasPlayed : ShelfView → (console console' : ConsoleView) → Option Request → Type 0
+HasPlayed shelf console console' asked =
+    (game : List ℕ) (source : DrawSource) → asked ≡ Some (play game source)
+    → IfKnown shelf console (λ files lines. Played files lines game source console console')
+
+-- ---- counts of faults
+
+-- none falls, and with 0 and 9 none rose
+pub record Counts (shelf shelf' : ShelfView) (console console' : ConsoleView) (status : ℕ) : Type 0 where
+  pub shelf_later : shelf.faults ≤ shelf'.faults
+  pub console_later : console.faults ≤ console'.faults
+  pub steady : (status ≡ 0) ⊎ (status ≡ 9) → (shelf'.faults ≡ shelf.faults) × (console'.faults ≡ console.faults)

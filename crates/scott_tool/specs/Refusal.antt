@@ -1,0 +1,71 @@
+-- Why a request isn't done: its status, and the line that is said of it.
+use Rattle.std.specs.Prelude.{ℕ, List, [], ◌∷◌, ◌++◌, Result, Ok, Err, codes, decimal}
+use Rattle.std.specs.List.{flat_map}
+use Rattle.adv_draws.specs.Texts as draws
+use Rattle.scott_format.specs.FaultTexts as format
+use Rattle.scott_tool.specs.declared.refusals.ContentFault.{ContentFault}
+use Rattle.scott_tool.specs.declared.refusals.ContentFault.TheVariants.{NoDatabase, NoDraws}
+
+-- the content of the file of this name has a fault
+pub record Unfit : Type 0 where
+  pub name : List ℕ
+  pub fault : ContentFault
+
+-- the words are no request; a file can't be read, is longer than its limit, or has a fault
+pub data Refusal : Type 0 where
+  no_request : Refusal
+  unread : List ℕ → Refusal
+  too_long : List ℕ → ℕ → Refusal
+  unfit : Unfit → Refusal
+
+-- a content's fault is one of the refusals
+abbrev pub refusing : {X : Type 0} → Result X Unfit → Result X Refusal
+refusing (Ok x) = Ok x
+refusing (Err u) = Err (unfit u)
+
+-- ---- statuses
+
+abbrev pub content_status : ContentFault → ℕ
+content_status (NoDatabase fault) = 4
+content_status (NoDraws fault) = 5
+
+abbrev pub status_of : Refusal → ℕ
+status_of no_request = 1
+status_of (unread name) = 2
+status_of (too_long name limit) = 11
+status_of (unfit u) = content_status u.fault
+
+-- ---- lines, in pieces
+
+-- how the program is called
+unfoldable pub usage : List ℕ
+usage = codes "usage: scott check F | play F\n"
+
+unfoldable pub cannot_read : List ℕ
+cannot_read = codes "cannot read "
+
+unfoldable pub after_name : List ℕ
+after_name = codes ": "
+
+unfoldable pub longer_than : List ℕ
+longer_than = codes ": longer than "
+
+unfoldable pub bytes_end : List ℕ
+bytes_end = codes " bytes\n"
+
+unfoldable pub line_end : List ℕ
+line_end = codes "\n"
+
+abbrev pub content_pieces : ContentFault → List (List ℕ)
+content_pieces (NoDatabase fault) = format.fault_pieces fault
+content_pieces (NoDraws fault) = draws.fault_pieces fault
+
+abbrev pub whole : List (List ℕ) → List ℕ
+whole pieces = flat_map (λ piece. piece) pieces
+
+-- the one line that is said
+abbrev pub line_of : Refusal → List ℕ
+line_of no_request = usage
+line_of (unread name) = whole (cannot_read ∷ name ∷ line_end ∷ [])
+line_of (too_long name limit) = whole (name ∷ longer_than ∷ decimal limit ∷ bytes_end ∷ [])
+line_of (unfit u) = whole (u.name ∷ after_name ∷ (content_pieces u.fault ++ (line_end ∷ [])))

@@ -1,0 +1,194 @@
+//! Why a request isn't done: its status, and the line that is said of it.
+ghost use Rattle.std.specs.Prelude.{◌≡◌, ◌≤◌, MatchResult};
+ghost use Rattle.adv_io.specs.History.{says};
+ghost use Rattle.adv_io.specs.Console.{Speaks};
+ghost use Rattle.scott_tool.specs.declared.refusals.ContentFault.TheVariants.{NoDatabase, NoDraws};
+ghost use Rattle.scott_tool.specs.Refusal.{no_request, unread, too_long, unfit, content_status, usage, cannot_read, after_name, longer_than, bytes_end, line_end, line_of};
+
+use adv_draws::DrawFault;
+use adv_io::{Console, ConsoleFault, say_all};
+use itoa::Buffer;
+use scott_format::FormatFault;
+
+/// What is wrong with the content of a file. `Memory` is no fault of a content.
+#[derive(Clone, Copy, Debug, PartialEq, Eq)]
+pub enum ContentFault {
+    NoDatabase(FormatFault),
+    NoDraws(DrawFault),
+}
+
+/// Why a request isn't done.
+///
+/// - `NoRequest`: the words ask for nothing.
+/// - `Unread`: the file of this name isn't there, or the shelf failed.
+/// - `TooLong`: the file of this name has more bytes than this limit.
+/// - `Unfit`: the content of the file of this name has a fault.
+/// - `Memory`: memory ran out. Nothing is said of it.
+#[derive(Clone, Copy, Debug, PartialEq, Eq)]
+pub enum Refusal<'a> {
+    NoRequest,
+    Unread(&'a str),
+    TooLong(&'a str, usize),
+    Unfit(&'a str, ContentFault),
+    Memory,
+}
+
+// The line that tells how the program is called.
+#[tactic(auto, unfolding(crate::specs::Refusal::usage))]
+fn usage<'a>() -> &'a [u8]
+    ensures { result.now ≡ usage }
+{
+    b"usage: scott check F | play F\n"
+}
+
+#[tactic(auto, unfolding(crate::specs::Refusal::cannot_read))]
+fn cannot_read<'a>() -> &'a [u8]
+    ensures { result.now ≡ cannot_read }
+{
+    b"cannot read "
+}
+
+#[tactic(auto, unfolding(crate::specs::Refusal::after_name))]
+fn after_name<'a>() -> &'a [u8]
+    ensures { result.now ≡ after_name }
+{
+    b": "
+}
+
+#[tactic(auto, unfolding(crate::specs::Refusal::longer_than))]
+fn longer_than<'a>() -> &'a [u8]
+    ensures { result.now ≡ longer_than }
+{
+    b": longer than "
+}
+
+#[tactic(auto, unfolding(crate::specs::Refusal::bytes_end))]
+fn bytes_end<'a>() -> &'a [u8]
+    ensures { result.now ≡ bytes_end }
+{
+    b" bytes\n"
+}
+
+#[tactic(auto, unfolding(crate::specs::Refusal::line_end))]
+fn line_end<'a>() -> &'a [u8]
+    ensures { result.now ≡ line_end }
+{
+    b"\n"
+}
+
+fn say_usage<C: Console>(console: &mut C) -> Result<(), ConsoleFault>
+    ensures { Speaks (C.seen console.old) (C.seen console.new) result (says (line_of no_request)) }
+{
+    console.say(usage())
+}
+
+fn say_unread<C: Console>(name: &str, console: &mut C) -> Result<(), ConsoleFault>
+    ensures { Speaks (C.seen console.old) (C.seen console.new) result
+        (says (line_of (unread name.now))) }
+{
+    say_all(console, &[cannot_read(), name.as_bytes(), line_end()])
+}
+
+fn say_too_long<C: Console>(name: &str, limit: usize, console: &mut C) -> Result<(), ConsoleFault>
+    ensures { Speaks (C.seen console.old) (C.seen console.new) result
+        (says (line_of (too_long name.now limit))) }
+{
+    let mut digits = Buffer::new();
+    let number = digits.format(limit).as_bytes();
+    say_all(
+        console,
+        &[name.as_bytes(), longer_than(), number, bytes_end()],
+    )
+}
+
+fn say_no_database<C: Console>(
+    name: &str,
+    fault: FormatFault,
+    console: &mut C,
+) -> Result<(), ConsoleFault>
+    ensures { Speaks (C.seen console.old) (C.seen console.new) result
+        (says (line_of (unfit (record { name = name.now; fault = NoDatabase fault })))) }
+{
+    let mut digits = Buffer::new();
+    let [opening, number, closing] = fault.pieces(&mut digits);
+    say_all(
+        console,
+        &[
+            name.as_bytes(),
+            after_name(),
+            opening,
+            number,
+            closing,
+            line_end(),
+        ],
+    )
+}
+
+fn say_no_draws<C: Console>(
+    name: &str,
+    fault: DrawFault,
+    console: &mut C,
+) -> Result<(), ConsoleFault>
+    ensures { Speaks (C.seen console.old) (C.seen console.new) result
+        (says (line_of (unfit (record { name = name.now; fault = NoDraws fault })))) }
+{
+    let mut digits = Buffer::new();
+    let [opening, number] = fault.pieces(&mut digits);
+    say_all(
+        console,
+        &[name.as_bytes(), after_name(), opening, number, line_end()],
+    )
+}
+
+/// The status after something that was said: this one, or 3 where the console failed.
+pub fn concluded(said: Result<(), ConsoleFault>, status: u8) -> u8
+    ensures { MatchResult said (λ _. result ≡ status) (λ _. result ≡ 3) }
+{
+    match said {
+        Ok(()) => status,
+        Err(_) => 3,
+    }
+}
+
+impl ContentFault {
+    ghost use Rattle.scott_tool.specs.Refusal.{content_status, unfit, line_of};
+
+    // The status of a request that reads such a content.
+    fn status(self) -> u8
+        ensures { result ≡ content_status self }
+    {
+        match self {
+            ContentFault::NoDatabase(_) => 4,
+            ContentFault::NoDraws(_) => 5,
+        }
+    }
+
+    // Says it of the file of this name.
+    fn say<C: Console>(self, name: &str, console: &mut C) -> Result<(), ConsoleFault>
+        ensures { Speaks (C.seen console.old) (C.seen console.new) result
+            (says (line_of (unfit (record { name = name.now; fault = self })))) }
+    {
+        match self {
+            ContentFault::NoDatabase(fault) => say_no_database(name, fault, console),
+            ContentFault::NoDraws(fault) => say_no_draws(name, fault, console),
+        }
+    }
+}
+
+impl<'a> Refusal<'a> {
+    ghost use Rattle.scott_tool.specs.Views.{refusal_of};
+    ghost use Rattle.scott_tool.specs.Obeying.{Refuses};
+
+    /// Says why, if there is something to say, and answers the status.
+    pub fn end<C: Console>(self, console: &mut C) -> u8
+        ensures { Refuses (C.seen console.old) (C.seen console.new) (refusal_of self.entry) result }
+    {
+        match self {
+            Refusal::NoRequest => concluded(say_usage(console), 1),
+            Refusal::Unread(name) => concluded(say_unread(name, console), 2),
+            Refusal::TooLong(name, limit) => concluded(say_too_long(name, limit, console), 11),
+            Refusal::Unfit(name, fault) => concluded(fault.say(name, console), fault.status()),
+            Refusal::Memory => 9,
+        }
+    }
+}
