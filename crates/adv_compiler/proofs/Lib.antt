@@ -1,0 +1,4 @@
+pub mod Lookups
+pub mod Binds
+pub mod Exits
+pub mod Answered

@@ -1,0 +1,14 @@
+use Rattle.std.proofs.Common.{◌≡◌, drop}
+use Rattle.std.specs.Prelude.{IsTrue}
+use Rattle.std.specs.List.{list_all}
+use Rattle.scott_types.specs.Limits.{is_natural}
+use Rattle.adv_compiler.specs.Index.{known_in}
+use Rattle.adv_compiler.specs.Lines.{conditions}
+use Rattle.adv_compiler.proofs.conditions.conditions.Given as goal
+
+-- what was added and what is still to be added is all
+abbrev pub invariant-loop-cond : goal.invariant-loop-cond
+invariant-loop-cond l = record {
+  kept : IsTrue (list_all is_natural l.conds.items);
+  meant : conditions (known_in l.tables) l.conds.items (drop l.cond-index l.written) ≡ conditions (known_in l.tables) l.fn.conds.items l.written;
+}

@@ -1,0 +1,10 @@
+pub mod Faults
+pub mod Tokens
+pub mod Plan
+pub mod Names
+pub mod Singles
+pub mod Lists
+pub mod Entries
+pub mod Text
+pub mod WellFormed
+pub mod Laws
