@@ -1,0 +1,26 @@
+//! Conditions.
+use crate::values::Expr;
+
+/// A condition, as a test of `if`, `while`, `until` or `for`.
+#[derive(Drop)]
+pub enum Cond {
+    Compare(Relation, Expr, Expr),
+    /// An expression by itself, which holds where it isn't 0.
+    Nonzero(Expr),
+    /// Conditions with `&&` between them.
+    All(Vec<Cond>),
+    /// Conditions with `||` between them.
+    Any(Vec<Cond>),
+    Not(Box<Cond>),
+}
+
+/// How two values are compared.
+#[derive(Clone, Copy, Debug, PartialEq, Eq)]
+pub enum Relation {
+    Eq,
+    Ne,
+    Lt,
+    Gt,
+    Le,
+    Ge,
+}

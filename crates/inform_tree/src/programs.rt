@@ -1,0 +1,28 @@
+//! Programs and their directives.
+use crate::names::Name;
+use crate::statements::Stmt;
+use crate::values::Const;
+
+/// A program: its directives, in their order.
+#[derive(Drop)]
+pub struct Program {
+    pub directives: Vec<Directive>,
+}
+
+/// A directive.
+#[derive(Drop)]
+pub enum Directive {
+    Constant(Name, Const),
+    Global(Name, Option<Const>),
+    /// An array: whether its entries are words (`-->`) or bytes (`->`), and its length or its entries.
+    Array(Name, bool, Vec<Const>),
+    Routine(Routine),
+}
+
+/// A routine.
+#[derive(Drop)]
+pub struct Routine {
+    pub name: Name,
+    pub locals: Vec<Name>,
+    pub body: Vec<Stmt>,
+}

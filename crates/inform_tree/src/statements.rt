@@ -1,0 +1,61 @@
+//! Statements.
+use crate::conditions::Cond;
+use crate::names::Name;
+use crate::texts::Text;
+use crate::values::{Const, Expr};
+
+/// What changes a variable or an entry of an array.
+#[derive(Drop)]
+pub enum Change {
+    Set(Name, Expr),
+    /// The array, whether it is one of words (`-->`), the index, and the value that is stored there.
+    SetEntry(Name, bool, Expr, Expr),
+    Inc(Name),
+    Dec(Name),
+}
+
+/// What `print` says.
+#[derive(Drop)]
+pub enum Item {
+    Text(Text),
+    /// A value in decimal.
+    Value(Expr),
+    /// A value as a character.
+    Char(Expr),
+}
+
+/// A case of a `switch`: a value or a range of values for each choice, and what is done then.
+#[cycle(tree)]
+#[derive(Drop)]
+pub struct Case {
+    pub choices: Vec<(Const, Option<Const>)>,
+    pub body: Vec<Stmt>,
+}
+
+/// A statement. A body without braces is a list of one, and an absent `else` an empty list.
+#[cycle(tree)]
+#[derive(Drop)]
+pub enum Stmt {
+    Empty,
+    Block(Vec<Stmt>),
+    Change(Change),
+    Call(Name, Vec<Expr>),
+    If(Cond, Vec<Stmt>, Vec<Stmt>),
+    While(Cond, Vec<Stmt>),
+    /// The body, and the condition at which the loop ends.
+    Do(Vec<Stmt>, Cond),
+    /// What is done first, the test of each turn, what is done after each turn, and the body.
+    For(Option<Change>, Option<Cond>, Option<Change>, Vec<Stmt>),
+    /// The value, the cases, and what is done where no case fits.
+    Switch(Expr, Vec<Case>, Option<Vec<Stmt>>),
+    Break,
+    Continue,
+    Quit,
+    Rtrue,
+    Rfalse,
+    Return(Option<Expr>),
+    NewLine,
+    Print(Vec<Item>),
+    /// The byte array for the line, and the byte array for its words.
+    Read(Name, Name),
+}

@@ -1,0 +1,43 @@
+//! Worked examples of names, depths and shapes. Each is the contract of a function that does nothing, and is
+//! proved by computing.
+ghost use Rattle.inform_tree.specs.Worked.{NamesJudged, LongNamesJudged, CharactersJudged, TestCounts, ChangesCountNothing, DepthLimitJudged, ChainsJudged, EmptyListsRefused};
+
+/// Small letters, digits and underscores are a name, where no digit is first and no word is reserved.
+pub fn names_judged()
+    ensures { NamesJudged }
+{}
+
+/// A name has at most 32 bytes.
+pub fn long_names_judged()
+    ensures { LongNamesJudged }
+{}
+
+/// A character is a printable byte that means nothing else.
+pub fn characters_judged()
+    ensures { CharactersJudged }
+{}
+
+/// A condition counts, and the value in it counts too.
+pub fn test_counts()
+    ensures { TestCounts }
+{}
+
+/// A change and an item of `print` count nothing themselves.
+pub fn changes_count_nothing()
+    ensures { ChangesCountNothing }
+{}
+
+/// Depth 64 is well formed, and depth 65 isn't.
+pub fn depth_limit_judged()
+    ensures { DepthLimitJudged }
+{}
+
+/// A chain has a part behind its first one.
+pub fn chains_judged()
+    ensures { ChainsJudged }
+{}
+
+/// Entries, items and choices aren't empty.
+pub fn empty_lists_refused()
+    ensures { EmptyListsRefused }
+{}
