@@ -20,6 +20,3 @@ pub mod laws;
 pub use findings::{Part, Warning, What};
 pub use reporting::report;
 pub use searching::warnings;
-
-#[cfg(test)]
-mod tests;

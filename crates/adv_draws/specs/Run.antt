@@ -1,7 +1,8 @@
 -- A run: bytes of a text that are no whitespace, between whitespace or the text's ends.
-use Rattle.std.specs.Prelude.{ℕ, ◌+◌, ◌-◌, ◌*◌, Bool, ◌&&◌, ◌||◌, ◌==◌, not, nat_le, List, [], ◌∷◌, Option, Some, None, fold, IsTrue, if◌then◌else◌}
+use Rattle.std.specs.Prelude.{ℕ, ◌+◌, Bool, ◌&&◌, not, nat_le, List, [], ◌∷◌, Option, Some, None, IsTrue, if◌then◌else◌}
 use Rattle.std.specs.List.{list_all, take_while}
 use Rattle.std.specs.Char.{is_ascii_digit}
+use Rattle.std.specs.Str.Parse.{digits_value_after}
 use Rattle.adv_io.specs.Text.{is_whitespace}
 
 -- a byte that is no whitespace is part of a run
@@ -26,10 +27,6 @@ runs_after before offset (byte ∷ rest) =
 abbrev pub runs_of : List ℕ → List Run
 runs_of text = runs_after 32 0 text
 
--- the number that digits write after a number
-abbrev pub number_after : ℕ → List ℕ → ℕ
-number_after number digits = fold (λ so_far digit. 10 * so_far + (digit - 48)) number digits
-
 -- a draw is a number of 1..100
 abbrev pub is_draw : ℕ → Bool
 is_draw number = nat_le 1 number && nat_le number 100
@@ -45,8 +42,8 @@ first_run text = take_while is_solid text
 -- the draw that a run writes, after the number of its digits so far
 abbrev pub draw_after : ℕ → List ℕ → Option ℕ
 draw_after number run =
-    if list_all is_ascii_digit run && is_draw (number_after number run)
-    then Some (number_after number run)
+    if list_all is_ascii_digit run && is_draw (digits_value_after 10 number run)
+    then Some (digits_value_after 10 number run)
     else None
 
 -- the draw that a run writes: its bytes are digits, and its number is one of 1..100

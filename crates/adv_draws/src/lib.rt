@@ -11,8 +11,6 @@ pub mod supplies;
 
 // Laws of the above.
 pub mod laws;
-#[cfg(test)]
-mod tests;
 
 pub use faults::DrawFault;
 pub use supplies::Draws;

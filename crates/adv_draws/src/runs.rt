@@ -36,7 +36,7 @@ fn short_draw(text: &[u8]) -> Option<(u8, usize)>
     if text[1] < b'0' || b'9' < text[1] || !is_whitespace(text[2]) {
         return None;
     }
-    Some((10 * tens + (text[1] - b'0'), 2))
+    Some((tens * 10 + (text[1] - b'0'), 2))
 }
 
 /// The same for every run.
@@ -55,7 +55,7 @@ fn any_draw(text: &[u8]) -> Option<(u8, usize)>
         if !byte.is_ascii_digit() || number > 100 {
             return None;
         }
-        number = 10 * number + u16::from(*byte - b'0');
+        number = number * 10 + u16::from(*byte - b'0');
         size += 1;
     }
     match number {

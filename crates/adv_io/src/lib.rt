@@ -22,8 +22,6 @@ pub mod script_console;
 // Both of the system.
 pub mod disk_shelf;
 pub mod std_console;
-#[cfg(test)]
-mod tests;
 
 pub use bytes::is_whitespace;
 pub use consoles::{Console, Taken};

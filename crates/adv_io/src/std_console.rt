@@ -117,7 +117,7 @@ fn write_out<R: Print>(rt: &R, bytes: &[u8]) -> io::Result<()> {
 }
 
 // The next line, up to byte 10 or the end of the input, if there is one.
-pub(crate) fn next_line<I: BufRead>(input: &mut I) -> io::Result<Option<Line>> {
+fn next_line<I: BufRead>(input: &mut I) -> io::Result<Option<Line>> {
     let mut raw = ArrayVec::<u8, LINE_LIMIT>::new();
     for count in 0..=RAW_LIMIT {
         match next_byte(input)? {

@@ -13,6 +13,3 @@ pub use adv_io::Memory;
 pub use faults::TextFault;
 pub use scan::Scan;
 pub use writing::{put_integer, put_number, put_quoted};
-
-#[cfg(test)]
-mod tests;

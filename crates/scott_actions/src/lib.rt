@@ -18,6 +18,3 @@ pub use actions::perform;
 pub use conditions::{holds, passes};
 pub use items::is_full;
 pub use scott_types::Ran;
-
-#[cfg(test)]
-mod tests;

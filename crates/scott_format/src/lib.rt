@@ -16,6 +16,3 @@ mod writing;
 pub use faults::{Field, FormatFault};
 pub use reading::{DATABASE_LIMIT, read_db};
 pub use writing::write_db;
-
-#[cfg(test)]
-mod tests;

@@ -11,6 +11,3 @@ pub mod scoring;
 pub use lamp::count_light;
 pub use looking::{inventory, look, look_after};
 pub use scoring::{are_all_stored, score};
-
-#[cfg(test)]
-mod tests;

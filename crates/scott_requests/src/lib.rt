@@ -10,6 +10,3 @@ mod requests;
 
 pub use requests::{Request, request_in};
 pub use settings::{DrawSource, FIRST_SEED};
-
-#[cfg(test)]
-mod tests;

@@ -15,6 +15,3 @@ pub use scott_types::{Column, Heard, Words};
 pub use splitting::{split, typed_noun, word_at};
 pub use vocabularies::Vocabulary;
 pub use vocabulary::{root, which};
-
-#[cfg(test)]
-mod tests;

@@ -1,96 +1,33 @@
-//! What a console gets with ample memory, on a hall with gold and a lamp, and a cave to the south.
-use crate::{count_light, inventory, look, look_after, score};
+//! What a console gets by a look, a list, the score and the light.
+use crate::games::game;
 use adv_io::{ConsoleFault, Memory, MemoryConsole};
 use itoa::Buffer;
-use scott_types::{Action, Db, Header, Item, Parts, Room, State, Text, Trailer, Word};
+use scott_light::{count_light, inventory, look, look_after, score};
+use scott_types::{Db, State};
 use std::alloc::{AllocError, Global};
 use std::process::Abort;
 use std::test::Fail;
 
-// Each item and where it is: the gold is the one treasure, and the lamp has the number 9.
-const ITEMS: [(&str, u8); 10] = [
-    ("*Gold bar*/GOLD/", 1),
-    ("Pin", 255),
-    ("Bug", 255),
-    ("", 0),
-    ("", 0),
-    ("", 0),
-    ("", 0),
-    ("", 0),
-    ("", 0),
-    ("Lamp/LAMP/", 1),
-];
+// A hall with a cave to the south.
+const ROOMS: &[u8] = b" 0 0 0 0 0 0 0 0 \"AUT\" \"ANY\"
+0 0 0 0 0 0 \"\"
+0 2 0 0 1 0 \"hall\"
+0 0 0 0 0 0 \"*A cave\"
+\"\"
+";
 
-fn text(alloc: Global, content: &str) -> Result<Text, AllocError> {
-    Ok(Text::of(content.as_bytes().to_vec(alloc)?))
-}
+// The gold is the one treasure, and the lamp has the number 9.
+const ITEMS: &[u8] = b"\"*Gold bar*/GOLD/\" 1 \"Pin\" 255 \"Bug\" 255
+\"\" 0 \"\" 0 \"\" 0 \"\" 0 \"\" 0 \"\" 0 \"Lamp/LAMP/\" 1
+";
 
-fn items(alloc: Global) -> Result<Vec<Item>, AllocError> {
-    let mut items = Vec::new(alloc);
-    for (content, place) in ITEMS {
-        items.push(Item {
-            text: text(alloc, content)?,
-            place,
-        })?;
-    }
-    Ok(items)
-}
+const TRAILER: &[u8] = b"\"\" 1 1 0";
 
-fn rooms(alloc: Global) -> Result<Vec<Room>, AllocError> {
-    let mut rooms = Vec::new(alloc);
-    for (content, exits) in [
-        ("", [0; 6]),
-        ("hall", [0, 2, 0, 0, 1, 0]),
-        ("*A cave", [0; 6]),
-    ] {
-        rooms.push(Room {
-            exits,
-            text: text(alloc, content)?,
-        })?;
-    }
-    Ok(rooms)
-}
-
-// The game, with the treasure room and how long the light lasts.
-fn game(alloc: Global, home: i32, light: i32) -> Result<Db, Fail> {
-    game_with(alloc, items(alloc)?, home, light)
-}
-
-fn game_with(alloc: Global, items: Vec<Item>, home: i32, light: i32) -> Result<Db, Fail> {
-    let parts = Parts {
-        header: Header {
-            unused: 0,
-            carry: 5,
-            start: 1,
-            treasures: 1,
-            length: 3,
-            light,
-            home,
-        },
-        actions: vec![in alloc;
-            Action {
-                vocab: 0,
-                conds: [0; 5],
-                pairs: [0; 2]
-            },
-        ]?,
-        words: vec![in alloc;
-            Word {
-                verb: text(alloc, "AUT")?,
-                noun: text(alloc, "ANY")?
-            },
-        ]?,
-        rooms: rooms(alloc)?,
-        messages: vec![in alloc; text(alloc, "")?]?,
-        items,
-        comments: vec![in alloc; text(alloc, "")?]?,
-        trailer: Trailer {
-            version: 1,
-            adventure: 1,
-            third: 0,
-        },
-    };
-    Ok(Db::new(parts).ok().ok_or("the limits")?)
+// The game, with how long the light lasts and the treasure room.
+fn hall(alloc: Global, light_and_home: (&[u8], &[u8])) -> Result<Db, Fail> {
+    let (light, home) = light_and_home;
+    let header = b"0 9 0 0 2 5 1 1 3 ".as_slice();
+    game(alloc, &[header, light, b" 0 ", home, ROOMS, ITEMS, TRAILER])
 }
 
 fn console(alloc: Global) -> Result<MemoryConsole, Memory> {
@@ -104,7 +41,7 @@ fn expect_said(rt: &impl Abort, console: &MemoryConsole, said: &str) {
 #[test]
 fn looks_are_said(rt: HostRuntime) -> Result<(), Fail> {
     let alloc = rt.alloc();
-    let db = game(alloc, 0, -1)?;
+    let db = hall(alloc, (b"-1", b"0"))?;
     for (room, dark, said) in [
         (
             1,
@@ -128,7 +65,7 @@ fn looks_are_said(rt: HostRuntime) -> Result<(), Fail> {
 #[test]
 fn a_text_is_said_before_a_look(rt: HostRuntime) -> Result<(), Fail> {
     let alloc = rt.alloc();
-    let db = game(alloc, 0, -1)?;
+    let db = hall(alloc, (b"-1", b"0"))?;
     for (dark, said) in [
         (false, "Woe! A cave\nObvious exits: none.\n"),
         (true, "Woe! I can't see. It is too dark!\n"),
@@ -157,19 +94,18 @@ fn add_thing(bytes: &mut Vec<u8>, number: u8) -> Result<(), AllocError> {
     }
 }
 
-// So many things in the hall.
-fn things(alloc: Global, count: u8) -> Result<Vec<Item>, AllocError> {
+// A game with so many things in the hall.
+fn crowded(alloc: Global, count: u8) -> Result<Db, Fail> {
     let mut items = Vec::new(alloc);
     for number in 0..count {
-        let mut bytes = Vec::new(alloc);
-        add_thing(&mut bytes, number)?;
-        bytes.extend_from_slice(b"/THI/")?;
-        items.push(Item {
-            text: Text::of(bytes),
-            place: 1,
-        })?;
+        items.extend_from_slice(b"\"")?;
+        add_thing(&mut items, number)?;
+        items.extend_from_slice(b"/THI/\" 1\n")?;
     }
-    Ok(items)
+    let mut highest = Buffer::new();
+    let highest = highest.format(count.saturating_sub(1)).as_bytes();
+    let rest = b" 0 0 2 5 1 0 3 -1 0 0".as_slice();
+    game(alloc, &[b"0 ", highest, rest, ROOMS, &items, TRAILER])
 }
 
 // What a look at them says.
@@ -189,7 +125,7 @@ fn things_seen(alloc: Global, count: u8) -> Result<Vec<u8>, AllocError> {
 fn all_items_of_a_room_are_said(rt: HostRuntime) -> Result<(), Fail> {
     let alloc = rt.alloc();
     for count in [1, 3, 255] {
-        let db = game_with(alloc, things(alloc, count)?, 0, -1)?;
+        let db = crowded(alloc, count)?;
         let mut console = MemoryConsole::new(alloc, Vec::new(alloc), Vec::new(alloc), 20_000)?;
         assert_eq!(rt; look(&db, &State::start(&db), &mut console), Ok(()));
         assert_eq!(rt; console.said(), things_seen(alloc, count)?.as_slice());
@@ -201,7 +137,7 @@ fn all_items_of_a_room_are_said(rt: HostRuntime) -> Result<(), Fail> {
 fn long_looks_alone_take_several_calls(rt: HostRuntime) -> Result<(), Fail> {
     let alloc = rt.alloc();
     for (count, answer) in [(3, Ok(())), (255, Err(ConsoleFault::Failed))] {
-        let db = game_with(alloc, things(alloc, count)?, 0, -1)?;
+        let db = crowded(alloc, count)?;
         let failing = vec![in alloc; 2]?;
         let mut console = MemoryConsole::new(alloc, Vec::new(alloc), failing, 20_000)?;
         assert_eq!(rt; look(&db, &State::start(&db), &mut console), answer);
@@ -212,7 +148,7 @@ fn long_looks_alone_take_several_calls(rt: HostRuntime) -> Result<(), Fail> {
 #[test]
 fn what_is_carried_is_said(rt: HostRuntime) -> Result<(), Fail> {
     let alloc = rt.alloc();
-    let db = game(alloc, 0, -1)?;
+    let db = hall(alloc, (b"-1", b"0"))?;
     let mut console = console(alloc)?;
     assert_eq!(rt; inventory(&db, &State::start(&db), &mut console), Ok(()));
     expect_said(&rt, &console, "I'm carrying:\nPin - Bug.\n");
@@ -224,17 +160,17 @@ fn scores_are_said(rt: HostRuntime) -> Result<(), Fail> {
     let alloc = rt.alloc();
     for (home, all, said) in [
         (
-            0,
+            b"0".as_slice(),
             false,
             "I've stored 0 treasures.  On a scale of 0 to 100, that rates 0.\n",
         ),
         (
-            1,
+            b"1",
             true,
             "I've stored 1 treasures.  On a scale of 0 to 100, that rates 100.\nWell done.\nThe game is now over.\n",
         ),
     ] {
-        let db = game(alloc, home, -1)?;
+        let db = hall(alloc, (b"-1", home))?;
         let mut console = console(alloc)?;
         assert_eq!(rt; score(&db, &State::start(&db), &mut console), Ok(all));
         expect_said(&rt, &console, said);
@@ -246,18 +182,18 @@ fn scores_are_said(rt: HostRuntime) -> Result<(), Fail> {
 fn light_burns_down(rt: HostRuntime) -> Result<(), Fail> {
     let alloc = rt.alloc();
     for (light, left, out, said) in [
-        (-1, -1, false, ""),
-        (26, 25, false, ""),
-        (21, 20, false, "Your light is growing dim. "),
-        (1, 0, true, "Your light has run out. "),
+        (b"-1".as_slice(), -1, false, ""),
+        (b"26", 25, false, ""),
+        (b"21", 20, false, "Your light is growing dim. "),
+        (b"1", 0, true, "Your light has run out. "),
     ] {
-        let db = game(alloc, 0, light)?;
+        let db = hall(alloc, (light, b"0"))?;
         let mut state = State::start(&db);
         let mut console = console(alloc)?;
         assert_eq!(rt; count_light(&db, &mut state, &mut console), Ok(()));
         expect_said(&rt, &console, said);
-        assert_eq!(rt; state.light, left, "from {light}");
-        assert_eq!(rt; state.flags[16], out, "from {light}");
+        assert_eq!(rt; state.light, left, "to {left}");
+        assert_eq!(rt; state.flags[16], out, "to {left}");
     }
     Ok(())
 }

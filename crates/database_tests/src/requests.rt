@@ -1,5 +1,5 @@
 //! What no clause says: each form of words once.
-use crate::{DrawSource, Request, request_in};
+use scott_requests::{DrawSource, Request, request_in};
 use std::test::Fail;
 
 #[test]

@@ -1,7 +1,7 @@
 //! Texts of databases that are read and written back, and those that are refused.
-use super::*;
+use scott_format::{Field, FormatFault, read_db, write_db};
 use std::alloc::{AllocError, Global};
-use std::test::*;
+use std::test::Fail;
 
 const HEADER: &[u8] = b"0 0 0 6 2 5 1 0 3 -1 0 0\n";
 

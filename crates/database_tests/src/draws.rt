@@ -1,5 +1,5 @@
 //! What no clause says: outside vectors, and that the calls succeed with ample memory.
-use crate::{DrawFault, Draws};
+use adv_draws::{DrawFault, Draws};
 use std::process::Abort;
 use std::test::Fail;
 

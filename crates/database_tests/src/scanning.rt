@@ -1,7 +1,7 @@
 //! Numbers and strings at the ends of their ranges, with ample memory.
-use super::*;
+use adv_text::{Memory, Scan, TextFault, put_integer, put_number, put_quoted};
 use std::alloc::Global;
-use std::test::*;
+use std::test::Fail;
 
 #[test]
 fn numbers_are_read(rt: HostRuntime) {

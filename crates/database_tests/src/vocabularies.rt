@@ -1,93 +1,40 @@
-//! Each public call, on a vocabulary made by hand.
-use crate::{
+//! Each public call on words, with a vocabulary made by hand.
+use crate::games::game;
+use adv_io::Line;
+use scott_types::Db;
+use scott_vocab::{
     Column, Heard, Vocabulary, command, entry_at, is_direction, is_typed, letters, root, split,
     typed_noun, which, word_at,
 };
-use adv_io::Line;
-use scott_types::{Action, Db, Header, Item, Parts, Room, Text, Trailer, Word};
-use std::alloc::{AllocError, Global};
+use std::alloc::Global;
 use std::test::Fail;
 
-// The verbs and the nouns, by their numbers. Three bytes of a word count.
-const WORDS: [(&str, &str); 12] = [
-    ("AUTO", "ANY"),
-    ("*RUN", "NORTH"),
-    ("GO", "SOUTH"),
-    ("*WALK", "EAST"),
-    ("*", "WEST"),
-    ("LOOK", "UP"),
-    ("", "DOWN"),
-    ("*PEER", "LAMP"),
-    ("GET", "*LANT"),
-    ("LOOKUP", ""),
-    ("", "*NOTHING"),
-    ("ANY", "GO"),
-];
-
-fn text(alloc: Global, content: &str) -> Result<Text, AllocError> {
-    Ok(Text::of(content.as_bytes().to_vec(alloc)?))
-}
-
-fn words(alloc: Global) -> Result<Vec<Word>, AllocError> {
-    let mut words = Vec::new(alloc);
-    for (verb, noun) in WORDS {
-        words.push(Word {
-            verb: text(alloc, verb)?,
-            noun: text(alloc, noun)?,
-        })?;
-    }
-    Ok(words)
-}
+// The verbs and the nouns, in the order of their numbers. Three bytes of a word count.
+const WORDS: &[u8] = b"
+\"AUTO\" \"ANY\"
+\"*RUN\" \"NORTH\"
+\"GO\" \"SOUTH\"
+\"*WALK\" \"EAST\"
+\"*\" \"WEST\"
+\"LOOK\" \"UP\"
+\"\" \"DOWN\"
+\"*PEER\" \"LAMP\"
+\"GET\" \"*LANT\"
+\"LOOKUP\" \"\"
+\"\" \"*NOTHING\"
+\"ANY\" \"GO\"
+";
 
 // A game with these words, and one entry in each other list.
-fn parts(alloc: Global) -> Result<Parts, AllocError> {
-    Ok(Parts {
-        header: Header {
-            unused: 0,
-            carry: 5,
-            start: 0,
-            treasures: 0,
-            length: 3,
-            light: -1,
-            home: 0,
-        },
-        actions: vec![in alloc;
-            Action {
-                vocab: 0,
-                conds: [0; 5],
-                pairs: [0; 2]
-            },
-        ]?,
-        words: words(alloc)?,
-        rooms: vec![in alloc;
-            Room {
-                exits: [0; 6],
-                text: text(alloc, "cell")?
-            },
-        ]?,
-        messages: vec![in alloc; text(alloc, "")?]?,
-        items: vec![in alloc;
-            Item {
-                text: text(alloc, "Lamp/LAMP/")?,
-                place: 0
-            },
-        ]?,
-        comments: vec![in alloc; text(alloc, "")?]?,
-        trailer: Trailer {
-            version: 1,
-            adventure: 1,
-            third: 1,
-        },
-    })
-}
-
-fn game(alloc: Global) -> Result<Db, Fail> {
-    Ok(Db::new(parts(alloc)?).ok().ok_or("the limits")?)
+fn worded(alloc: Global) -> Result<Db, Fail> {
+    let header = b"0 0 0 11 0 5 0 0 3 -1 0 0 0 0 0 0 0 0 0 0".as_slice();
+    let rest = b"0 0 0 0 0 0 \"cell\" \"\" \"Lamp/LAMP/\" 0 \"\" 1 1 1".as_slice();
+    game(alloc, &[header, WORDS, rest])
 }
 
 #[test]
 fn words_name_base_entries(rt: HostRuntime) -> Result<(), Fail> {
-    let db = game(rt.alloc())?;
+    let db = worded(rt.alloc())?;
     for (column, word, entry) in [
         (Column::Verbs, "go", Some(2)),
         (Column::Verbs, "WALKING", Some(2)),
@@ -109,7 +56,7 @@ fn words_name_base_entries(rt: HostRuntime) -> Result<(), Fail> {
 
 #[test]
 fn a_database_is_a_vocabulary(rt: HostRuntime) -> Result<(), Fail> {
-    let db = game(rt.alloc())?;
+    let db = worded(rt.alloc())?;
     for (column, word, base) in [
         (Column::Nouns, "NORTHWARD", Some(1)),
         (Column::Nouns, "lant", Some(7)),
@@ -123,7 +70,7 @@ fn a_database_is_a_vocabulary(rt: HostRuntime) -> Result<(), Fail> {
 
 #[test]
 fn entries_stand_for_base_ones(rt: HostRuntime) -> Result<(), Fail> {
-    let db = game(rt.alloc())?;
+    let db = worded(rt.alloc())?;
     let entries = db.words().len();
     assert_eq!(rt; entries, 12);
     let run = entry_at(&db, Column::Verbs, 1, None);
@@ -139,7 +86,7 @@ fn entries_stand_for_base_ones(rt: HostRuntime) -> Result<(), Fail> {
 
 #[test]
 fn nouns_have_texts(rt: HostRuntime) -> Result<(), Fail> {
-    let db = game(rt.alloc())?;
+    let db = worded(rt.alloc())?;
     let entries = db.parts().words.len();
     assert_eq!(rt; entries, 12);
     assert_eq!(rt; root(&db, 7), b"LAMP".as_slice());
@@ -173,7 +120,7 @@ fn lines_split_into_words(rt: HostRuntime) {
 
 #[test]
 fn lines_are_commands(rt: HostRuntime) -> Result<(), Fail> {
-    let db = game(rt.alloc())?;
+    let db = worded(rt.alloc())?;
     for (typed, heard) in [
         ("  ", Heard::Blank),
         ("  w ", Heard::Command(1, Some(4))),

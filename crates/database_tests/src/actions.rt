@@ -1,0 +1,64 @@
+//! What actions do, in a hall with a rug and a pin that is carried, where one item can be carried.
+use crate::games::game;
+use adv_io::MemoryConsole;
+use scott_actions::{Ran, perform};
+use scott_types::State;
+use std::test::Fail;
+
+const HEADER: &[u8] = b"0 1 0 0 0 1 0 0 3 -1 1 0\n0 ";
+
+const LISTS: &[u8] = b" \"AUT\" \"ANY\" 0 0 0 0 0 0 \"hall\" \"\" \"Hello\"
+\"Rug\" 0 \"Pin\" 255 \"\" 1 1 0";
+
+#[test]
+fn actions_do_their_opcodes(rt: HostRuntime) -> Result<(), Fail> {
+    let alloc = rt.alloc();
+    for (action, ran, said) in [
+        (b"0 0 0 0 0 0 0".as_slice(), Ran::Passed(false), ""),
+        (b"0 0 0 0 0 73 150", Ran::Passed(true), "Hello\n"),
+        (
+            b"655340 20 0 0 0 11932 11786",
+            Ran::Passed(false),
+            "32767\n",
+        ),
+        (b"0 0 0 0 0 12685 0", Ran::Passed(false), "gogo\n"),
+        (b"22 0 0 0 0 150 0", Ran::Not, ""),
+        (
+            b"0 0 0 0 0 9971 0",
+            Ran::Passed(false),
+            "I'm carrying:\nPin.\n[Saving is left out.]\n",
+        ),
+        (
+            b"0 0 0 0 0 9813 150",
+            Ran::Over(1),
+            "I've stored 0 treasures.  On a scale of 0 to 100, that rates 0.\nThe game is now over.\n",
+        ),
+        (
+            b"0 0 0 0 0 9150 0",
+            Ran::Passed(false),
+            "I am dead.\nI'm in a hall\nObvious exits: none.\n\nI can also see: Rug\n",
+        ),
+    ] {
+        let db = game(alloc, &[HEADER, action, LISTS])?;
+        let mut state = State::start(&db);
+        let mut console = MemoryConsole::new(alloc, Vec::new(alloc), Vec::new(alloc), 500)?;
+        assert_eq!(rt; perform(&db, &mut state, 0, b"go", &mut console), Ok(ran));
+        assert_eq!(rt; console.said(), said.as_bytes());
+    }
+    Ok(())
+}
+
+#[test]
+fn refused_get_leaves_its_parameter(rt: HostRuntime) -> Result<(), Fail> {
+    let alloc = rt.alloc();
+    let db = game(alloc, &[HEADER, b"0 20 0 0 0 7859 0", LISTS])?;
+    let mut state = State::start(&db);
+    state.redraw = false;
+    let mut console = MemoryConsole::new(alloc, Vec::new(alloc), Vec::new(alloc), 500)?;
+    let answer = perform(&db, &mut state, 0, b"", &mut console);
+    assert_eq!(rt; answer, Ok(Ran::Passed(false)));
+    assert_eq!(rt; console.said(), b"I've too much to carry! ".as_slice());
+    assert_eq!(rt; state.places.as_slice(), [0, 255].as_slice());
+    assert!(rt; state.redraw);
+    Ok(())
+}
