@@ -6,3 +6,4 @@ pub mod Entries
 pub mod Lists
 pub mod Lines
 pub mod Meaning
+pub mod FaultTexts

@@ -126,6 +126,9 @@ pub fn compile(alloc: Global, source: &Source) -> Result<Db, CompileFault>
         → meant source.now ≡ Err fault }
     ensures expected { (fault : Fault) → meant source.now ≡ Err fault
         → IsErrOrMemory result (fault_answer fault) }
+
+    // The answer is what the source means, unless memory runs out.
+    ensures as_meant { Gives (λ db. db) (meant source.now) result }
 {
     database(alloc, source)
 }

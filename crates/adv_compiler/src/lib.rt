@@ -1,6 +1,7 @@
 //! The meaning of a source: the database that it stands for, or its first fault.
 #![tactic(auto)]
 
+mod fault_texts;
 mod faults;
 
 // What names and numbers stand for.
@@ -22,6 +23,3 @@ mod texts;
 
 pub use compiling::compile;
 pub use faults::CompileFault;
-
-#[cfg(test)]
-mod tests;

@@ -1,6 +1,6 @@
 -- What a reading says of texts and faults.
-use Rattle.std.proofs.Common.{◌≡◌, ℕ, suc, ◌<◌, ◌⊎◌, inl, inr, List, [], ◌∷◌, get_or, Result, Ok, Err, refl, ap, subst, ◌∙◌}
-use Rattle.std.specs.Prelude.{IfOk}
+use Rattle.std.proofs.Common.{◌≡◌, ℕ, suc, ◌<◌, ◌⊎◌, inl, inr, List, [], ◌∷◌, get_or, Result, Ok, Err, refl, sym, ap, subst, ◌∙◌}
+use Rattle.std.specs.Prelude.{IfOk, MatchResult}
 use Rattle.std.proofs.lemmas.Bool.{and_from, lt-ltb}
 use Rattle.adv_text.specs.Laws.{AreBytes}
 use Rattle.adv_text.specs.Reading.{Spot, spot}
@@ -9,9 +9,9 @@ use Rattle.source_reader.specs.declared.faults.SourceFault.{SourceFault}
 use Rattle.source_reader.specs.declared.faults.SourceFault.TheVariants as answer
 use Rattle.source_reader.specs.Faults.{Fault, unexpected, big_number, open_string, long_string, long_name, fault_answer, Stands, Reads}
 use Rattle.source_reader.specs.Plan.{run}
-use Rattle.source_reader.specs.Text.{source, SourceText, TextFault, IsSource, IsErrOrMemory}
+use Rattle.source_reader.specs.Text.{source, value_of, source_in, SourceText, TextFault, IsSource, IsErrOrMemory}
 use Rattle.source_reader.specs.WellFormed.{WellFormed}
-use Rattle.source_reader.specs.Laws.{TokenIsExact, TokenFaultIsExact, TextOrFault, NeverBoth, OneSource, OneFault, TextIsWellFormed}
+use Rattle.source_reader.specs.Laws.{TokenIsExact, TokenFaultIsExact, TextOrFault, NeverBoth, OneSource, OneFault, SourceIn, FaultIn, TextIsWellFormed}
 use Rattle.source_reader.proofs.Exact.{one_value, one_fault, not_both, run-spelled, spelled-run, run-faulty, faulty-run}
 
 -- bytes by their places are bytes of a list
@@ -41,6 +41,24 @@ fault_or_memory (answer.OpenString at) r e = inr (open_string at, refl, e)
 fault_or_memory (answer.LongString at) r e = inr (long_string at, refl, e)
 fault_or_memory (answer.LongName at) r e = inr (long_name at, refl, e)
 fault_or_memory answer.Memory r e = inl refl
+
+-- what was read as a value was read up to a spot; and a fault is what was read
+value_back : {X : Type 0} (r : Result (X × Spot) Fault) (x : X) → value_of r ≡ Ok x → (after : Spot) × (r ≡ Ok (x, after))
+value_back (Ok read) x e = let same : read.0 ≡ x = cc in (read.1, ap (λ y. Ok (y, read.1)) same)
+value_back (Err fault) x e = absurd cc
+
+fault_back : {X : Type 0} (r : Result (X × Spot) Fault) (fault : Fault) → value_of r ≡ Err fault → r ≡ Err fault
+fault_back (Ok read) fault e = absurd cc
+fault_back (Err other) fault e = let same : other ≡ fault = cc in ap Err same
+
+-- a fault of the program that stands for what was read stands for its value
+stands_value : {X : Type 0} (fault : SourceFault) (r : Result (X × Spot) Fault) → Stands fault r → Stands fault (value_of r)
+stands_value (answer.Unexpected at) r e = ap value_of e
+stands_value (answer.BigNumber at) r e = ap value_of e
+stands_value (answer.OpenString at) r e = ap value_of e
+stands_value (answer.LongString at) r e = ap value_of e
+stands_value (answer.LongName at) r e = ap value_of e
+stands_value answer.Memory r e = tt
 
 abbrev failed : SourceFault → Result Source SourceFault
 failed fault = Err fault
@@ -82,6 +100,20 @@ module _ (exact : TokenIsExact) (faults : TokenFaultIsExact) where
   one_text_fault bytes a b h k =
       one_fault a b (faulty-run exact faults source (spot 0 bytes) a h) (faulty-run exact faults source (spot 0 bytes) b k)
 
+  pub source_is : SourceIn
+  unfolding source_in
+  source_is bytes tree = (
+    λ e. let r = value_back (run source (spot 0 bytes)) tree e in text_of bytes tree r.0 r.1,
+    λ h. ap value_of (read_of bytes tree h).1,
+  )
+
+  pub fault_is : FaultIn
+  unfolding source_in
+  fault_is bytes fault = (
+    λ e. run-faulty exact faults source (spot 0 bytes) fault (fault_back (run source (spot 0 bytes)) fault e),
+    λ h. ap value_of (faulty-run exact faults source (spot 0 bytes) fault h),
+  )
+
   -- ---- what an answer tells
 
   module _ (bytes : List ℕ) (after : Spot) where
@@ -111,3 +143,10 @@ module _ (exact : TokenIsExact) (faults : TokenFaultIsExact) where
           | inl is_memory ↦ inr (ap failed is_memory)
           | inr f ↦ inl (ap failed (f.1 ∙ ap fault_answer (one_fault f.0 fault f.2 (faulty-run exact faults source (spot 0 bytes) fault h))))
         ]
+
+-- an answer is what the bytes read as
+pub as_read : (bytes : List ℕ) (after : Spot) (r : Result Source SourceFault) → Reads (run source (spot 0 bytes)) r after
+    → MatchResult r (λ tree. source_in bytes ≡ Ok tree) (λ fault. Stands fault (source_in bytes))
+unfolding source_in
+as_read bytes after (Ok tree) e = ap value_of e
+as_read bytes after (Err fault) e = stands_value fault (run source (spot 0 bytes)) e

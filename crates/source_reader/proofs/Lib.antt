@@ -6,3 +6,5 @@ pub mod Exact
 pub mod Answered
 pub mod Always
 pub mod Kept
+pub mod NameWords
+pub mod EndMarks

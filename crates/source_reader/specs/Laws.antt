@@ -6,7 +6,7 @@ use Rattle.source_reader.specs.declared.tokens.Token.{Token}
 use Rattle.source_reader.specs.declared.tree.Source.{Source}
 use Rattle.source_reader.specs.Faults.{Fault}
 use Rattle.source_reader.specs.Tokens.{TokenTo, TokenFault, token_at}
-use Rattle.source_reader.specs.Text.{SourceText, TextFault}
+use Rattle.source_reader.specs.Text.{SourceText, TextFault, source_in}
 use Rattle.source_reader.specs.WellFormed.{WellFormed}
 
 -- ---- tokens
@@ -36,6 +36,14 @@ OneSource = (bytes : List ℕ) (a b : Source) → SourceText bytes a → SourceT
 -- bytes have one fault at most
 abbrev pub OneFault : Type 0
 OneFault = (bytes : List ℕ) (a b : Fault) → TextFault bytes a → TextFault bytes b → a ≡ b
+
+-- bytes read as a source exactly where they are a text of it
+abbrev pub SourceIn : Type 0
+SourceIn = (bytes : List ℕ) (tree : Source) → (source_in bytes ≡ Ok tree) ↔ SourceText bytes tree
+
+-- and as a fault exactly where it is their first one
+abbrev pub FaultIn : Type 0
+FaultIn = (bytes : List ℕ) (fault : Fault) → (source_in bytes ≡ Err fault) ↔ TextFault bytes fault
 
 -- each source that has a text is well formed, and can be compiled
 abbrev pub TextIsWellFormed : Type 0

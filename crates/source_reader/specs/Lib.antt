@@ -8,3 +8,4 @@ pub mod Entries
 pub mod Text
 pub mod WellFormed
 pub mod Laws
+pub mod FaultTexts

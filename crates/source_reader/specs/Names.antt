@@ -1,5 +1,5 @@
 -- The words of the language. A word that is none of them is a name.
-use Rattle.std.specs.Prelude.{ℕ, ◌+◌, ◌||◌, Bool, not, List, [], ◌∷◌, Option, Some, None, codes, is_some}
+use Rattle.std.specs.Prelude.{ℕ, ◌+◌, ◌-◌, ◌||◌, Bool, not, List, [], ◌∷◌, Option, Some, None, codes, is_some, slice_index_or}
 use Rattle.std.specs.List.{position}
 use Rattle.std.specs.Str.{bytes_eq}
 
@@ -45,6 +45,14 @@ from_52 None = None
 -- the number of the opcode with this word
 abbrev pub opcode_number : List ℕ → Option ℕ
 opcode_number word = from_52 (among opcode_words word)
+
+-- the word of the condition with this code, 0..19
+unfoldable pub condition_word : ℕ → List ℕ
+condition_word code = slice_index_or condition_words code []
+
+-- the word of the opcode with this number, 52..89
+unfoldable pub opcode_word : ℕ → List ℕ
+opcode_word n = slice_index_or opcode_words (n - 52) []
 
 -- a word is a name unless it is one of the language
 unfoldable pub is_name : List ℕ → Bool

@@ -1,5 +1,5 @@
 -- The plans of one thing each: a number, a string, a name, a mark.
-use Rattle.std.specs.Prelude.{ℕ, ◌==◌, Bool, true, false, if◌then◌else◌, List, ℤ, codes}
+use Rattle.std.specs.Prelude.{ℕ, ◌==◌, ◌||◌, Bool, true, false, if◌then◌else◌, List, ℤ, codes}
 use Rattle.std.specs.Str.{bytes_eq}
 use Rattle.source_reader.specs.declared.tokens.Token.{Token}
 use Rattle.source_reader.specs.declared.tokens.Token.TheVariants as token
@@ -42,6 +42,10 @@ only test t = if test t.what then done tt else refuse t.at
 -- a mark of the language: `{ } : , ; ( )`
 unfoldable pub symbol : ℕ → Plan (Unit {0})
 symbol b = any_token >>= only (is_mark b)
+
+-- a mark that mostly stands right after what it ends: `;`, `,` or `)`
+abbrev pub is_end_mark : ℕ → Bool
+is_end_mark b = b == 59 || (b == 44 || b == 41)
 
 -- a word of the language
 unfoldable pub key : List ℕ → Plan (Unit {0})

@@ -15,7 +15,7 @@ use Rattle.source_reader.specs.declared.tree.Source.{Source}
 use Rattle.source_reader.specs.declared.faults.SourceFault.{SourceFault}
 use Rattle.source_reader.specs.declared.faults.SourceFault.TheVariants as answer
 use Rattle.source_reader.specs.Faults.{Fault}
-use Rattle.source_reader.specs.Plan.{Plan, done, ◌>>=◌, ◌>>◌, Spelled, Faulty}
+use Rattle.source_reader.specs.Plan.{Plan, done, ◌>>=◌, ◌>>◌, Spelled, Faulty, run}
 use Rattle.source_reader.specs.Singles.{symbol, key, number, reference, end_of_text}
 use Rattle.source_reader.specs.Lists.{listing}
 use Rattle.source_reader.specs.Entries.{word_part, room_part, message_part, item_part, line_part}
@@ -98,6 +98,17 @@ SourceText bytes tree = (after : Spot) × Spelled source tree (spot 0 bytes) aft
 -- this is the first thing that is wrong with the bytes
 abbrev pub TextFault : List ℕ → Fault → Type 0
 TextFault bytes fault = Faulty source (spot 0 bytes) fault
+
+-- ---- reading as a function of the bytes
+
+-- what was read, without the spot after it
+abbrev pub value_of : {X : Type 0} → Result (X × Spot) Fault → Result X Fault
+value_of (Ok read) = Ok read.0
+value_of (Err fault) = Err fault
+
+-- what the bytes read as: the source that they are a text of, or their first fault
+unfoldable pub source_in : List ℕ → Result Source Fault
+source_in bytes = value_of (run source (spot 0 bytes))
 
 -- ---- what the program answers
 

@@ -1,5 +1,5 @@
 //! The laws of the language. Each is the contract of a function that does nothing else.
-ghost use Rattle.source_reader.specs.Laws.{TokenIsExact, TokenFaultIsExact, TextOrFault, NeverBoth, OneSource, OneFault, TextIsWellFormed};
+ghost use Rattle.source_reader.specs.Laws.{TokenIsExact, TokenFaultIsExact, TextOrFault, NeverBoth, OneSource, OneFault, SourceIn, FaultIn, TextIsWellFormed};
 
 use crate::token_laws::token_laws;
 use adv_text::laws::{number_leaves_bytes, string_is_text, string_leaves_bytes};
@@ -42,6 +42,20 @@ pub fn one_source()
 /// Bytes have one fault at most.
 pub fn one_fault()
     ensures { OneFault }
+{
+    token_laws();
+}
+
+/// What bytes read as is a source exactly where they are a text of it.
+pub fn source_in()
+    ensures { SourceIn }
+{
+    token_laws();
+}
+
+/// What bytes read as is a fault exactly where it is their first one.
+pub fn fault_in()
+    ensures { FaultIn }
 {
     token_laws();
 }

@@ -4,6 +4,7 @@
 mod bytes;
 mod conditions;
 mod entries;
+mod fault_texts;
 mod faults;
 pub mod laws;
 mod lines;
@@ -22,12 +23,10 @@ mod tree;
 
 pub use bytes::Bytes;
 pub use faults::SourceFault;
+pub use names::{condition_word, opcode_word};
 pub use reading::read_source;
 pub use sequences::Seq;
 pub use tree::{
     At, Cond, Entries, Head, ItemPart, LinePart, MessagePart, Op, Ref, RoomPart, Source, Spot,
     Vocab, WordPart,
 };
-
-#[cfg(test)]
-mod tests;

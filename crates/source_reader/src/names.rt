@@ -1,8 +1,8 @@
 //! The words of the language. A word that is none of them is a name.
-ghost use Rattle.std.specs.Prelude.{◌≡◌};
+ghost use Rattle.std.specs.Prelude.{◌≡◌, ◌≤◌, ◌<◌, [], map, length, slice_index_or};
 ghost use Rattle.std.specs.List.{position};
 ghost use Rattle.std.specs.Str.{bytes_eq};
-ghost use Rattle.source_reader.specs.Names.{condition_code, opcode_number, is_name};
+ghost use Rattle.source_reader.specs.Names.{condition_code, opcode_number, condition_word, opcode_word, is_name};
 
 // The words of conditions by their codes, from 0 on.
 const CONDITION_WORDS: [&[u8]; 20] = [
@@ -118,9 +118,48 @@ pub fn opcode_number(word: &[u8]) -> Option<u8>
     among(&OPCODE_WORDS, word).map(|k| (k + 52) as u8)
 }
 
+// The word of this number in a list of words.
+fn word_at<'a>(words: &[&'a [u8]], k: usize) -> &'a [u8]
+    requires { k < length words.now }
+    ensures { result.now ≡ slice_index_or (map (λ w. w.now) words.now) k [] }
+{
+    words[k]
+}
+
+/// The word of the condition with this code.
+#[tactic(auto, unfolding(crate::specs::Names::condition_word))]
+pub fn condition_word(code: u8) -> &'static [u8]
+    requires { code < 20 }
+    ensures { result.now ≡ condition_word code }
+{
+    word_at(&CONDITION_WORDS, code as usize)
+}
+
+/// The word of the opcode with this number.
+#[tactic(auto, unfolding(crate::specs::Names::opcode_word))]
+pub fn opcode_word(number: u8) -> &'static [u8]
+    requires least { 52 ≤ number }
+    requires most { number < 90 }
+    ensures { result.now ≡ opcode_word number }
+{
+    word_at(&OPCODE_WORDS, (number - 52) as usize)
+}
+
 /// Whether a word is a name, and none of the language.
-#[tactic(auto, unfolding(crate::specs::Names::is_name))]
+#[tactic(auto, using(crate::proofs::NameWords::name_second))]
 pub fn is_name(word: &[u8]) -> bool
+    ensures { result ≡ is_name word.now }
+{
+    // No word of the language has a digit as its second byte.
+    if word.len() >= 2 && word[1].is_ascii_digit() {
+        return true;
+    }
+    is_none_of_the_language(word)
+}
+
+// The same, by all words of the language.
+#[tactic(auto, unfolding(crate::specs::Names::is_name))]
+fn is_none_of_the_language(word: &[u8]) -> bool
     ensures { result ≡ is_name word.now }
 {
     !(among(&OTHER_WORDS, word).is_some()

@@ -6,7 +6,7 @@ ghost use Rattle.adv_text.specs.Reading.{number_at, quoted_at};
 
 use crate::bytes::Bytes;
 use crate::faults::SourceFault;
-use crate::tokens::Token;
+use crate::tokens::{Token, WORD_LIMIT, Word};
 use adv_io::is_whitespace;
 use adv_text::{Scan, TextFault};
 use std::alloc::Global;
@@ -78,17 +78,17 @@ fn quoted(alloc: Global, scan: &mut Scan) -> Result<Token, SourceFault>
 }
 
 // The word that begins at the scan.
-fn word(alloc: Global, scan: &mut Scan) -> Result<Token, SourceFault>
+fn word(scan: &mut Scan) -> Result<Token, SourceFault>
     ensures { Reads (word_token (word_size scan.old.rest) scan.old) result scan.new }
 {
     let rest = scan.rest();
     let size = word_size(rest);
-    if size > 32 {
+    if size > WORD_LIMIT {
         return Err(SourceFault::LongName(scan.at()));
     }
-    let word = Vec::from_slice(alloc, &rest[..size])?;
+    let word = Word::of(&rest[..size]);
     scan.pass(size);
-    Ok(Token::Word(Bytes::of(word)))
+    Ok(Token::Word(word))
 }
 
 /// The token that begins at the scan, with nothing before it.
@@ -106,7 +106,7 @@ pub fn token(alloc: Global, scan: &mut Scan) -> Result<Token, SourceFault>
         return quoted(alloc, scan);
     }
     if byte.is_ascii_alphabetic() {
-        return word(alloc, scan);
+        return word(scan);
     }
     let mark = *byte;
     scan.pass(1);

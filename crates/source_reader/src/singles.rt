@@ -1,7 +1,7 @@
 //! Reading one thing: a number, a string, a name, a mark.
 ghost use Rattle.std.specs.Prelude.{◌≡◌};
 ghost use Rattle.source_reader.specs.Plan.{Follows};
-ghost use Rattle.source_reader.specs.Singles.{is_mark, is_word, is_end, any_token, symbol, key, end_of_text, number, string, reference, item_place, vocab_word};
+ghost use Rattle.source_reader.specs.Singles.{is_mark, is_word, is_end, is_end_mark, any_token, symbol, key, end_of_text, number, string, reference, item_place, vocab_word};
 
 use crate::bytes::Bytes;
 use crate::faults::SourceFault;
@@ -43,11 +43,23 @@ pub fn is_word(word: &[u8], token: &Token) -> bool
     }
 }
 
+// Whether a mark mostly stands right after what it ends.
+fn is_end_mark(byte: u8) -> bool
+    ensures { result ≡ is_end_mark byte }
+{
+    matches!(byte, b';' | b',' | b')')
+}
+
 /// Reads a mark of the language.
 #[tactic(auto, using(crate::proofs::Plans::sections), unfolding(crate::specs::Singles::symbol))]
 pub fn symbol(alloc: Global, scan: &mut Scan, byte: u8) -> Result<(), SourceFault>
     ensures { Follows (symbol byte) scan.old result scan.new }
 {
+    let rest = scan.rest();
+    if is_end_mark(byte) && rest.len() >= 1 && rest[0] == byte {
+        scan.pass(1);
+        return Ok(());
+    }
     let found = any_token(alloc, scan)?;
     if !is_mark(byte, &found.what) {
         return Err(SourceFault::Unexpected(found.at));
@@ -120,10 +132,10 @@ pub fn reference(alloc: Global, scan: &mut Scan) -> Result<At<Ref>, SourceFault>
             }
             Ok(At {
                 at,
-                what: Ref::Name(word),
+                what: Ref::Name(word.into_bytes(alloc)?),
             })
         }
-        _ => Err(SourceFault::Unexpected(at)),
+        _other => Err(SourceFault::Unexpected(at)),
     }
 }
 
@@ -156,10 +168,10 @@ pub fn item_place(alloc: Global, scan: &mut Scan) -> Result<At<Spot>, SourceFaul
             }
             Ok(At {
                 at,
-                what: Spot::Room(Ref::Name(word)),
+                what: Spot::Room(Ref::Name(word.into_bytes(alloc)?)),
             })
         }
-        _ => Err(SourceFault::Unexpected(at)),
+        _other => Err(SourceFault::Unexpected(at)),
     }
 }
 

@@ -30,9 +30,10 @@ pub fn titled(alloc: Global, scan: &mut Scan) -> Result<Title, SourceFault>
             if !is_name(word.as_slice()) {
                 return Err(SourceFault::Unexpected(at));
             }
+            let name = word.into_bytes(alloc)?;
             let text = string(alloc, scan)?;
             Ok(Title {
-                name: Some(At { at, what: word }),
+                name: Some(At { at, what: name }),
                 text,
             })
         }

@@ -1,7 +1,7 @@
 //! Texts that are read, and those that are refused, with ample memory.
-use super::*;
+use source_reader::{Op, Ref, SourceFault, Spot, condition_word, opcode_word, read_source};
 use std::alloc::{AllocError, Global};
-use std::test::*;
+use std::test::Fail;
 
 const FRONT: &[u8] = b"header {
 unused 0;
@@ -238,5 +238,14 @@ fn a_long_string_is_refused(rt: HostRuntime) -> Result<(), Fail> {
         read_source(rt.alloc(), &bytes).err(),
         Some(SourceFault::Unexpected(0))
     );
+    Ok(())
+}
+
+#[test]
+fn words_are_told_by_their_numbers(rt: HostRuntime) -> Result<(), Fail> {
+    assert_eq!(rt; condition_word(0), b"param".as_slice());
+    assert_eq!(rt; condition_word(19), b"counter_is".as_slice());
+    assert_eq!(rt; opcode_word(52), b"get".as_slice());
+    assert_eq!(rt; opcode_word(89), b"picture".as_slice());
     Ok(())
 }

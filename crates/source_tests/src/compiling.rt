@@ -1,8 +1,8 @@
 //! Sources that mean a database, and those that are refused, with ample memory.
-use super::*;
+use adv_compiler::{CompileFault, compile};
 use source_reader::read_source;
 use std::alloc::{AllocError, Global};
-use std::test::*;
+use std::test::Fail;
 
 const HEADER: &[u8] = b"header {
 unused 0;

@@ -1,0 +1,217 @@
+//! Sources, and the plain texts of the databases that they mean, with ample memory.
+use adv_compiler::compile;
+use adv_decompiler::decompile;
+use source_reader::read_source;
+use std::alloc::Global;
+use std::test::Fail;
+
+const PLAIN: &[u8] = b"header {
+unused 0;
+carry 5;
+start r1;
+treasures 0;
+length 3;
+light -1;
+home 0;
+}
+words {
+\"AUT\" \"ANY\";
+\"GO\" \"NORTH\";
+\"*WALK\" \"SOUTH\";
+\"LOOK\" \"EAST\";
+\"\" \"WEST\";
+\"\" \"UP\";
+\"\" \"DOWN\";
+}
+rooms {
+room r0 \"\": 0, 0, 0, 0, 0, 0;
+room r1 \"hall\": r2, 0, 0, 0, 0, 0;
+room r2 \"*I'm on a hill\": 0, r1, 0, 0, 0, 0;
+}
+messages {
+message m0 \"\";
+}
+items {
+item i0 \"Rug\": r1;
+}
+lines {
+also { } { } \"\";
+}
+trailer {
+416 1 0
+}
+";
+
+// A source, up to its lines and after them, and what is written of it.
+const FRONT: &[u8] =
+    b"header { unused -7; carry 5; start hall; treasures 3; length 3; light 40000; home 300; }
+words { \"AUT\" \"ANY\"; \"GO\" \"a\"\"b\"; }
+rooms {
+    room \"\": 0, hall, 0, 0, 0, 0;
+    room hall \"hall\": hill, 2, 1, 3, -1, 255;
+    room hill \"*I'm on a hill\": 0, hall, 0, 0, 0, 0;
+}
+messages { message \"\"; message warm \"It is \"\"warm\"\".\"; }
+items { item rug \"Rug\": hall; item \"Pin\": carried; item \"\": 0; item \"x\": 254; }
+lines {
+";
+
+const BACK: &[u8] = b"
+}
+trailer { 416 -1 7 }
+";
+
+const PLAIN_FRONT: &[u8] = b"header {
+unused -7;
+carry 5;
+start r1;
+treasures 3;
+length 3;
+light 40000;
+home 300;
+}
+words {
+\"AUT\" \"ANY\";
+\"GO\" \"a\"\"b\";
+}
+rooms {
+room r0 \"\": 0, r1, 0, 0, 0, 0;
+room r1 \"hall\": r2, r2, r1, 3, -1, 255;
+room r2 \"*I'm on a hill\": 0, r1, 0, 0, 0, 0;
+}
+messages {
+message m0 \"\";
+message m1 \"It is \"\"warm\"\".\";
+}
+items {
+item i0 \"Rug\": r1;
+item i1 \"Pin\": carried;
+item i2 \"\": nowhere;
+item i3 \"x\": 254;
+}
+lines {
+";
+
+const PLAIN_BACK: &[u8] = b"
+}
+trailer {
+416 -1 7
+}
+";
+
+// The plain text of the database that a source means.
+fn plain_of(alloc: Global, source: &[u8]) -> Result<Vec<u8>, Fail> {
+    let source = read_source(alloc, source)?;
+    let db = compile(alloc, &source)?;
+    Ok(decompile(alloc, &db)?)
+}
+
+// Three texts, one after another.
+fn joined(alloc: Global, front: &[u8], line: &[u8], back: &[u8]) -> Result<Vec<u8>, Fail> {
+    let mut bytes = Vec::from_slice(alloc, front)?;
+    bytes.extend_from_slice(line)?;
+    bytes.extend_from_slice(back)?;
+    Ok(bytes)
+}
+
+// Whether a line is written as the second one.
+fn is_written(alloc: Global, line: &[u8], plain: &[u8]) -> Result<bool, Fail> {
+    let source = joined(alloc, FRONT, line, BACK)?;
+    let expected = joined(alloc, PLAIN_FRONT, plain, PLAIN_BACK)?;
+    let written = plain_of(alloc, &source)?;
+    Ok(written.as_slice() == expected.as_slice())
+}
+
+#[test]
+fn a_plain_text_is_written_again(rt: HostRuntime) -> Result<(), Fail> {
+    let written = plain_of(rt.alloc(), PLAIN)?;
+    assert_eq!(rt; written.as_slice(), PLAIN);
+    Ok(())
+}
+
+#[test]
+fn tests_and_heads_are_written(rt: HostRuntime) -> Result<(), Fail> {
+    for (line, plain) in [
+        (
+            b"also { } { };".as_slice(),
+            b"also { } { } \"\";".as_slice(),
+        ),
+        (
+            b"auto 50 { carried 0; at 1; not_at 9; near 7; flag_set 1; } { more; } \"after\";".as_slice(),
+            b"auto 50 { carried i0; at r1; not_at 9; near 7; flag_set 1; } { more; } \"after\";".as_slice(),
+        ),
+        (
+            b"line \"GO\" 149 { in_game 3; out_of_game 4; at_start 0; not_at_start 1; at 0; } { op 0; op 90; op 0; say 1; } \"say \"\"hi\"\"\";".as_slice(),
+            b"line 1 149 { in_game i3; out_of_game 4; at_start i0; not_at_start i1; at 0; } { op 0; op 90; op 0; say m1; } \"say \"\"hi\"\"\";".as_slice(),
+        ),
+        (
+            b"also { param 0; param 5; } { } \"x\";".as_slice(),
+            b"also { param 0; param 5; } { } \"x\";".as_slice(),
+        ),
+        (
+            b"also { none_carried 5; some_carried 0; } { swap_room(3); picture(9); set(1); } \"\";".as_slice(),
+            b"also { none_carried 5; some_carried 0; } { swap_room(3); picture(9); set(1); } \"\";".as_slice(),
+        ),
+    ] {
+        assert!(rt; is_written(rt.alloc(), line, plain)?);
+    }
+    Ok(())
+}
+
+#[test]
+fn brackets_are_written(rt: HostRuntime) -> Result<(), Fail> {
+    for (line, plain) in [
+        (
+            b"line 3 0 { param 0; param 1; } { get; drop; } \"\";".as_slice(),
+            b"line 3 0 { } { get(i0); drop(i1); } \"\";".as_slice(),
+        ),
+        (
+            b"also { not_here 1; param 1; param 2; } { put; go(1); } \"\";".as_slice(),
+            b"also { not_here i1; } { put(i1, r2); go(r1); } \"\";".as_slice(),
+        ),
+        (
+            b"line 1 1 { param 0; param 1; param 2; param 3; param 4; } { swap; join; get; look; } \"\";".as_slice(),
+            b"line 1 1 { } { swap(i0, i1); join(i2, i3); get(4); look; } \"\";".as_slice(),
+        ),
+        (
+            b"also { counter_is 3; param 2; } { counter_set; } \"\";".as_slice(),
+            b"also { counter_is 3; } { counter_set(2); } \"\";".as_slice(),
+        ),
+        (
+            b"also { } { say 100; say 51; remove2; look2; } \"\";".as_slice(),
+            b"also { } { say 100; say 51; remove2(i0); look2; } \"\";".as_slice(),
+        ),
+        (
+            b"also { carried 0; } { get; drop; } \"\";".as_slice(),
+            b"also { carried i0; } { get(i0); drop(i0); } \"\";".as_slice(),
+        ),
+    ] {
+        assert!(rt; is_written(rt.alloc(), line, plain)?);
+    }
+    Ok(())
+}
+
+#[test]
+fn brackets_are_left_out(rt: HostRuntime) -> Result<(), Fail> {
+    for (line, plain) in [
+        (
+            b"line 3 0 { param 0; param 1; param 0; param 0; carried 0; } { get; drop; } \"\";".as_slice(),
+            b"line 3 0 { param 0; param 1; param 0; param 0; carried i0; } { get; drop; } \"\";".as_slice(),
+        ),
+        (
+            b"line 1 1 { param 0; param 1; param 2; param 3; param 4; } { swap; join; put; } \"\";".as_slice(),
+            b"line 1 1 { param 0; param 1; param 2; param 3; param 4; } { swap; join; put; } \"\";".as_slice(),
+        ),
+        (
+            b"also { param 1; here 0; } { take; } \"\";".as_slice(),
+            b"also { param 1; here i0; } { take; } \"\";".as_slice(),
+        ),
+        (
+            b"also { param 2; param 7; } { go; } \"\";".as_slice(),
+            b"also { param 2; param 7; } { go; } \"\";".as_slice(),
+        ),
+    ] {
+        assert!(rt; is_written(rt.alloc(), line, plain)?);
+    }
+    Ok(())
+}
