@@ -26,7 +26,7 @@ mutual
     NoArguments : Arguments
     MoreArguments : Expression → Arguments → Arguments
 
-  -- the further parts of a sum, each behind its sign
+  -- the further parts of a sum, each after its sign
   pub data Terms : Type 0 where
     NoTerms : Terms
     MoreTerms : SumOp → Expression → Terms → Terms

@@ -34,7 +34,4 @@ pub use statements::{Case, Change, Item, Stmt};
 pub use texts::Text;
 pub use values::{Const, Expr, ProdOp, SumOp};
 pub use widths::Width;
-pub use words::{is_character, is_name, is_reserved};
-
-#[cfg(test)]
-mod tests;
+pub use words::{NAME_LIMIT, is_character, is_name, is_reserved};

@@ -29,7 +29,7 @@ pub enum Expr {
     /// A number from 1 up to the value, by the next draw.
     Random(Box<Expr>),
     Neg(Box<Expr>),
-    /// A chain of sums and differences: its first part, and each further one behind its sign.
+    /// A chain of sums and differences: its first part, and each further one after its sign.
     Sum(Box<Expr>, Vec<(SumOp, Expr)>),
     /// A chain of products, quotients and remainders.
     Product(Box<Expr>, Vec<(ProdOp, Expr)>),

@@ -2,7 +2,7 @@
 //! proved by computing.
 ghost use Rattle.inform_tree.specs.Worked.{NamesJudged, LongNamesJudged, CharactersJudged, TestCounts, ChangesCountNothing, DepthLimitJudged, ChainsJudged, EmptyListsRefused};
 
-/// Small letters, digits and underscores are a name, where no digit is first and no word is reserved.
+/// Letters in lower case, digits and underscores are a name, where no digit is first and no word is reserved.
 pub fn names_judged()
     ensures { NamesJudged }
 {}
@@ -32,7 +32,7 @@ pub fn depth_limit_judged()
     ensures { DepthLimitJudged }
 {}
 
-/// A chain has a part behind its first one.
+/// A chain has a part after its first one.
 pub fn chains_judged()
     ensures { ChainsJudged }
 {}

@@ -1,5 +1,5 @@
 //! Each public call, on trees made by hand, and the list of reserved words.
-use crate::{
+use inform_tree::{
     Case, Change, Cond, Const, Directive, Expr, Item, Name, Program, Routine, Stmt, Text, Width,
     depth, is_character, is_name, is_reserved,
 };

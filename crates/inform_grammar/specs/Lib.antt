@@ -1,0 +1,16 @@
+pub mod Faults
+pub mod Trees
+pub mod Lexemes
+pub mod Values
+pub mod Conditions
+pub mod Statements
+pub mod Sentences
+pub mod Rules
+pub mod Plan
+pub mod ValueRules
+pub mod ConditionRules
+pub mod StatementRules
+pub mod Rule
+pub mod Reading
+pub mod Laws
+pub mod Worked

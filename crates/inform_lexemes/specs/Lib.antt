@@ -1,0 +1,4 @@
+pub mod Symbols
+pub mod Keywords
+pub mod Lexemes
+pub mod Laws

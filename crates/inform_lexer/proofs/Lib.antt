@@ -1,0 +1,14 @@
+pub mod Digits
+pub mod LongestSymbol
+pub mod Cutting
+pub mod StringLoops
+pub mod SpanBounds
+pub mod Said
+pub mod TokenLoop
+pub mod Exact
+pub mod Fronts
+pub mod WrittenStrings
+pub mod WrittenTables
+pub mod WrittenLexemes
+pub mod ReadLexemes
+pub mod Names

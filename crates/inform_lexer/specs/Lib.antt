@@ -1,0 +1,11 @@
+pub mod Pieces
+pub mod Bytes
+pub mod Numbers
+pub mod Strings
+pub mod Tokens
+pub mod Spans
+pub mod Answers
+pub mod Views
+pub mod Laws
+pub mod Written
+pub mod Worked

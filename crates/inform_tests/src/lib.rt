@@ -1,0 +1,10 @@
+//! Tests of the crates of the Inform profile: what no clause says, and that each public call succeeds
+//! with ample memory. They stand apart, so that no crate is proved twice for its tests.
+#![tactic(auto)]
+
+#[cfg(test)]
+mod lexemes;
+#[cfg(test)]
+mod tokens;
+#[cfg(test)]
+mod trees;
