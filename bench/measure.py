@@ -70,16 +70,40 @@ def peak_memory(command, folder):
     os.set_blocking(full, True)
     child = subprocess.Popen(command, cwd=folder, stdin=subprocess.DEVNULL, stdout=full)
     os.close(full)
-    quiet = 0
-    while quiet < 20 and child.poll() is None:
-        time.sleep(0.005)
-        quiet = quiet + 1 if status_line(child.pid, "State:").split()[0] == "S" else 0
-    peak = int(status_line(child.pid, "VmHWM:").split()[0]) * 1024
+    peak = peak_while_still(child)
     while os.read(out, 65536):
         pass
     os.close(out)
     child.wait()
     return peak
+
+
+def peak_memory_storing(command, folder, name):
+    """The peak memory in bytes of a command that stores a file of this name and says nothing.
+
+    The file is a pipe that nobody reads, so the program stands still when it stores.
+    """
+    pipe = os.path.join(folder, name)
+    if os.path.exists(pipe):
+        os.remove(pipe)
+    os.mkfifo(pipe)
+    child = subprocess.Popen(command, cwd=folder, stdin=subprocess.DEVNULL, stdout=subprocess.DEVNULL)
+    peak = peak_while_still(child)
+    with open(pipe, "rb") as stored:
+        while stored.read(65536):
+            pass
+    child.wait()
+    os.remove(pipe)
+    return peak
+
+
+def peak_while_still(child):
+    """The peak memory in bytes of a program, once it stands still."""
+    quiet = 0
+    while quiet < 20 and child.poll() is None:
+        time.sleep(0.005)
+        quiet = quiet + 1 if status_line(child.pid, "State:").split()[0] == "S" else 0
+    return int(status_line(child.pid, "VmHWM:").split()[0]) * 1024
 
 
 def status_line(pid, name):

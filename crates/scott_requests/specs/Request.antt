@@ -5,9 +5,12 @@ use Rattle.scott_requests.specs.declared.settings.TheConstants.{FIRST_SEED}
 use Rattle.scott_requests.specs.Parts.{file_name}
 use Rattle.scott_requests.specs.Settings.{DrawSource, seeded, no_settings, settings_from}
 
--- the file of this name is to be checked, or to be played with these draws
+-- the database of this name is to be checked, or to be played with these draws; a source is to be compiled to a database, or a
+-- database decompiled to a source, from the file of the first name to that of the second
 pub data Request : Type 0 where
   check : List ℕ → Request
+  compile : List ℕ → List ℕ → Request
+  decompile : List ℕ → List ℕ → Request
   play : List ℕ → DrawSource → Request
 
 -- ---- the forms of the commands: what the words after a command ask for
@@ -16,6 +19,17 @@ pub data Request : Type 0 where
 abbrev pub check_form : List (List ℕ) → Option Request
 check_form (game ∷ []) = option_map check (file_name game)
 check_form _ = None
+
+-- two files, from the first of which the second is made
+abbrev pub two_names : List (List ℕ) → Option (List ℕ × List ℕ)
+two_names (from ∷ to ∷ []) = option_and_then (λ first. option_map (λ second. (first, second)) (file_name to)) (file_name from)
+two_names _ = None
+
+abbrev pub compile_form : List (List ℕ) → Option Request
+compile_form words = option_map (λ names. compile names.0 names.1) (two_names words)
+
+abbrev pub decompile_form : List (List ℕ) → Option Request
+decompile_form words = option_map (λ names. decompile names.0 names.1) (two_names words)
 
 -- one file, and settings: where the draws come from
 abbrev pub play_form : List (List ℕ) → Option Request
@@ -31,6 +45,8 @@ abbrev pub request_in : List (List ℕ) → Option Request
 request_in [] = None
 request_in (command ∷ words) =
     if bytes_eq command (codes "check") then check_form words else
+    if bytes_eq command (codes "compile") then compile_form words else
+    if bytes_eq command (codes "decompile") then decompile_form words else
     if bytes_eq command (codes "play") then play_form words else None
 
 -- the same of the program's words

@@ -6,9 +6,9 @@ use Rattle.scott_requests.specs.declared.settings.Setting.{Setting as HeldSettin
 use Rattle.scott_requests.specs.declared.settings.Setting.TheVariants.{Draws}
 use Rattle.scott_requests.specs.declared.settings.Settings.{Settings as HeldSettings}
 use Rattle.scott_requests.specs.declared.requests.Request.{Request as HeldRequest}
-use Rattle.scott_requests.specs.declared.requests.Request.TheVariants.{Check, Play}
+use Rattle.scott_requests.specs.declared.requests.Request.TheVariants.{Check, Compile, Decompile, Play}
 use Rattle.scott_requests.specs.Settings.{DrawSource, listed, seeded, Setting, draws, Settings}
-use Rattle.scott_requests.specs.Request.{Request, check, play}
+use Rattle.scott_requests.specs.Request.{Request, check, compile, decompile, play}
 
 abbrev pub source_of : HeldSource → DrawSource
 source_of (Listed name) = listed name.now
@@ -22,4 +22,6 @@ settings_of settings = record { source = option_map source_of settings.draws }
 
 abbrev pub request_of : HeldRequest → Request
 request_of (Check game) = check game.now
+request_of (Compile source game) = compile source.now game.now
+request_of (Decompile game source) = decompile game.now source.now
 request_of (Play game source) = play game.now (source_of source)

@@ -1,15 +1,22 @@
 //! Requests: a command, the names of its files, and its settings.
 ghost use Rattle.std.specs.Prelude.{◌≡◌, map, string_bytes, option_map};
-ghost use Rattle.scott_requests.specs.Request.{check_form, play_form, asked_by};
+ghost use Rattle.scott_requests.specs.Request.{check_form, two_names, compile_form, decompile_form, play_form, asked_by};
 ghost use Rattle.scott_requests.specs.Views.{request_of};
 
 use crate::parts::file_name;
 use crate::settings::{DrawSource, FIRST_SEED, settings_in};
 
-/// What is asked for: a database is to be checked, or to be played with these draws.
+/// What is asked for.
+///
+/// - `Check`: the database of this name is to be reported on.
+/// - `Compile`: the source of the first name is to be stored as a database under the second one.
+/// - `Decompile`: the database of the first name is to be stored as a source under the second one.
+/// - `Play`: the database of this name is to be played with these draws.
 #[derive(Clone, Copy, Debug, PartialEq, Eq)]
 pub enum Request<'a> {
     Check(&'a str),
+    Compile(&'a str, &'a str),
+    Decompile(&'a str, &'a str),
     Play(&'a str, DrawSource<'a>),
 }
 
@@ -21,6 +28,33 @@ fn check_form(words: &[String]) -> Option<Request<'_>>
         [game] => Some(Request::Check(file_name(game.as_str())?)),
         _ => None,
     }
+}
+
+// The names of two files.
+fn two_names(words: &[String]) -> Option<(&str, &str)>
+    ensures { option_map (λ names. (names.0.now, names.1.now)) result
+        ≡ two_names (map string_bytes words.now) }
+{
+    match words {
+        [from, to] => Some((file_name(from.as_str())?, file_name(to.as_str())?)),
+        _ => None,
+    }
+}
+
+// `compile` with the words after it.
+fn compile_form(words: &[String]) -> Option<Request<'_>>
+    ensures { option_map request_of result ≡ compile_form (map string_bytes words.now) }
+{
+    let (source, game) = two_names(words)?;
+    Some(Request::Compile(source, game))
+}
+
+// `decompile` with the words after it.
+fn decompile_form(words: &[String]) -> Option<Request<'_>>
+    ensures { option_map request_of result ≡ decompile_form (map string_bytes words.now) }
+{
+    let (game, source) = two_names(words)?;
+    Some(Request::Decompile(game, source))
 }
 
 // `play` with the words after it.
@@ -41,6 +75,12 @@ pub fn request_in(words: &[String]) -> Option<Request<'_>>
     let (command, rest) = words.split_first()?;
     if command.as_str() == "check" {
         return check_form(rest);
+    }
+    if command.as_str() == "compile" {
+        return compile_form(rest);
+    }
+    if command.as_str() == "decompile" {
+        return decompile_form(rest);
     }
     if command.as_str() == "play" {
         return play_form(rest);

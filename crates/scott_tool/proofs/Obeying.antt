@@ -1,16 +1,18 @@
 -- That what is expected is done, or refused.
-use Rattle.std.proofs.Common.{◌≡◌, ℕ, List, [], ◌∷◌, Option, Some, None, IfSome, Result, Ok, Err, MatchResult, OnOk, OnErr, refl, sym, subst, inl, inr, ◌⊎◌, arith}
+use Rattle.std.proofs.Common.{◌≡◌, ◌≤◌, ℕ, List, [], ◌∷◌, Option, Some, None, IfSome, Result, Ok, Err, MatchResult, OnOk, OnErr, refl, sym, ap, subst, inl, inr, ◌⊎◌, arith}
 use Rattle.std.specs.Prelude.{Contains}
 use Rattle.adv_io.specs.declared.events.Event.{Event}
 use Rattle.adv_io.specs.Console.{ConsoleView}
 use Rattle.adv_io.specs.Faults.{Rose, HasCause}
 use Rattle.adv_io.specs.History.{grown, GrewByPrefix}
+use Rattle.adv_io.specs.Shelf.{ShelfView, with_file, without}
+use Rattle.adv_io.proofs.Sayings.{grown-nil}
 use Rattle.scott_tool.specs.declared.refusals.ContentFault.{ContentFault}
-use Rattle.scott_tool.specs.declared.refusals.ContentFault.TheVariants.{NoDatabase, NoDraws}
-use Rattle.scott_tool.specs.Refusal.{Refusal, Unfit, no_request, unread, too_long, unfit, refusing, content_status, status_of}
-use Rattle.scott_tool.specs.Outcome.{done, refused, Concludes}
-use Rattle.scott_tool.specs.Work.{Task, Does, task_statuses}
-use Rattle.scott_tool.specs.Obeying.{Stands, Answers, Obeys, Refuses, Declines}
+use Rattle.scott_tool.specs.declared.refusals.ContentFault.TheVariants.{NoDatabase, NoSource, NoMeaning, NoDraws}
+use Rattle.scott_tool.specs.Refusal.{Refusal, Unfit, no_request, unread, too_long, unfit, unwritten, refusing, content_status, status_of}
+use Rattle.scott_tool.specs.Outcome.{Outcome, done, keeping, refused, kept, Concludes, Loses, Ends, whole, unsaid, unstored}
+use Rattle.scott_tool.specs.Work.{Task, reporting, storing, playing, Does, task_statuses}
+use Rattle.scott_tool.specs.Obeying.{Stands, Answers, Leaves, Obeys, Refuses, FailsToStore, Declines}
 use Rattle.scott_tool.proofs.Statuses.{first, task_has_0}
 
 whatever : (P : List (List ℕ) → Type 0) → ((lines : List (List ℕ)) → P lines) → (o : Option (List (List ℕ))) → IfSome o P
@@ -26,6 +28,12 @@ content_not : (fault : ContentFault) (n : ℕ) → (n ≡ 0) ⊎ (n ≡ 9) ⊎ (
 content_not (NoDatabase fault) n (inl e) f = omega arith
 content_not (NoDatabase fault) n (inr (inl e)) f = omega arith
 content_not (NoDatabase fault) n (inr (inr e)) f = omega arith
+content_not (NoSource fault) n (inl e) f = omega arith
+content_not (NoSource fault) n (inr (inl e)) f = omega arith
+content_not (NoSource fault) n (inr (inr e)) f = omega arith
+content_not (NoMeaning fault) n (inl e) f = omega arith
+content_not (NoMeaning fault) n (inr (inl e)) f = omega arith
+content_not (NoMeaning fault) n (inr (inr e)) f = omega arith
 content_not (NoDraws fault) n (inl e) f = omega arith
 content_not (NoDraws fault) n (inr (inl e)) f = omega arith
 content_not (NoDraws fault) n (inr (inr e)) f = omega arith
@@ -41,6 +49,42 @@ refusal_not (too_long name limit) n (inl e) f = omega arith
 refusal_not (too_long name limit) n (inr (inl e)) f = omega arith
 refusal_not (too_long name limit) n (inr (inr e)) f = omega arith
 refusal_not (unfit u) n h f = content_not u.fault n h f
+refusal_not (unwritten name) n (inl e) f = omega arith
+refusal_not (unwritten name) n (inr (inl e)) f = omega arith
+refusal_not (unwritten name) n (inr (inr e)) f = omega arith
+
+-- the files stay where nothing was done
+nothing_done : (shelf : ShelfView) (expected : Result Task Refusal) (status : ℕ) → (status ≡ 0 → ⊥) → Leaves shelf shelf expected status
+nothing_done shelf (Ok (reporting db)) status not_0 = refl
+nothing_done shelf (Ok (storing name bytes)) status not_0 = record { stored = λ e. absurd (not_0 e); stay = inr (inl refl) }
+nothing_done shelf (Ok (playing db draws)) status not_0 = refl
+nothing_done shelf (Err refusal) status not_0 = refl
+
+-- and where what was done is all said
+said_stays : (shelf : ShelfView) (task : Task) (status : ℕ) (events : List Event) (lines : List (List ℕ)) → Does task lines (done events) → Leaves shelf shelf (Ok task) status
+said_stays shelf (reporting db) status events lines does = refl
+said_stays shelf (storing name bytes) status events lines does = absurd (let stored = ap (λ o. o.stored) does in cc)
+said_stays shelf (playing db draws) status events lines does = refl
+
+-- what concludes and stores nothing ends so
+concluded : (shelf : ShelfView) (old new : ConsoleView) (o : Outcome) (status : ℕ) → o.stored ≡ None → Concludes old new o status → Ends shelf shelf old new o status
+concluded shelf old new o status none (inl h) = whole h.0 h.1 (sym (ap (kept shelf.files) none))
+concluded shelf old new o status none (inr h) = unsaid h.0 h.1 h.2 refl
+
+-- the file was stored, and nothing is said
+pub obeys-stored : (shelf shelf' : ShelfView) (view : ConsoleView) (name bytes : List ℕ) → shelf'.files ≡ with_file shelf.files name bytes → shelf'.faults ≡ shelf.faults
+    → Obeys shelf shelf' view view (Ok (storing name bytes)) 0
+obeys-stored shelf shelf' view name bytes files faults = record {
+  answered = whatever (λ lines. Answers shelf shelf' view view lines (Ok (storing name bytes)) 0)
+      (λ lines. inl (keeping name bytes, refl, whole refl (sym (grown-nil view.history)) files)) view.left;
+  stands = inl (first 0);
+  silent = λ e. refl;
+  lines = inl refl;
+  files = record { stored = λ e. files; stay = inl refl };
+  shelf_later = omega arith;
+  later = omega arith;
+  steady = λ h. (faults, refl);
+}
 
 module _ (old new : ConsoleView) (status : ℕ) where
   -- a request that is refused isn't done, and memory didn't run out
@@ -52,61 +96,117 @@ module _ (old new : ConsoleView) (status : ℕ) where
   refused_not_9 refusal (inl h) e = refusal_not refusal status (inr (inl e)) (sym h.0)
   refused_not_9 refusal (inr h) e = absurd (let f = h.0 in omega arith)
 
-  refused_stands : (refusal : Refusal) → Concludes old new (refused refusal) status → Stands ⊥ (Rose old.faults new.faults) (status_of refusal ∷ []) status
-  refused_stands refusal (inl h) = inl (subst (Contains (status_of refusal ∷ [])) (sym h.0) (first (status_of refusal)))
-  refused_stands refusal (inr h) = inr (inr (inl (h.0, h.1)))
+  refused_stands : (S : Type 0) (refusal : Refusal) → Concludes old new (refused refusal) status → Stands S (Rose old.faults new.faults) (status_of refusal ∷ []) status
+  refused_stands S refusal (inl h) = inl (subst (Contains (status_of refusal ∷ [])) (sym h.0) (first (status_of refusal)))
+  refused_stands S refusal (inr h) = inr (inr (inl (h.0, h.1)))
 
-  -- memory ran out
-  pub obeys-starved : (expected : Result Task Refusal) → Refuses old new None status → Obeys old new expected status
-  obeys-starved expected r = record {
-    answered = whatever (λ lines. Answers old new lines expected status) (λ lines. inr r.ended) old.left;
-    stands = inr (inl r.ended.0);
-    silent = λ e. r.ended.1;
-    lines = inr (inr r.lines);
-    later = r.later;
-    steady = λ h. r.steady r.ended.0;
-  }
+  module _ (shelf : ShelfView) where
+    -- memory ran out
+    pub obeys-starved : (expected : Result Task Refusal) → Refuses old new None status → Obeys shelf shelf old new expected status
+    obeys-starved expected r = record {
+      answered = whatever (λ lines. Answers shelf shelf old new lines expected status) (λ lines. inr r.ended) old.left;
+      stands = inr (inl r.ended.0);
+      silent = λ e. r.ended.1;
+      lines = inr (inr r.lines);
+      files = nothing_done shelf expected status (λ e. let nine = r.ended.0 in omega arith);
+      shelf_later = omega arith;
+      later = r.later;
+      steady = λ h. (refl, r.steady r.ended.0);
+    }
 
-  obeys-unfit : (u : Unfit) → Refuses old new (Some (unfit u)) status → Obeys old new (Err (unfit u)) status
-  obeys-unfit u r = record {
-    answered = whatever (λ lines. Answers old new lines (Err (unfit u)) status) (λ lines. inl (refused (unfit u), refl, r.ended)) old.left;
-    stands = refused_stands (unfit u) r.ended;
-    silent = λ e. absurd (refused_not_9 (unfit u) r.ended e);
-    lines = inr (inr r.lines);
-    later = r.later;
-    steady = λ h. elim h [ inl e ↦ absurd (refused_not_0 (unfit u) r.ended e) | inr e ↦ r.steady e ];
-  }
+    obeys-unfit : (u : Unfit) → Refuses old new (Some (unfit u)) status → Obeys shelf shelf old new (Err (unfit u)) status
+    obeys-unfit u r = record {
+      answered = whatever (λ lines. Answers shelf shelf old new lines (Err (unfit u)) status)
+          (λ lines. inl (refused (unfit u), refl, concluded shelf old new (refused (unfit u)) status refl r.ended)) old.left;
+      stands = refused_stands (Rose shelf.faults shelf.faults) (unfit u) r.ended;
+      silent = λ e. absurd (refused_not_9 (unfit u) r.ended e);
+      lines = inr (inr r.lines);
+      files = refl;
+      shelf_later = omega arith;
+      later = r.later;
+      steady = λ h. elim h [ inl e ↦ absurd (refused_not_0 (unfit u) r.ended e) | inr e ↦ (refl, r.steady e) ];
+    }
 
-  -- a content was refused
-  pub obeys-declined : (expected : Result Task Unfit) (refusal : Option Refusal) → Declines expected refusal → Refuses old new refusal status
-      → Obeys old new (refusing expected) status
-  obeys-declined expected None d r = obeys-starved (refusing expected) r
-  obeys-declined expected (Some no_request) d r = absurd d
-  obeys-declined expected (Some (unread name)) d r = absurd d
-  obeys-declined expected (Some (too_long name limit)) d r = absurd d
-  obeys-declined expected (Some (unfit u)) d r = subst (λ (x : Result Task Unfit). Obeys old new (refusing x) status) (sym d) (obeys-unfit u r)
+    -- a content was refused
+    pub obeys-declined : (expected : Result Task Unfit) (refusal : Option Refusal) → Declines expected refusal → Refuses old new refusal status
+        → Obeys shelf shelf old new (refusing expected) status
+    obeys-declined expected None d r = obeys-starved (refusing expected) r
+    obeys-declined expected (Some no_request) d r = absurd d
+    obeys-declined expected (Some (unread name)) d r = absurd d
+    obeys-declined expected (Some (too_long name limit)) d r = absurd d
+    obeys-declined expected (Some (unfit u)) d r =
+        subst (λ (x : Result Task Unfit). Obeys shelf shelf old new (refusing x) status) (sym d) (obeys-unfit u r)
+    obeys-declined expected (Some (unwritten name)) d r = absurd d
 
-  module _ (task : Task) (events : List (List ℕ) → List Event) (does : (lines : List (List ℕ)) → Does task lines (done (events lines))) where
+  -- ---- what is stored
+
+  module _ (shelf shelf' : ShelfView) (name bytes : List ℕ) where
+    -- the shelf failed
+    obeys-unstored : Loses shelf shelf' name → shelf.faults ≤ shelf'.faults → Refuses old new (Some (unwritten name)) status
+        → Obeys shelf shelf' old new (Ok (storing name bytes)) status
+    obeys-unstored loses more r = record {
+      answered = whatever (λ lines. Answers shelf shelf' old new lines (Ok (storing name bytes)) status)
+          (λ lines. inl (keeping name bytes, refl, unstored (record { name = name; bytes = bytes }) refl loses r.ended)) old.left;
+      stands = elim r.ended [ inl h ↦ inr (inr (inr (h.0, loses.0))) | inr h ↦ inr (inr (inl (h.0, h.1))) ];
+      silent = λ e. absurd (refused_not_9 (unwritten name) r.ended e);
+      lines = inr (inr r.lines);
+      files = record { stored = λ e. absurd (refused_not_0 (unwritten name) r.ended e); stay = inr (inr loses) };
+      shelf_later = more;
+      later = r.later;
+      steady = λ h. elim h [
+        | inl e ↦ absurd (refused_not_0 (unwritten name) r.ended e)
+        | inr e ↦ absurd (refused_not_9 (unwritten name) r.ended e)
+      ];
+    }
+
+    -- memory ran out as it stored
+    obeys-unkept : shelf'.files ≡ shelf.files → shelf'.faults ≡ shelf.faults → Refuses old new None status
+        → Obeys shelf shelf' old new (Ok (storing name bytes)) status
+    obeys-unkept files faults r =
+        let same : record { files = shelf'.files; faults = shelf'.faults } ≡ shelf = λ i. record { files = files i; faults = faults i } in
+        subst (λ (s : ShelfView). Obeys shelf s old new (Ok (storing name bytes)) status) (sym same) (obeys-starved shelf (Ok (storing name bytes)) r)
+
+    -- the file wasn't stored
+    pub obeys-not_stored : (refusal : Option Refusal) → FailsToStore shelf shelf' name refusal → shelf.faults ≤ shelf'.faults → Refuses old new refusal status
+        → Obeys shelf shelf' old new (Ok (storing name bytes)) status
+    obeys-not_stored None h more r = obeys-unkept h.0 h.1 r
+    obeys-not_stored (Some (unwritten other)) h more r =
+        obeys-unstored h.1 more (subst (λ (n : List ℕ). Refuses old new (Some (unwritten n)) status) h.0 r)
+    obeys-not_stored (Some no_request) h more r = absurd h
+    obeys-not_stored (Some (unread other)) h more r = absurd h
+    obeys-not_stored (Some (too_long other limit)) h more r = absurd h
+    obeys-not_stored (Some (unfit u)) h more r = absurd h
+
+  -- ---- what is shown
+
+  module _ (shelf : ShelfView) (task : Task) (events : List (List ℕ) → List Event) (does : (lines : List (List ℕ)) → Does task lines (done (events lines))) where
+    stays : Leaves shelf shelf (Ok task) status
+    stays = said_stays shelf task status (events []) [] (does [])
+
     -- what a task shows was shown, or the console failed
     showed : {T E : Type 0} (result : Result T E)
         → IfSome old.left (λ lines. OnOk result (new.history ≡ grown old.history (events lines)))
         → IfSome old.left (λ lines. OnErr result (GrewByPrefix old.history new.history (events lines)))
-        → HasCause old.faults new.faults result → MatchResult result (λ _. status ≡ 0) (λ _. status ≡ 3) → Obeys old new (Ok task) status
+        → HasCause old.faults new.faults result → MatchResult result (λ _. status ≡ 0) (λ _. status ≡ 3) → Obeys shelf shelf old new (Ok task) status
     showed (Ok value) said part cause e = record {
-      answered = where_known (λ lines. new.history ≡ grown old.history (events lines)) (λ lines. Answers old new lines (Ok task) status)
-          (λ lines h. inl (done (events lines), does lines, inl (e, h))) old.left said;
+      answered = where_known (λ lines. new.history ≡ grown old.history (events lines)) (λ lines. Answers shelf shelf old new lines (Ok task) status)
+          (λ lines h. inl (done (events lines), does lines, whole e h refl)) old.left said;
       stands = inl (subst (Contains (task_statuses task)) (sym e) (task_has_0 task));
       silent = λ f. absurd (omega arith);
       lines = inl e;
+      files = stays;
+      shelf_later = omega arith;
       later = cause.later;
-      steady = λ h. cause.steady;
+      steady = λ h. (refl, cause.steady);
     }
     showed (Err fault) said part cause e = record {
-      answered = where_known (λ lines. GrewByPrefix old.history new.history (events lines)) (λ lines. Answers old new lines (Ok task) status)
-          (λ lines h. inl (done (events lines), does lines, inr (e, cause.failed, h))) old.left part;
+      answered = where_known (λ lines. GrewByPrefix old.history new.history (events lines)) (λ lines. Answers shelf shelf old new lines (Ok task) status)
+          (λ lines h. inl (done (events lines), does lines, unsaid e cause.failed h refl)) old.left part;
       stands = inr (inr (inl (e, cause.failed)));
       silent = λ f. absurd (omega arith);
       lines = inr (inl e);
+      files = stays;
+      shelf_later = omega arith;
       later = cause.later;
       steady = λ h. elim h [ inl f ↦ absurd (omega arith) | inr f ↦ absurd (omega arith) ];
     }
@@ -114,9 +214,9 @@ module _ (old new : ConsoleView) (status : ℕ) where
     pub obeys-shown : {T E : Type 0} (expected : Result Task Unfit) (result : Result T E) → expected ≡ Ok task
         → IfSome old.left (λ lines. OnOk result (new.history ≡ grown old.history (events lines)))
         → IfSome old.left (λ lines. OnErr result (GrewByPrefix old.history new.history (events lines)))
-        → HasCause old.faults new.faults result → MatchResult result (λ _. status ≡ 0) (λ _. status ≡ 3) → Obeys old new (refusing expected) status
+        → HasCause old.faults new.faults result → MatchResult result (λ _. status ≡ 0) (λ _. status ≡ 3) → Obeys shelf shelf old new (refusing expected) status
     obeys-shown expected result e said part cause is =
-        subst (λ (x : Result Task Unfit). Obeys old new (refusing x) status) (sym e) (showed result said part cause is)
+        subst (λ (x : Result Task Unfit). Obeys shelf shelf old new (refusing x) status) (sym e) (showed result said part cause is)
 
     -- events that no line changes
     pub known_said : {T E : Type 0} (result : Result T E) (all : List Event) → ((lines : List (List ℕ)) → events lines ≡ all) → OnOk result (new.history ≡ grown old.history all)

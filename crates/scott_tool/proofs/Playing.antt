@@ -3,6 +3,7 @@ use Rattle.std.proofs.Common.{◌≡◌, ◌∙◌, ℕ, List, IfSome, Result, O
 use Rattle.adv_draws.specs.Supply.{Supply}
 use Rattle.adv_io.specs.declared.events.Event.{Event}
 use Rattle.adv_io.specs.Console.{ConsoleView}
+use Rattle.adv_io.specs.Shelf.{ShelfView}
 use Rattle.adv_io.specs.Faults.{HasCause}
 use Rattle.adv_io.specs.History.{grown, GrewByPrefix, shown}
 use Rattle.adv_io.specs.declared.faults.ConsoleFault.{ConsoleFault}
@@ -20,13 +21,13 @@ use Rattle.scott_tool.specs.Obeying.{Obeys}
 use Rattle.scott_tool.proofs.Obeying.{where_known, obeys-shown}
 
 -- from the beginning of a game
-pub obeys-played : (old new : ConsoleView) (status : ℕ) (db : Database) (draws : List ℕ) (result : Result Ending ConsoleFault)
+pub obeys-played : (shelf : ShelfView) (old new : ConsoleView) (status : ℕ) (db : Database) (draws : List ℕ) (result : Result Ending ConsoleFault)
     (game : Database) (position : Position) (state : State) (after : SessionView) (before now : Supply)
     → game ≡ db → position ≡ Fresh → state ≡ start db
     → IfSome old.left (λ lines. Plays old new result (go game position state lines draws) after before now)
-    → HasCause old.faults new.faults result → MatchResult result (λ _. status ≡ 0) (λ _. status ≡ 3) → Obeys old new (Ok (playing db draws)) status
-obeys-played old new status db draws result game position state after before now is at_fresh at_start plays cause status_is =
-    obeys-shown old new status (playing db draws) (λ lines. shown (trace_of (play db lines draws).events)) (λ lines. refl) (Ok (playing db draws)) result refl
+    → HasCause old.faults new.faults result → MatchResult result (λ _. status ≡ 0) (λ _. status ≡ 3) → Obeys shelf shelf old new (Ok (playing db draws)) status
+obeys-played shelf old new status db draws result game position state after before now is at_fresh at_start plays cause status_is =
+    obeys-shown old new status shelf (playing db draws) (λ lines. shown (trace_of (play db lines draws).events)) (λ lines. refl) (Ok (playing db draws)) result refl
     (where_known (λ lines. Plays old new result (go game position state lines draws) after before now)
     (λ lines. OnOk result (new.history ≡ grown old.history (shown (trace_of (play db lines draws).events))))
     (λ lines p. subst (λ (all : List Event). OnOk result (new.history ≡ grown old.history all)) (same lines) p.shows) old.left plays)

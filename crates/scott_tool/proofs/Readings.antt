@@ -5,18 +5,34 @@ use Rattle.adv_draws.specs.Listed.{listed_draws}
 use Rattle.adv_io.specs.Shelf.{Files}
 use Rattle.scott_format.specs.Faults.{Fault}
 use Rattle.scott_format.specs.File.{DatText, database_in}
-use Rattle.scott_format.specs.Laws.{DatabaseIn}
+use Rattle.adv_compiler.specs.Faults as meaning
+use Rattle.adv_compiler.specs.Meaning.{meant}
+use Rattle.adv_decompiler.specs.Plain.{plain}
+use Rattle.scott_format.specs.Canon.{canon}
+use Rattle.scott_format.specs.Laws.{DatabaseIn, FaultIn}
+use Rattle.source_reader.specs.Faults as reading
+use Rattle.source_reader.specs.Laws.{SourceIn, FaultIn as SourceFaultIn}
+use Rattle.source_reader.specs.Text.{SourceText, TextFault, source_in}
+use Rattle.source_reader.specs.declared.tree.Source.{Source}
 use Rattle.scott_requests.specs.Settings.{DrawSource, listed, seeded}
-use Rattle.scott_requests.specs.Request.{Request, check, play}
+use Rattle.scott_requests.specs.Request.{Request, check, compile, decompile, play}
 use Rattle.scott_types.specs.Database.{Database}
 use Rattle.scott_tool.specs.Steps.{◌>>=◌}
 use Rattle.scott_tool.specs.Refusal.{Refusal, Unfit, refusing, content_status}
-use Rattle.scott_tool.specs.Loading.{Load, main_of, draws_of, draws_load, database_load, loaded, Texts}
+use Rattle.scott_tool.specs.Loading.{Load, main_of, draws_of, draws_load, database_load, source_load, loaded, Texts}
 use Rattle.scott_tool.specs.Check.{database_or_unfit, database_of_file}
+use Rattle.scott_tool.specs.Compile.{source_or_unfit, meaning_or_unfit, compiled_from, IsNoSource}
 use Rattle.scott_tool.specs.Play.{draws_or_unfit, draws_from, DrawsAre}
-use Rattle.scott_tool.specs.Work.{Task, reporting, playing, work, expected}
+use Rattle.scott_tool.specs.Work.{Task, reporting, storing, playing, work, expected}
 use Rattle.scott_tool.specs.Causes.{IsAccepted}
-use Rattle.scott_tool.proofs.Files.{bind-err, there-loaded, loaded-there}
+use Rattle.scott_tool.proofs.Files.{bind-ok, bind-err, there-loaded, loaded-there}
+
+-- what is known of reading
+pub record Laws : Type 0 where
+  pub database : DatabaseIn
+  pub database_fault : FaultIn
+  pub source : SourceIn
+  pub source_fault : SourceFaultIn
 
 -- ---- why a content is refused
 
@@ -29,6 +45,37 @@ database_unfit : (name : List ℕ) (read : Result Database Fault) (u : Unfit) �
 database_unfit name (Ok db) u e = absurd cc
 database_unfit name (Err fault) u e = (fault, refl, sym (ap status_in e))
 
+source_unfit : (name : List ℕ) (read : Result Source reading.Fault) (u : Unfit) → source_or_unfit name read ≡ Err u
+    → (fault : reading.Fault) × (read ≡ Err fault) × (content_status u.fault ≡ 5)
+source_unfit name (Ok tree) u e = absurd cc
+source_unfit name (Err fault) u e = (fault, refl, sym (ap status_in e))
+
+meaning_unfit : (name : List ℕ) (read : Result Database meaning.Fault) (u : Unfit) → meaning_or_unfit name read ≡ Err u
+    → (fault : meaning.Fault) × (read ≡ Err fault) × (content_status u.fault ≡ 5)
+meaning_unfit name (Ok db) u e = absurd cc
+meaning_unfit name (Err fault) u e = (fault, refl, sym (ap status_in e))
+
+source_fit : (name : List ℕ) (read : Result Source reading.Fault) (tree : Source) → source_or_unfit name read ≡ Ok tree → read ≡ Ok tree
+source_fit name (Ok other) tree e = let same : other ≡ tree = cc in ap Ok same
+source_fit name (Err fault) tree e = absurd cc
+
+meaning_fit : (name : List ℕ) (read : Result Database meaning.Fault) (db : Database) → meaning_or_unfit name read ≡ Ok db → read ≡ Ok db
+meaning_fit name (Ok other) db e = let same : other ≡ db = cc in ap Ok same
+meaning_fit name (Err fault) db e = absurd cc
+
+abbrev means : List ℕ → Source → Result Database Unfit
+means name tree = meaning_or_unfit name (meant tree)
+
+-- a text that can't be compiled is no source, or one that means no database
+compiled_unfit : Laws → (name bytes : List ℕ) (u : Unfit) → compiled_from name bytes ≡ Err u → IsNoSource bytes × (content_status u.fault ≡ 5)
+compiled_unfit laws name bytes u e =
+    elim (bind-err (source_or_unfit name (source_in bytes)) (means name) u e) [
+      | inl s ↦ (let f = source_unfit name (source_in bytes) u s in (inl (f.0, (laws.source_fault bytes f.0).0 f.1), f.2))
+      | inr m ↦
+          (let f = meaning_unfit name (meant m.0) u m.2 in
+          (inr (m.0, f.0, (laws.source bytes m.0).0 (source_fit name (source_in bytes) m.0 m.1), f.1), f.2))
+    ]
+
 draws_unfit : (source : DrawSource) (bytes : List ℕ) (u : Unfit) → draws_from source bytes ≡ Err u
     → (load : Load) × (at : ℕ) × (draws_load source ≡ Some load) × (listed_draws bytes ≡ Err at) × (content_status u.fault ≡ 5)
 draws_unfit (seeded seed) bytes u e = absurd cc
@@ -39,15 +86,19 @@ draws_unfit (listed name) bytes u e = by (listed_draws bytes) refl e
     by (Ok draws) f g = absurd cc
     by (Err at) f g = (_, at, refl, f, sym (ap status_in g))
 
--- the content that is refused is that of the database, or that of the draws
+-- the content that is refused is that of the database, of the source, or of the draws
 pub data Fails (request : Request) (texts : Texts) (u : Unfit) : Type 0 where
   bad_database : (load : Load) (fault : Fault) → main_of request ≡ Some load → database_in texts.main ≡ Err fault
       → content_status u.fault ≡ 4 → Fails request texts u
+  bad_source : (source game : List ℕ) → request ≡ compile source game → IsNoSource texts.main → content_status u.fault ≡ 5 → Fails request texts u
   bad_draws : (load : Load) (at : ℕ) → draws_of request ≡ Some load → listed_draws texts.draws ≡ Err at
       → content_status u.fault ≡ 5 → Fails request texts u
 
 abbrev report_of : Database → Result Task Unfit
 report_of db = Ok (reporting db)
+
+abbrev store_of : List ℕ → (Database → List ℕ) → Database → Result Task Unfit
+store_of name text db = Ok (storing name (text db))
 
 abbrev play_of : Database → List ℕ → Result Task Unfit
 play_of db draws = Ok (playing db draws)
@@ -55,13 +106,23 @@ play_of db draws = Ok (playing db draws)
 abbrev with_draws : DrawSource → List ℕ → Database → Result Task Unfit
 with_draws source bytes db = draws_from source bytes >>= play_of db
 
-pub fails : (request : Request) (texts : Texts) (u : Unfit) → work request texts ≡ Err u → Fails request texts u
-fails (check game) texts u e =
+pub fails : Laws → (request : Request) (texts : Texts) (u : Unfit) → work request texts ≡ Err u → Fails request texts u
+fails laws (check game) texts u e =
     elim (bind-err (database_of_file game texts.main) report_of u e) [
       | inl d ↦ (let f = database_unfit game (database_in texts.main) u d in bad_database (database_load game) f.0 refl f.1 f.2)
       | inr d ↦ absurd (let g = d.2 in cc)
     ]
-fails (play game source) texts u e =
+fails laws (compile source game) texts u e =
+    elim (bind-err (compiled_from source texts.main) (store_of game canon) u e) [
+      | inl d ↦ (let f = compiled_unfit laws source texts.main u d in bad_source source game refl f.0 f.1)
+      | inr d ↦ absurd (let g = d.2 in cc)
+    ]
+fails laws (decompile game source) texts u e =
+    elim (bind-err (database_of_file game texts.main) (store_of source plain) u e) [
+      | inl d ↦ (let f = database_unfit game (database_in texts.main) u d in bad_database (database_load game) f.0 refl f.1 f.2)
+      | inr d ↦ absurd (let g = d.2 in cc)
+    ]
+fails laws (play game source) texts u e =
     elim (bind-err (database_of_file game texts.main) (with_draws source texts.draws) u e) [
       | inl d ↦ (let f = database_unfit game (database_in texts.main) u d in bad_database (database_load game) f.0 refl f.1 f.2)
       | inr d ↦
@@ -79,9 +140,18 @@ database_fit name (Err fault) db e = absurd cc
 
 module _ (files : Files) where
   -- the database of a request
-  pub main_is : (law : DatabaseIn) (game : List ℕ) (bytes : List ℕ) (db : Database) → loaded files (Some (database_load game)) ≡ Ok bytes
+  pub main_is : (laws : Laws) (game : List ℕ) (bytes : List ℕ) (db : Database) → loaded files (Some (database_load game)) ≡ Ok bytes
       → database_of_file game bytes ≡ Ok db → (get files game ≡ Some bytes) × DatText bytes db
-  main_is law game bytes db l e = (there-loaded files (database_load game) bytes l, (law bytes db).0 (database_fit game (database_in bytes) db e))
+  main_is laws game bytes db l e = (there-loaded files (database_load game) bytes l, (laws.database bytes db).0 (database_fit game (database_in bytes) db e))
+
+  -- the database that the source of a request means
+  pub meant_is : (laws : Laws) (source : List ℕ) (bytes : List ℕ) (db : Database) → loaded files (Some (source_load source)) ≡ Ok bytes
+      → compiled_from source bytes ≡ Ok db → (get files source ≡ Some bytes) × ((tree : Source) × SourceText bytes tree × (meant tree ≡ Ok db))
+  meant_is laws source bytes db l e =
+      let s = bind-ok (source_or_unfit source (source_in bytes)) (means source) db e in (
+        there-loaded files (source_load source) bytes l,
+        (s.0, (laws.source bytes s.0).0 (source_fit source (source_in bytes) s.0 s.1), meaning_fit source (meant s.0) db s.2),
+      )
 
   -- the draws of a request
   pub draws_are : (source : DrawSource) (bytes draws : List ℕ) → loaded files (draws_load source) ≡ Ok bytes → draws_from source bytes ≡ Ok draws
@@ -114,20 +184,30 @@ module _ (files : Files) where
       loads_draws : come request (rest request texts.main) ≡ refusing (work request texts)
       loads_draws = ap (λ r. come request (r >>= λ draws. Ok (record { main = texts.main; draws = draws }))) d
 
-  game_reads : (law : DatabaseIn) (name bytes : List ℕ) (db : Database) → DatText bytes db → database_of_file name bytes ≡ Ok db
-  game_reads law name bytes db text = ap (database_or_unfit name) ((law bytes db).1 text)
+  game_reads : (laws : Laws) (name bytes : List ℕ) (db : Database) → DatText bytes db → database_of_file name bytes ≡ Ok db
+  game_reads laws name bytes db text = ap (database_or_unfit name) ((laws.database bytes db).1 text)
 
-  pub accepted : (law : DatabaseIn) (request : Request) → IsAccepted files (Some request) → Comes request
-  accepted law (check game) h =
+  source_compiles : (laws : Laws) (name bytes : List ℕ) (tree : Source) (db : Database) → SourceText bytes tree → meant tree ≡ Ok db → compiled_from name bytes ≡ Ok db
+  source_compiles laws name bytes tree db text e =
+      ap (λ r. source_or_unfit name r >>= means name) ((laws.source bytes tree).1 text) ∙ ap (meaning_or_unfit name) e
+
+  pub accepted : (laws : Laws) (request : Request) → IsAccepted files (Some request) → Comes request
+  accepted laws (check game) h =
       comes (check game) (record { main = h.0; draws = [] }) (reporting h.1)
-      (loaded-there files (database_load game) h.0 h.2) refl (ap (λ r. r >>= report_of) (game_reads law game h.0 h.1 h.3))
-  accepted law (play game (seeded seed)) h =
+      (loaded-there files (database_load game) h.0 h.2) refl (ap (λ r. r >>= report_of) (game_reads laws game h.0 h.1 h.3))
+  accepted laws (compile source game) h =
+      comes (compile source game) (record { main = h.0; draws = [] }) (storing game (canon h.2))
+      (loaded-there files (source_load source) h.0 h.3) refl (ap (λ r. r >>= store_of game canon) (source_compiles laws source h.0 h.1 h.2 h.4 h.5))
+  accepted laws (decompile game source) h =
+      comes (decompile game source) (record { main = h.0; draws = [] }) (storing source (plain h.1))
+      (loaded-there files (database_load game) h.0 h.2) refl (ap (λ r. r >>= store_of source plain) (game_reads laws game h.0 h.1 h.3))
+  accepted laws (play game (seeded seed)) h =
       let g = h.0 in
       comes (play game (seeded seed)) (record { main = g.0; draws = [] }) _
-      (loaded-there files (database_load game) g.0 g.2) refl (ap (λ r. r >>= with_draws (seeded seed) []) (game_reads law game g.0 g.1 g.3))
-  accepted law (play game (listed name)) h =
+      (loaded-there files (database_load game) g.0 g.2) refl (ap (λ r. r >>= with_draws (seeded seed) []) (game_reads laws game g.0 g.1 g.3))
+  accepted laws (play game (listed name)) h =
       let g = h.0 in
       let d = h.1 in
       comes (play game (listed name)) (record { main = g.0; draws = d.0 }) (playing g.1 d.1)
       (loaded-there files (database_load game) g.0 g.2) (loaded-there files _ d.0 d.2)
-      (ap (λ r. r >>= with_draws (listed name) d.0) (game_reads law game g.0 g.1 g.3) ∙ ap (λ r. draws_or_unfit name r >>= play_of g.1) d.3)
+      (ap (λ r. r >>= with_draws (listed name) d.0) (game_reads laws game g.0 g.1 g.3) ∙ ap (λ r. draws_or_unfit name r >>= play_of g.1) d.3)

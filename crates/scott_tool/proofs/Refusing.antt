@@ -4,11 +4,10 @@ use Rattle.std.specs.Prelude.{Contains}
 use Rattle.adv_io.specs.Console.{ConsoleView}
 use Rattle.adv_io.specs.Faults.{Rose}
 use Rattle.adv_io.specs.Shelf.{Files, ShelfView, Lacks}
-use Rattle.scott_format.specs.Laws.{DatabaseIn}
 use Rattle.scott_requests.specs.Request.{Request}
-use Rattle.scott_tool.specs.Refusal.{Refusal, no_request, unread, too_long, unfit, status_of}
-use Rattle.scott_tool.specs.Outcome.{refused, statuses, Concludes}
-use Rattle.scott_tool.specs.Loading.{IsLoad, texts_of}
+use Rattle.scott_tool.specs.Refusal.{Refusal, no_request, unread, too_long, unfit, unwritten, status_of}
+use Rattle.scott_tool.specs.Outcome.{refused, statuses, Concludes, Ends, whole, unsaid}
+use Rattle.scott_tool.specs.Loading.{IsLoad, texts_of, stores}
 use Rattle.scott_tool.specs.Work.{Task, expected, statuses_of}
 use Rattle.scott_tool.specs.Obeying.{Stands, Answers, Refuses, Misses}
 use Rattle.scott_tool.specs.Causes.{OneLoaded, IsTooLong, HasCause}
@@ -16,7 +15,8 @@ use Rattle.scott_tool.specs.Promises.{IfKnown, SaysUnread}
 use Rattle.scott_tool.proofs.Files.{long_one}
 use Rattle.scott_tool.proofs.Statuses.{is_3, is_9, is_known, first}
 use Rattle.scott_tool.proofs.Obeying.{refusal_not, refused_not_0, refused_not_9}
-use Rattle.scott_tool.proofs.Promised.{Promises, for_files, from_files, for_lines, expected-err, complete_from}
+use Rattle.scott_tool.proofs.Readings.{Laws}
+use Rattle.scott_tool.proofs.Promised.{Promises, for_files, from_files, for_lines, expected-err, name_keeps, complete_from}
 
 module _ (shelf shelf' : ShelfView) (console console' : ConsoleView) (status : ℕ) where
   abbrev Broke : Type 0
@@ -53,10 +53,13 @@ module _ (shelf shelf' : ShelfView) (console console' : ConsoleView) (status : �
     stand_expected : (files : Files) (asked : Option Request) → expected files asked ≡ Err refusal → Stand (statuses_of (expected files asked))
     stand_expected files asked e = subst (λ (r : Result Task Refusal). Stand (statuses_of r)) (sym e) stand_refused
 
-    answers_expected : (files : Files) (asked : Option Request) (lines : List (List ℕ)) → expected files asked ≡ Err refusal
-        → Answers console console' lines (expected files asked) status
-    answers_expected files asked lines e =
-        subst (λ (r : Result Task Refusal). Answers console console' lines r status) (sym e) (inl (refused refusal, refl, ended))
+    refused_ends : shelf'.files ≡ shelf.files → Ends shelf shelf' console console' (refused refusal) status
+    refused_ends same = elim ended [ inl h ↦ whole h.0 h.1 same | inr h ↦ unsaid h.0 h.1 h.2 same ]
+
+    answers_expected : shelf'.files ≡ shelf.files → (files : Files) (asked : Option Request) (lines : List (List ℕ)) → expected files asked ≡ Err refusal
+        → Answers shelf shelf' console console' lines (expected files asked) status
+    answers_expected same files asked lines e =
+        subst (λ (r : Result Task Refusal). Answers shelf shelf' console console' lines r status) (sym e) (inl (refused refusal, refl, refused_ends same))
 
     -- where the shelf failed, any status stands that says so
     stand_lost : (others : List ℕ) → status_of refusal ≡ 2 → Lost → Stand others
@@ -67,9 +70,9 @@ module _ (shelf shelf' : ShelfView) (console console' : ConsoleView) (status : �
 
   -- ---- no request
 
-  pub not_asked_promised : (law : DatabaseIn) → shelf'.files ≡ shelf.files → shelf'.faults ≡ shelf.faults → Refuses console console' (Some no_request) status
+  pub not_asked_promised : (laws : Laws) → shelf'.files ≡ shelf.files → shelf'.faults ≡ shelf.faults → Refuses console console' (Some no_request) status
       → Promises shelf shelf' console console' None status
-  not_asked_promised law same steady r =
+  not_asked_promised laws same steady r =
       let stands = for_files shelf.files (λ files. Stand (statuses_of (expected files None))) (λ files. stand_expected no_request r.ended files None refl) in
       record {
         status_is = record {
@@ -79,23 +82,25 @@ module _ (shelf shelf' : ShelfView) (console console' : ConsoleView) (status : �
             unread = λ e. absurd (let f = own no_request r.ended 2 (λ e. omega arith) e in omega arith);
             unsaid = broke no_request r.ended;
             no_database = λ e. absurd (let f = own no_request r.ended 4 (λ e. omega arith) e in omega arith);
-            no_draws = λ e. absurd (let f = own no_request r.ended 5 (λ e. omega arith) e in omega arith);
+            no_source_or_draws = λ e. absurd (let f = own no_request r.ended 5 (λ e. omega arith) e in omega arith);
             memory = λ e. absurd (refused_not_9 console console' status no_request r.ended e);
             too_long = λ e. absurd (let f = own no_request r.ended 11 (λ e. omega arith) e in omega arith);
           };
           first = stands;
         };
         seen = record {
-          all = for_files shelf.files (λ files. IfSome console.left (λ lines. Answers console console' lines (expected files None) status ⊎ SaysUnread shelf shelf' console console' None status))
-              (λ files. for_lines console.left (λ lines. Answers console console' lines (expected files None) status ⊎ SaysUnread shelf shelf' console console' None status)
-              (λ lines. inl (answers_expected no_request r.ended files None lines refl)));
+          all = for_files shelf.files (λ files. IfSome console.left (λ lines. Answers shelf shelf' console console' lines (expected files None) status ⊎ SaysUnread shelf shelf' console console' None status))
+              (λ files. for_lines console.left (λ lines. Answers shelf shelf' console console' lines (expected files None) status ⊎ SaysUnread shelf shelf' console console' None status)
+              (λ lines. inl (answers_expected no_request r.ended same files None lines refl)));
           usage = λ e. r.ended;
           silent = λ e. absurd (refused_not_9 console console' status no_request r.ended e);
           lines = inr (inr r.lines);
         };
         files = same;
-        complete = complete_from shelf shelf' console console' status law None stands;
+        complete = complete_from shelf shelf' console console' status laws None stands;
         checked = λ zero game e. absurd cc;
+        compiled = λ zero source game e. absurd cc;
+        decompiled = λ zero game source e. absurd cc;
         played = λ zero game source e. absurd cc;
         counts = record {
           shelf_later = omega arith;
@@ -111,7 +116,7 @@ module _ (shelf shelf' : ShelfView) (console console' : ConsoleView) (status : �
 
   module _ (request : Request) where
     abbrev Seen : Files → List (List ℕ) → Type 0
-    Seen files lines = Answers console console' lines (expected files (Some request)) status ⊎ SaysUnread shelf shelf' console console' (Some request) status
+    Seen files lines = Answers shelf shelf' console console' lines (expected files (Some request)) status ⊎ SaysUnread shelf shelf' console console' (Some request) status
 
     abbrev AllSeen : Type 0
     AllSeen = IfKnown shelf console Seen
@@ -129,10 +134,10 @@ module _ (shelf shelf' : ShelfView) (console console' : ConsoleView) (status : �
         from_files shelf.files (λ files. texts_of files request ≡ Err refusal) (λ files. Stand (statuses_of (expected files (Some request))))
         (λ files e. stand_expected refusal ended files (Some request) (expected-err files request refusal e)) h
 
-    seen_at : (refusal : Refusal) → Concludes console console' (refused refusal) status → IfSome shelf.files (λ files. texts_of files request ≡ Err refusal) → AllSeen
-    seen_at refusal ended h =
+    seen_at : shelf'.files ≡ shelf.files → (refusal : Refusal) → Concludes console console' (refused refusal) status → IfSome shelf.files (λ files. texts_of files request ≡ Err refusal) → AllSeen
+    seen_at same refusal ended h =
         from_files shelf.files (λ files. texts_of files request ≡ Err refusal) (λ files. IfSome console.left (Seen files))
-        (λ files e. for_lines console.left (Seen files) (λ lines. inl (answers_expected refusal ended files (Some request) lines (expected-err files request refusal e)))) h
+        (λ files e. for_lines console.left (Seen files) (λ lines. inl (answers_expected refusal ended same files (Some request) lines (expected-err files request refusal e)))) h
 
     abbrev Promised : Type 0
     Promised = Promises shelf shelf' console console' (Some request) status
@@ -141,14 +146,16 @@ module _ (shelf shelf' : ShelfView) (console console' : ConsoleView) (status : �
     Cause = HasCause shelf shelf' console console' (Some request) status
 
     -- a refusal whose cause is known and that says what is seen
-    refused_promised : (law : DatabaseIn) (refusal : Refusal) → shelf'.files ≡ shelf.files → shelf.faults ≤ shelf'.faults
+    refused_promised : (laws : Laws) (refusal : Refusal) → shelf'.files ≡ shelf.files → shelf.faults ≤ shelf'.faults
         → Refuses console console' (Some refusal) status → Cause → AllStands → AllSeen → Promised
-    refused_promised law refusal same later r cause stands seen = record {
+    refused_promised laws refusal same later r cause stands seen = record {
       status_is = record { known = known_refused refusal r.ended; cause = cause; first = stands };
       seen = record { all = seen; usage = λ e. absurd cc; silent = λ e. absurd (refused_not_9 console console' status refusal r.ended e); lines = inr (inr r.lines) };
-      files = same;
-      complete = complete_from shelf shelf' console console' status law (Some request) stands;
+      files = name_keeps shelf shelf' console console' status (stores request) same;
+      complete = complete_from shelf shelf' console console' status laws (Some request) stands;
       checked = λ zero game e. absurd (refused_not_0 console console' status refusal r.ended zero);
+      compiled = λ zero source game e. absurd (refused_not_0 console console' status refusal r.ended zero);
+      decompiled = λ zero game source e. absurd (refused_not_0 console console' status refusal r.ended zero);
       played = λ zero game source e. absurd (refused_not_0 console console' status refusal r.ended zero);
       counts = record {
         shelf_later = later;
@@ -167,7 +174,7 @@ module _ (shelf shelf' : ShelfView) (console console' : ConsoleView) (status : �
       unread = λ e. lost;
       unsaid = broke (unread name) ended;
       no_database = λ e. absurd (let f = own (unread name) ended 4 (λ e. omega arith) e in omega arith);
-      no_draws = λ e. absurd (let f = own (unread name) ended 5 (λ e. omega arith) e in omega arith);
+      no_source_or_draws = λ e. absurd (let f = own (unread name) ended 5 (λ e. omega arith) e in omega arith);
       memory = λ e. refl;
       too_long = λ e. absurd (let f = own (unread name) ended 11 (λ e. omega arith) e in omega arith);
     }
@@ -179,13 +186,13 @@ module _ (shelf shelf' : ShelfView) (console console' : ConsoleView) (status : �
       unread = λ e. absurd (let f = own (too_long name limit) ended 2 (λ e. omega arith) e in omega arith);
       unsaid = broke (too_long name limit) ended;
       no_database = λ e. absurd (let f = own (too_long name limit) ended 4 (λ e. omega arith) e in omega arith);
-      no_draws = λ e. absurd (let f = own (too_long name limit) ended 5 (λ e. omega arith) e in omega arith);
+      no_source_or_draws = λ e. absurd (let f = own (too_long name limit) ended 5 (λ e. omega arith) e in omega arith);
       memory = λ e. refl;
       too_long = λ e. long;
     }
 
-    memory_promised : (law : DatabaseIn) → shelf'.files ≡ shelf.files → shelf'.faults ≡ shelf.faults → Refuses console console' None status → Promised
-    memory_promised law same steady r =
+    memory_promised : (laws : Laws) → shelf'.files ≡ shelf.files → shelf'.faults ≡ shelf.faults → Refuses console console' None status → Promised
+    memory_promised laws same steady r =
         let nine : status ≡ 9 = r.ended.0 in
         let stands : AllStands = for_files shelf.files (λ files. Stand (statuses_of (expected files (Some request)))) (λ files. inr (inl nine)) in
         record {
@@ -196,16 +203,18 @@ module _ (shelf shelf' : ShelfView) (console console' : ConsoleView) (status : �
               unread = λ e. absurd (omega arith);
               unsaid = λ e. absurd (omega arith);
               no_database = λ e. absurd (omega arith);
-              no_draws = λ e. absurd (omega arith);
+              no_source_or_draws = λ e. absurd (omega arith);
               memory = λ e. refl;
               too_long = λ e. absurd (omega arith);
             };
             first = stands;
           };
           seen = record { all = seen_by (λ files lines. inl (inr r.ended)); usage = λ e. absurd cc; silent = λ e. r.ended.1; lines = inr (inr r.lines) };
-          files = same;
-          complete = complete_from shelf shelf' console console' status law (Some request) stands;
+          files = name_keeps shelf shelf' console console' status (stores request) same;
+          complete = complete_from shelf shelf' console console' status laws (Some request) stands;
           checked = λ zero game e. absurd (omega arith);
+          compiled = λ zero source game e. absurd (omega arith);
+          decompiled = λ zero game source e. absurd (omega arith);
           played = λ zero game source e. absurd (omega arith);
           counts = record { shelf_later = omega arith; console_later = r.later; steady = λ h. (steady, r.steady nine) };
         }
@@ -213,28 +222,29 @@ module _ (shelf shelf' : ShelfView) (console console' : ConsoleView) (status : �
     abbrev Missed : Option Refusal → Type 0
     Missed refusal = Misses shelf shelf' (IsLoad request) (λ files. texts_of files request) refusal
 
-    pub not_loaded_promised : (law : DatabaseIn) (refusal : Option Refusal) → Missed refusal → shelf'.files ≡ shelf.files → shelf.faults ≤ shelf'.faults
+    pub not_loaded_promised : (laws : Laws) (refusal : Option Refusal) → Missed refusal → shelf'.files ≡ shelf.files → shelf.faults ≤ shelf'.faults
         → Refuses console console' refusal status → Promised
-    not_loaded_promised law None missed same later r = memory_promised law same missed r
-    not_loaded_promised law (Some no_request) missed same later r = absurd missed
-    not_loaded_promised law (Some (unfit u)) missed same later r = absurd missed
-    not_loaded_promised law (Some (too_long name limit)) missed same later r =
-        refused_promised law (too_long name limit) same later r
+    not_loaded_promised laws None missed same later r = memory_promised laws same missed r
+    not_loaded_promised laws (Some no_request) missed same later r = absurd missed
+    not_loaded_promised laws (Some (unfit u)) missed same later r = absurd missed
+    not_loaded_promised laws (Some (unwritten name)) missed same later r = absurd missed
+    not_loaded_promised laws (Some (too_long name limit)) missed same later r =
+        refused_promised laws (too_long name limit) same later r
         (long_cause name limit r.ended
         (from_files shelf.files (λ files. texts_of files request ≡ Err (too_long name limit)) (λ files. OneLoaded (Some request) (IsTooLong files))
         (λ files e. long_one files request name limit e) missed))
-        (stands_at (too_long name limit) r.ended missed) (seen_at (too_long name limit) r.ended missed)
-    not_loaded_promised law (Some (unread name)) missed same later r =
+        (stands_at (too_long name limit) r.ended missed) (seen_at same (too_long name limit) r.ended missed)
+    not_loaded_promised laws (Some (unread name)) missed same later r =
         let load = missed.0.0 in
         let is = missed.0.2 in
         elim missed.1 [
           | inl lost ↦
-              refused_promised law (unread name) same later r (unread_cause name r.ended (inl lost))
+              refused_promised laws (unread name) same later r (unread_cause name r.ended (inl lost))
               (for_files shelf.files (λ files. Stand (statuses_of (expected files (Some request))))
               (λ files. stand_lost (unread name) r.ended (statuses_of (expected files (Some request))) refl lost))
               (seen_by (λ files lines. inr (lost, (load, missed.0.1, subst (λ (n : List ℕ). Concludes console console' (refused (unread n)) status) (sym is) r.ended))))
           | inr lacks ↦
-              refused_promised law (unread name) same later r
+              refused_promised laws (unread name) same later r
               (unread_cause name r.ended (inr (load, missed.0.1, subst (λ (n : List ℕ). Lacks shelf.files n) (sym is) lacks.0)))
-              (stands_at (unread name) r.ended lacks.1) (seen_at (unread name) r.ended lacks.1)
+              (stands_at (unread name) r.ended lacks.1) (seen_at same (unread name) r.ended lacks.1)
         ]

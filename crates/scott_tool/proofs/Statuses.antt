@@ -2,10 +2,10 @@
 use Rattle.std.proofs.Common.{◌≡◌, ◌<◌, ℕ, zero, suc, [], ◌∷◌, get_or, Result, Ok, Err, refl, sym, inl, inr, ◌⊎◌, arith, lit<}
 use Rattle.std.specs.Prelude.{Contains}
 use Rattle.scott_tool.specs.declared.refusals.ContentFault.{ContentFault}
-use Rattle.scott_tool.specs.declared.refusals.ContentFault.TheVariants.{NoDatabase, NoDraws}
-use Rattle.scott_tool.specs.Refusal.{Refusal, Unfit, no_request, unread, too_long, unfit, refusing, content_status, status_of}
+use Rattle.scott_tool.specs.declared.refusals.ContentFault.TheVariants.{NoDatabase, NoSource, NoMeaning, NoDraws}
+use Rattle.scott_tool.specs.Refusal.{Refusal, Unfit, no_request, unread, too_long, unfit, unwritten, refusing, content_status, status_of}
 use Rattle.scott_tool.specs.Outcome.{statuses}
-use Rattle.scott_tool.specs.Work.{Task, reporting, playing, task_statuses, statuses_of}
+use Rattle.scott_tool.specs.Work.{Task, reporting, storing, playing, task_statuses, statuses_of}
 use Rattle.scott_tool.specs.Obeying.{Stands}
 
 -- ---- each is one of the eight
@@ -21,6 +21,8 @@ is_9 = (6, lit< tt, refl)
 
 pub is_content : (fault : ContentFault) → Contains statuses (content_status fault)
 is_content (NoDatabase fault) = (4, lit< tt, refl)
+is_content (NoSource fault) = (5, lit< tt, refl)
+is_content (NoMeaning fault) = (5, lit< tt, refl)
 is_content (NoDraws fault) = (5, lit< tt, refl)
 
 pub is_known : (refusal : Refusal) → Contains statuses (status_of refusal)
@@ -28,6 +30,10 @@ is_known no_request = (1, lit< tt, refl)
 is_known (unread name) = (2, lit< tt, refl)
 is_known (too_long name limit) = (7, lit< tt, refl)
 is_known (unfit u) = is_content u.fault
+is_known (unwritten name) = (2, lit< tt, refl)
+
+pub is_2 : Contains statuses 2
+is_2 = (2, lit< tt, refl)
 
 -- ---- lists of one status
 
@@ -43,31 +49,30 @@ first x = (0, lit< tt, refl)
 
 -- ---- what a status of work tells
 
--- a status is that of a task, or that of a content that is refused; or memory ran out, or the console failed
-pub data Tells (ConsoleFailed : Type 0) (expected : Result Task Unfit) (status : ℕ) : Type 0 where
-  of_task : (task : Task) → expected ≡ Ok task → status ≡ 0 → Tells ConsoleFailed expected status
-  of_fault : (u : Unfit) → expected ≡ Err u → status ≡ content_status u.fault → Tells ConsoleFailed expected status
-  of_memory : status ≡ 9 → Tells ConsoleFailed expected status
-  of_console : status ≡ 3 → ConsoleFailed → Tells ConsoleFailed expected status
+-- a status is that of a task, or that of a content that is refused; or memory ran out, or the console or the shelf failed
+pub data Tells (ShelfFailed ConsoleFailed : Type 0) (expected : Result Task Unfit) (status : ℕ) : Type 0 where
+  of_task : (task : Task) → expected ≡ Ok task → status ≡ 0 → Tells ShelfFailed ConsoleFailed expected status
+  of_fault : (u : Unfit) → expected ≡ Err u → status ≡ content_status u.fault → Tells ShelfFailed ConsoleFailed expected status
+  of_memory : status ≡ 9 → Tells ShelfFailed ConsoleFailed expected status
+  of_console : status ≡ 3 → ConsoleFailed → Tells ShelfFailed ConsoleFailed expected status
+  of_shelf : status ≡ 2 → ShelfFailed → Tells ShelfFailed ConsoleFailed expected status
 
 pub task_0 : (task : Task) (status : ℕ) → Contains (task_statuses task) status → status ≡ 0
 task_0 (reporting db) status h = sym (only 0 status h)
+task_0 (storing name bytes) status h = sym (only 0 status h)
 task_0 (playing db draws) status h = sym (only 0 status h)
 
-by_expected : (F : Type 0) (expected : Result Task Unfit) (status : ℕ) → Contains (statuses_of (refusing expected)) status → Tells F expected status
-by_expected F (Ok task) status h = of_task task refl (task_0 task status h)
-by_expected F (Err u) status h = of_fault u refl (sym (only (content_status u.fault) status h))
+by_expected : (S F : Type 0) (expected : Result Task Unfit) (status : ℕ) → Contains (statuses_of (refusing expected)) status → Tells S F expected status
+by_expected S F (Ok task) status h = of_task task refl (task_0 task status h)
+by_expected S F (Err u) status h = of_fault u refl (sym (only (content_status u.fault) status h))
 
-pub tells : (F : Type 0) (expected : Result Task Unfit) (status : ℕ) → Stands ⊥ F (statuses_of (refusing expected)) status → Tells F expected status
-tells F expected status (inl h) = by_expected F expected status h
-tells F expected status (inr (inl e)) = of_memory e
-tells F expected status (inr (inr (inl h))) = of_console h.0 h.1
-tells F expected status (inr (inr (inr h))) = absurd h.1
-
-pub content-4_or_5 : (fault : ContentFault) → (content_status fault ≡ 4) ⊎ (content_status fault ≡ 5)
-content-4_or_5 (NoDatabase fault) = inl refl
-content-4_or_5 (NoDraws fault) = inr refl
+pub tells : (S F : Type 0) (expected : Result Task Unfit) (status : ℕ) → Stands S F (statuses_of (refusing expected)) status → Tells S F expected status
+tells S F expected status (inl h) = by_expected S F expected status h
+tells S F expected status (inr (inl e)) = of_memory e
+tells S F expected status (inr (inr (inl h))) = of_console h.0 h.1
+tells S F expected status (inr (inr (inr h))) = of_shelf h.0 h.1
 
 pub task_has_0 : (task : Task) → Contains (task_statuses task) 0
 task_has_0 (reporting db) = first 0
+task_has_0 (storing name bytes) = first 0
 task_has_0 (playing db draws) = first 0

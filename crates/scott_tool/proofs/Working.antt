@@ -1,34 +1,42 @@
 -- What the program promises where all files of a request were loaded.
-use Rattle.std.proofs.Common.{◌≡◌, ◌∙◌, ℕ, List, Some, IfSome, Result, Ok, Err, refl, sym, ap, subst, inl, inr, ◌⊎◌, arith}
+use Rattle.std.proofs.Common.{◌≡◌, ◌∙◌, ℕ, List, Option, Some, None, IfSome, Result, Ok, Err, refl, sym, ap, subst, inl, inr, ◌⊎◌, arith}
 use Rattle.std.specs.Prelude.{Contains}
 use Rattle.adv_check.specs.Report.{report_text}
 use Rattle.adv_draws.specs.Listed.{listed_draws}
 use Rattle.adv_io.specs.Console.{ConsoleView}
+use Rattle.std.specs.FinMap.{insert}
+use Rattle.scott_types.specs.Database.{Database}
 use Rattle.adv_io.specs.Faults.{Rose}
 use Rattle.adv_io.specs.History.{says, grown, shown}
-use Rattle.adv_io.specs.Shelf.{Files, ShelfView}
+use Rattle.adv_io.specs.Shelf.{Files, ShelfView, with_file}
 use Rattle.scott_format.specs.Faults.{Fault}
 use Rattle.scott_format.specs.File.{DatFault}
-use Rattle.scott_format.specs.Laws.{DatabaseIn, FaultIn}
+use Rattle.adv_compiler.specs.Meaning.{meant}
+use Rattle.adv_decompiler.specs.Plain.{plain}
+use Rattle.scott_format.specs.Canon.{canon}
+use Rattle.source_reader.specs.Text.{SourceText}
+use Rattle.source_reader.specs.declared.tree.Source.{Source}
 use Rattle.scott_requests.specs.Settings.{DrawSource}
-use Rattle.scott_requests.specs.Request.{Request, check, play}
+use Rattle.scott_requests.specs.Request.{Request, check, compile, decompile, play}
 use Rattle.scott_rules.specs.Play as rules
 use Rattle.adv_io.specs.Steps.{trace_of}
 use Rattle.scott_tool.specs.Steps.{◌>>=◌}
-use Rattle.scott_tool.specs.Refusal.{Refusal, Unfit, unfit, refusing, content_status}
-use Rattle.scott_tool.specs.Outcome.{Outcome, done, statuses, Concludes}
-use Rattle.scott_tool.specs.Loading.{Load, main_of, draws_of, loaded, Texts, texts_of}
+use Rattle.scott_tool.specs.Refusal.{Refusal, Unfit, unfit, unwritten, refusing, content_status}
+use Rattle.scott_tool.specs.Outcome.{Outcome, done, refused, statuses, Concludes, Loses, Ends, whole, unsaid, unstored}
+use Rattle.scott_tool.specs.Loading.{Load, main_of, draws_of, source_load, stores, loaded, Texts, texts_of}
 use Rattle.scott_tool.specs.Check.{Checked, database_of_file}
+use Rattle.scott_tool.specs.Compile.{Compiled, IsNoSource, compiled_from}
+use Rattle.scott_tool.specs.Decompile.{Decompiled}
 use Rattle.scott_tool.specs.Play.{Played, draws_from}
-use Rattle.scott_tool.specs.Work.{Task, reporting, playing, Does, work, expected, statuses_of}
-use Rattle.scott_tool.specs.Obeying.{Stands, Answers, Obeys}
-use Rattle.scott_tool.specs.Causes.{MainHas, DrawsHave, HasCause}
-use Rattle.scott_tool.specs.Promises.{IfKnown, SaysUnread}
+use Rattle.scott_tool.specs.Work.{Task, reporting, storing, playing, Does, work, expected, statuses_of}
+use Rattle.scott_tool.specs.Obeying.{Stands, Answers, Leaves, Obeys}
+use Rattle.scott_tool.specs.Causes.{MainHas, SourceHas, DrawsHave, HasCause}
+use Rattle.scott_tool.specs.Promises.{IfKnown, SaysUnread, NameKeeps}
 use Rattle.scott_tool.proofs.Files.{bind-ok, texts-loaded, there-loaded}
-use Rattle.scott_tool.proofs.Statuses.{is_0, is_3, is_9, is_content, Tells, of_task, of_fault, of_memory, of_console, tells}
-use Rattle.scott_tool.proofs.Obeying.{refused_not_0}
-use Rattle.scott_tool.proofs.Readings.{Fails, bad_database, bad_draws, fails, main_is, draws_are}
-use Rattle.scott_tool.proofs.Promised.{Promises, from_files, from_lines, expected-ok, complete_from}
+use Rattle.scott_tool.proofs.Statuses.{is_0, is_2, is_3, is_9, is_content, Tells, of_task, of_fault, of_memory, of_console, of_shelf, tells}
+use Rattle.scott_tool.proofs.Obeying.{refusal_not, refused_not_0}
+use Rattle.scott_tool.proofs.Readings.{Laws, Fails, bad_database, bad_source, bad_draws, fails, main_is, meant_is, draws_are}
+use Rattle.scott_tool.proofs.Promised.{Promises, from_files, from_lines, expected-ok, name_keeps, complete_from}
 
 module _ (shelf shelf' : ShelfView) (console console' : ConsoleView) (status : ℕ) where
   abbrev Broke : Type 0
@@ -42,7 +50,7 @@ module _ (shelf shelf' : ShelfView) (console console' : ConsoleView) (status : �
 
   module _ (request : Request) where
     abbrev Seen : Files → List (List ℕ) → Type 0
-    Seen files lines = Answers console console' lines (expected files (Some request)) status ⊎ SaysUnread shelf shelf' console console' (Some request) status
+    Seen files lines = Answers shelf shelf' console console' lines (expected files (Some request)) status ⊎ SaysUnread shelf shelf' console console' (Some request) status
 
     abbrev AllSeen : Type 0
     AllSeen = IfKnown shelf console Seen
@@ -55,9 +63,9 @@ module _ (shelf shelf' : ShelfView) (console console' : ConsoleView) (status : �
 
     -- ---- all files were loaded
 
-    module _ (texts : Texts) (there : IfSome shelf.files (λ files. texts_of files request ≡ Ok texts)) (obeys : Obeys console console' (refusing (work request texts)) status) where
+    module _ (texts : Texts) (there : IfSome shelf.files (λ files. texts_of files request ≡ Ok texts)) (obeys : Obeys shelf shelf' console console' (refusing (work request texts)) status) where
       abbrev Answered : Type 0
-      Answered = Tells Broke (work request texts) status
+      Answered = Tells Lost Broke (work request texts) status
 
       content_known : (u : Unfit) → status ≡ content_status u.fault → Contains statuses status
       content_known u e = subst (Contains statuses) (sym e) (is_content u.fault)
@@ -67,6 +75,7 @@ module _ (shelf shelf' : ShelfView) (console console' : ConsoleView) (status : �
       known_worked (of_fault u e is) = content_known u is
       known_worked (of_memory nine) = subst (Contains statuses) (sym nine) is_9
       known_worked (of_console three failed) = subst (Contains statuses) (sym three) is_3
+      known_worked (of_shelf two failed) = subst (Contains statuses) (sym two) is_2
 
       -- the bytes of the main file and of the draws
       main_has : (P : List ℕ → Type 0) (load : Load) → main_of request ≡ Some load → P texts.main → IfSome shelf.files (λ files. MainHas files (Some request) P)
@@ -82,122 +91,171 @@ module _ (shelf shelf' : ShelfView) (console console' : ConsoleView) (status : �
       abbrev NoDatabase : Type 0
       NoDatabase = IfSome shelf.files (λ files. MainHas files (Some request) (λ bytes. (fault : Fault) × DatFault bytes fault))
 
-      abbrev NoDraws : Type 0
-      NoDraws = IfSome shelf.files (λ files. DrawsHave files (Some request) (λ bytes. (at : ℕ) × (listed_draws bytes ≡ Err at)))
+      abbrev NoSourceOrDraws : Type 0
+      NoSourceOrDraws = IfSome shelf.files (λ files. SourceHas files (Some request) IsNoSource ⊎ DrawsHave files (Some request) (λ bytes. (at : ℕ) × (listed_draws bytes ≡ Err at)))
 
-      database_cause : FaultIn → (u : Unfit) → Fails request texts u → content_status u.fault ≡ 4 → NoDatabase
-      database_cause faults u (bad_database load fault is reads e) four = main_has (λ bytes. (f : Fault) × DatFault bytes f) load is (fault, (faults texts.main fault).0 reads)
-      database_cause faults u (bad_draws load at is lists e) four = absurd (omega arith)
+      database_cause : Laws → (u : Unfit) → Fails request texts u → content_status u.fault ≡ 4 → NoDatabase
+      database_cause laws u (bad_database load fault is reads e) four =
+          main_has (λ bytes. (f : Fault) × DatFault bytes f) load is (fault, (laws.database_fault texts.main fault).0 reads)
+      database_cause laws u (bad_source source game is why e) four = absurd (omega arith)
+      database_cause laws u (bad_draws load at is lists e) four = absurd (omega arith)
 
-      draws_cause : (u : Unfit) → Fails request texts u → content_status u.fault ≡ 5 → NoDraws
-      draws_cause u (bad_database load fault is reads e) five = absurd (omega arith)
-      draws_cause u (bad_draws load at is lists e) five = draws_have (λ bytes. (place : ℕ) × (listed_draws bytes ≡ Err place)) load is (at, lists)
+      -- the source of a request that compiles it
+      source_has : (source game : List ℕ) → request ≡ compile source game → IsNoSource texts.main → IfSome shelf.files (λ files. SourceHas files (Some request) IsNoSource)
+      source_has source game is why =
+          from_files shelf.files (λ files. texts_of files request ≡ Ok texts) (λ files. SourceHas files (Some request) IsNoSource)
+          (λ files e. subst (λ (r : Request). SourceHas files (Some r) IsNoSource) (sym is)
+          (texts.main, there-loaded files (source_load source) texts.main (ap (λ r. loaded files (main_of r)) (sym is) ∙ (texts-loaded files request texts e).0), why)) there
+
+      source_or_draws_cause : (u : Unfit) → Fails request texts u → content_status u.fault ≡ 5 → NoSourceOrDraws
+      source_or_draws_cause u (bad_database load fault is reads e) five = absurd (omega arith)
+      source_or_draws_cause u (bad_source source game is why e) five =
+          from_files shelf.files (λ files. SourceHas files (Some request) IsNoSource) _ (λ files h. inl h) (source_has source game is why)
+      source_or_draws_cause u (bad_draws load at is lists e) five =
+          from_files shelf.files (λ files. DrawsHave files (Some request) (λ bytes. (place : ℕ) × (listed_draws bytes ≡ Err place))) _ (λ files h. inr h)
+          (draws_have (λ bytes. (place : ℕ) × (listed_draws bytes ≡ Err place)) load is (at, lists))
 
       content_is : (u : Unfit) (n : ℕ) → Fails request texts u → status ≡ content_status u.fault → status ≡ n → (n ≡ 4) ⊎ (n ≡ 5)
       content_is u n (bad_database load fault is reads e) s f = inl (omega arith)
+      content_is u n (bad_source source game is why e) s f = inr (omega arith)
       content_is u n (bad_draws load at is lists e) s f = inr (omega arith)
 
       not_content : (u : Unfit) (n : ℕ) → Fails request texts u → status ≡ content_status u.fault → (n ≡ 4 → ⊥) → (n ≡ 5 → ⊥) → status ≡ n → ⊥
       not_content u n f s not_4 not_5 e = elim (content_is u n f s e) [ inl h ↦ not_4 h | inr h ↦ not_5 h ]
 
-      worked_cause : FaultIn → Answered → Cause
-      worked_cause faults (of_task task is zero) = record {
+      worked_cause : Laws → Answered → Cause
+      worked_cause laws (of_task task is zero) = record {
         no_request = λ e. absurd (omega arith);
         unread = λ e. absurd (omega arith);
         unsaid = λ e. absurd (omega arith);
         no_database = λ e. absurd (omega arith);
-        no_draws = λ e. absurd (omega arith);
+        no_source_or_draws = λ e. absurd (omega arith);
         memory = λ e. refl;
         too_long = λ e. absurd (omega arith);
       }
-      worked_cause faults (of_fault u is s) =
-          let f = fails request texts u is in
+      worked_cause laws (of_fault u is s) =
+          let f = fails laws request texts u is in
           record {
             no_request = λ e. absurd (not_content u 1 f s (λ n. omega arith) (λ n. omega arith) e);
             unread = λ e. absurd (not_content u 2 f s (λ n. omega arith) (λ n. omega arith) e);
             unsaid = λ e. absurd (not_content u 3 f s (λ n. omega arith) (λ n. omega arith) e);
-            no_database = λ e. database_cause faults u f (sym s ∙ e);
-            no_draws = λ e. draws_cause u f (sym s ∙ e);
+            no_database = λ e. database_cause laws u f (sym s ∙ e);
+            no_source_or_draws = λ e. source_or_draws_cause u f (sym s ∙ e);
             memory = λ e. refl;
             too_long = λ e. absurd (not_content u 11 f s (λ n. omega arith) (λ n. omega arith) e);
           }
-      worked_cause faults (of_memory nine) = record {
+      worked_cause laws (of_memory nine) = record {
         no_request = λ e. absurd (omega arith);
         unread = λ e. absurd (omega arith);
         unsaid = λ e. absurd (omega arith);
         no_database = λ e. absurd (omega arith);
-        no_draws = λ e. absurd (omega arith);
+        no_source_or_draws = λ e. absurd (omega arith);
         memory = λ e. refl;
         too_long = λ e. absurd (omega arith);
       }
-      worked_cause faults (of_console three failed) = record {
+      worked_cause laws (of_console three failed) = record {
         no_request = λ e. absurd (omega arith);
         unread = λ e. absurd (omega arith);
         unsaid = λ e. failed;
         no_database = λ e. absurd (omega arith);
-        no_draws = λ e. absurd (omega arith);
+        no_source_or_draws = λ e. absurd (omega arith);
+        memory = λ e. refl;
+        too_long = λ e. absurd (omega arith);
+      }
+      worked_cause laws (of_shelf two failed) = record {
+        no_request = λ e. absurd (omega arith);
+        unread = λ e. inl failed;
+        unsaid = λ e. absurd (omega arith);
+        no_database = λ e. absurd (omega arith);
+        no_source_or_draws = λ e. absurd (omega arith);
         memory = λ e. refl;
         too_long = λ e. absurd (omega arith);
       }
 
-      wider : (others : List ℕ) → Stands ⊥ Broke others status → Stand others
-      wider others (inl h) = inl h
-      wider others (inr (inl h)) = inr (inl h)
-      wider others (inr (inr (inl h))) = inr (inr (inl h))
-      wider others (inr (inr (inr h))) = absurd h.1
-
       worked_stands : AllStands
       worked_stands =
           from_files shelf.files (λ files. texts_of files request ≡ Ok texts) (λ files. Stand (statuses_of (expected files (Some request))))
-          (λ files e. subst (λ (r : Result Task Refusal). Stand (statuses_of r)) (sym (expected-ok files request texts e)) (wider _ obeys.stands)) there
+          (λ files e. subst (λ (r : Result Task Refusal). Stand (statuses_of r)) (sym (expected-ok files request texts e)) obeys.stands) there
 
       worked_seen : AllSeen
       worked_seen =
           from_files shelf.files (λ files. texts_of files request ≡ Ok texts) (λ files. IfSome console.left (Seen files))
-          (λ files e. from_lines console.left (λ lines. Answers console console' lines (refusing (work request texts)) status) (Seen files)
-          (λ lines h. inl (subst (λ (r : Result Task Refusal). Answers console console' lines r status) (sym (expected-ok files request texts e)) h)) obeys.answered) there
+          (λ files e. from_lines console.left (λ lines. Answers shelf shelf' console console' lines (refusing (work request texts)) status) (Seen files)
+          (λ lines h. inl (subst (λ (r : Result Task Refusal). Answers shelf shelf' console console' lines r status) (sym (expected-ok files request texts e)) h)) obeys.answered) there
 
       -- ---- with status 0
 
       abbrev Did : Result Task Unfit → List (List ℕ) → Type 0
       Did due lines = (task : Task) × (o : Outcome) × (due ≡ Ok task) × Does task lines o × (console'.history ≡ grown console.history o.events)
 
-      did : (due : Result Task Unfit) (lines : List (List ℕ)) → status ≡ 0 → Answers console console' lines (refusing due) status → Did due lines
-      did (Ok task) lines zero (inl (o, does, inl h)) = (task, o, refl, does, h.1)
-      did (Ok task) lines zero (inl (o, does, inr h)) = absurd (let three = h.0 in omega arith)
+      -- what ended with 0 was all done
+      ended_0 : (o : Outcome) → Ends shelf shelf' console console' o status → status ≡ 0 → console'.history ≡ grown console.history o.events
+      ended_0 o (whole is grew files) zero = grew
+      ended_0 o (unsaid three failed part files) zero = absurd (omega arith)
+      ended_0 o (unstored file is loses said) zero = absurd (refused_not_0 console console' status (unwritten file.name) said zero)
+
+      -- and a refusal doesn't end with 0
+      refusal_ended : (u : Unfit) (o : Outcome) → o ≡ refused (unfit u) → Ends shelf shelf' console console' o status → status ≡ 0 → ⊥
+      refusal_ended u o is (whole same grew files) zero = refusal_not (unfit u) 0 (inl refl) (sym (ap (λ x. x.status) is) ∙ sym same ∙ zero)
+      refusal_ended u o is (unsaid three failed part files) zero = omega arith
+      refusal_ended u o is (unstored file stored loses said) zero = refused_not_0 console console' status (unwritten file.name) said zero
+
+      did : (due : Result Task Unfit) (lines : List (List ℕ)) → status ≡ 0 → Answers shelf shelf' console console' lines (refusing due) status → Did due lines
+      did (Ok task) lines zero (inl (o, does, ends)) = (task, o, refl, does, ended_0 o ends zero)
       did (Ok task) lines zero (inr h) = absurd (let nine = h.0 in omega arith)
-      did (Err u) lines zero (inl h) =
-          absurd (refused_not_0 console console' status (unfit u) (subst (λ (o : Outcome). Concludes console console' o status) h.1 h.2) zero)
+      did (Err u) lines zero (inl h) = absurd (refusal_ended u h.0 h.1 h.2 zero)
       did (Err u) lines zero (inr h) = absurd (let nine = h.0 in omega arith)
 
       known_both : (P : Files → List (List ℕ) → Type 0) → status ≡ 0
           → ((files : Files) (lines : List (List ℕ)) → texts_of files request ≡ Ok texts → Did (work request texts) lines → P files lines) → IfKnown shelf console P
       known_both P zero f =
           from_files shelf.files (λ files. texts_of files request ≡ Ok texts) (λ files. IfSome console.left (P files))
-          (λ files e. from_lines console.left (λ lines. Answers console console' lines (refusing (work request texts)) status) (P files)
+          (λ files e. from_lines console.left (λ lines. Answers shelf shelf' console console' lines (refusing (work request texts)) status) (P files)
           (λ lines h. f files lines e (did (work request texts) lines zero h)) obeys.answered) there
 
-      worked_steady : shelf'.faults ≡ shelf.faults → (status ≡ 0) ⊎ (status ≡ 9) → (shelf'.faults ≡ shelf.faults) × (console'.faults ≡ console.faults)
-      worked_steady same h = (same, obeys.steady h)
+      -- what was done is a task
+      abbrev Made : Result Task Unfit → Type 0
+      Made due = (task : Task) × (due ≡ Ok task) × Leaves shelf shelf' (Ok task) status
 
-  checked_by : (law : DatabaseIn) (game : List ℕ) (texts : Texts) (files : Files) (lines : List (List ℕ)) → texts_of files (check game) ≡ Ok texts
+      made_by : (due : Result Task Unfit) → Stand (statuses_of (refusing due)) → Leaves shelf shelf' (refusing due) status → status ≡ 0 → Made due
+      made_by (Ok task) stand leaves zero = (task, refl, leaves)
+      made_by (Err u) stand leaves zero = absurd (unfit_0 u (tells Lost Broke (Err u) status stand))
+        where
+          unfit_0 : (u : Unfit) → Tells Lost Broke (Err u) status → ⊥
+          unfit_0 u (of_task task is e) = absurd cc
+          unfit_0 u (of_fault v is e) = refusal_not (unfit v) 0 (inl refl) (sym e ∙ zero)
+          unfit_0 u (of_memory e) = omega arith
+          unfit_0 u (of_console e failed) = omega arith
+          unfit_0 u (of_shelf e failed) = omega arith
+
+      made : status ≡ 0 → Made (work request texts)
+      made zero = made_by (work request texts) obeys.stands obeys.files zero
+
+      known_files : (P : Files → Type 0) → ((files : Files) → shelf.files ≡ Some files → texts_of files request ≡ Ok texts → P files) → IfSome shelf.files P
+      known_files P f = by shelf.files refl there
+        where
+          by : (known : Option Files) → shelf.files ≡ known → IfSome known (λ files. texts_of files request ≡ Ok texts) → IfSome known P
+          by None is h = tt
+          by (Some files) is h = f files is h
+
+  checked_by : (laws : Laws) (game : List ℕ) (texts : Texts) (files : Files) (lines : List (List ℕ)) → texts_of files (check game) ≡ Ok texts
       → (task : Task) (o : Outcome) → work (check game) texts ≡ Ok task → Does task lines o → console'.history ≡ grown console.history o.events
       → Checked files game console console'
-  checked_by law game texts files lines e task o w does grew =
+  checked_by laws game texts files lines e task o w does grew =
       let d = bind-ok (database_of_file game texts.main) (λ db. Ok (reporting db)) task w in
-      let m = main_is files law game texts.main d.0 (texts-loaded files (check game) texts e).0 d.1 in
+      let m = main_is files laws game texts.main d.0 (texts-loaded files (check game) texts e).0 d.1 in
       let same : reporting d.0 ≡ task = (let f = d.2 in cc) in
       let is : o ≡ done (says (report_text d.0)) = subst (λ (t : Task). Does t lines o) (sym same) does in
       record { bytes = texts.main; db = d.0; there = m.0; text = m.1; shown = grew ∙ ap (λ x. grown console.history x.events) is }
 
-  played_by : (law : DatabaseIn) (game : List ℕ) (source : DrawSource) (texts : Texts) (files : Files) (lines : List (List ℕ)) → texts_of files (play game source) ≡ Ok texts
+  played_by : (laws : Laws) (game : List ℕ) (source : DrawSource) (texts : Texts) (files : Files) (lines : List (List ℕ)) → texts_of files (play game source) ≡ Ok texts
       → (task : Task) (o : Outcome) → work (play game source) texts ≡ Ok task → Does task lines o → console'.history ≡ grown console.history o.events
       → Played files lines game source console console'
-  played_by law game source texts files lines e task o w does grew =
+  played_by laws game source texts files lines e task o w does grew =
       let d = bind-ok (database_of_file game texts.main) (λ db. draws_from source texts.draws >>= λ draws. Ok (playing db draws)) task w in
       let r = bind-ok (draws_from source texts.draws) (λ draws. Ok (playing d.0 draws)) task d.2 in
       let l = texts-loaded files (play game source) texts e in
-      let m = main_is files law game texts.main d.0 l.0 d.1 in
+      let m = main_is files laws game texts.main d.0 l.0 d.1 in
       let same : playing d.0 r.0 ≡ task = (let f = r.2 in cc) in
       let is : o ≡ done (shown (trace_of (rules.play d.0 lines r.0).events)) = subst (λ (t : Task). Does t lines o) (sym same) does in
       record {
@@ -210,28 +268,89 @@ module _ (shelf shelf' : ShelfView) (console console' : ConsoleView) (status : �
         seen = grew ∙ ap (λ x. grown console.history x.events) is;
       }
 
-  pub worked_promised : DatabaseIn → FaultIn → (request : Request) (texts : Texts) → IfSome shelf.files (λ files. texts_of files request ≡ Ok texts)
-      → shelf'.files ≡ shelf.files → shelf'.faults ≡ shelf.faults → Obeys console console' (refusing (work request texts)) status
-      → Promises shelf shelf' console console' (Some request) status
-  worked_promised law faults request texts there same steady obeys =
-      let answered = tells Broke (work request texts) status obeys.stands in
-      let stands = worked_stands request texts there obeys in
+  -- the files after a request that stores bytes that are known
+  stored_files : (files : Files) (name bytes : List ℕ) (task : Task) → shelf.files ≡ Some files → storing name bytes ≡ task → Leaves shelf shelf' (Ok task) status → status ≡ 0
+      → shelf'.files ≡ Some (insert files name bytes)
+  stored_files files name bytes task is same leaves zero =
+      let keeps = subst (λ (t : Task). Leaves shelf shelf' (Ok t) status) (sym same) leaves in
+      keeps.stored zero ∙ ap (λ known. with_file known name bytes) is
+
+  compiled_by : (laws : Laws) (source game : List ℕ) (texts : Texts) (files : Files) → shelf.files ≡ Some files → texts_of files (compile source game) ≡ Ok texts
+      → (task : Task) → work (compile source game) texts ≡ Ok task → Leaves shelf shelf' (Ok task) status → status ≡ 0 → Compiled files source game shelf'.files
+  compiled_by laws source game texts files is e task w leaves zero =
+      let d = bind-ok (compiled_from source texts.main) (λ db. Ok (storing game (canon db))) task w in
+      let m = meant_is files laws source texts.main d.0 (texts-loaded files (compile source game) texts e).0 d.1 in
+      let same : storing game (canon d.0) ≡ task = (let f = d.2 in cc) in
       record {
-        status_is = record { known = known_worked request texts there obeys answered; cause = worked_cause request texts there obeys faults answered; first = stands };
+        bytes = texts.main;
+        tree = m.1.0;
+        db = d.0;
+        there = m.0;
+        text = m.1.1;
+        means = m.1.2;
+        stored = stored_files files game (canon d.0) task is same leaves zero;
+      }
+
+  decompiled_by : (laws : Laws) (game source : List ℕ) (texts : Texts) (files : Files) → shelf.files ≡ Some files → texts_of files (decompile game source) ≡ Ok texts
+      → (task : Task) → work (decompile game source) texts ≡ Ok task → Leaves shelf shelf' (Ok task) status → status ≡ 0 → Decompiled files game source shelf'.files
+  decompiled_by laws game source texts files is e task w leaves zero =
+      let d = bind-ok (database_of_file game texts.main) (λ db. Ok (storing source (plain db))) task w in
+      let m = main_is files laws game texts.main d.0 (texts-loaded files (decompile game source) texts e).0 d.1 in
+      let same : storing source (plain d.0) ≡ task = (let f = d.2 in cc) in
+      record { bytes = texts.main; db = d.0; there = m.0; text = m.1; stored = stored_files files source (plain d.0) task is same leaves zero }
+
+  kept_as : (name : List ℕ) (text : Database → List ℕ) (read : Result Database Unfit) → Leaves shelf shelf' (refusing (read >>= λ db. Ok (storing name (text db)))) status
+      → NameKeeps shelf shelf' (Some name) status
+  kept_as name text (Ok db) h = elim h.stay [ inl zero ↦ inl (zero, (text db, h.stored zero)) | inr other ↦ inr other ]
+  kept_as name text (Err u) h = inr (inl h)
+
+  -- what a request stores is under the name that it has for it
+  keeps_name : (request : Request) (texts : Texts) → Leaves shelf shelf' (refusing (work request texts)) status → NameKeeps shelf shelf' (stores request) status
+  keeps_name (check game) texts leaves = by (database_of_file game texts.main) leaves
+    where
+      by : (read : Result Database Unfit) → Leaves shelf shelf' (refusing (read >>= λ db. Ok (reporting db))) status → shelf'.files ≡ shelf.files
+      by (Ok db) h = h
+      by (Err u) h = h
+  keeps_name (compile source game) texts leaves = kept_as game canon (compiled_from source texts.main) leaves
+  keeps_name (decompile game source) texts leaves = kept_as source plain (database_of_file game texts.main) leaves
+  keeps_name (play game source) texts leaves = by (database_of_file game texts.main) (draws_from source texts.draws) leaves
+    where
+      by : (read : Result Database Unfit) (listed : Result (List ℕ) Unfit)
+          → Leaves shelf shelf' (refusing (read >>= λ db. listed >>= λ draws. Ok (playing db draws))) status → shelf'.files ≡ shelf.files
+      by (Ok db) (Ok draws) h = h
+      by (Ok db) (Err u) h = h
+      by (Err u) listed h = h
+
+  pub worked_promised : Laws → (request : Request) (texts : Texts) → IfSome shelf.files (λ files. texts_of files request ≡ Ok texts)
+      → Obeys shelf shelf' console console' (refusing (work request texts)) status
+      → Promises shelf shelf' console console' (Some request) status
+  worked_promised laws request texts there obeys =
+      let answered = tells Lost Broke (work request texts) status obeys.stands in
+      let stands = worked_stands request texts there obeys in
+      let P : Request → Type 0 = λ r. IfSome shelf.files (λ files. texts_of files r ≡ Ok texts) in
+      let Q : Request → Type 0 = λ r. Obeys shelf shelf' console console' (refusing (work r texts)) status in
+      record {
+        status_is = record { known = known_worked request texts there obeys answered; cause = worked_cause request texts there obeys laws answered; first = stands };
         seen = record { all = worked_seen request texts there obeys; usage = λ e. absurd cc; silent = obeys.silent; lines = obeys.lines };
-        files = same;
-        complete = complete_from shelf shelf' console console' status law (Some request) stands;
+        files = keeps_name request texts obeys.files;
+        complete = complete_from shelf shelf' console console' status laws (Some request) stands;
         checked = λ zero game e.
             let is : request ≡ check game = cc in
-            let P : Request → Type 0 = λ r. IfSome shelf.files (λ files. texts_of files r ≡ Ok texts) in
-            let Q : Request → Type 0 = λ r. Obeys console console' (refusing (work r texts)) status in
             known_both (check game) texts (subst P is there) (subst Q is obeys) (λ files lines. Checked files game console console') zero
-            (λ files lines f d. checked_by law game texts files lines f d.0 d.1 d.2 d.3 d.4);
+            (λ files lines f d. checked_by laws game texts files lines f d.0 d.1 d.2 d.3 d.4);
+        compiled = λ zero source game e.
+            let is : request ≡ compile source game = cc in
+            let m = made (compile source game) texts (subst P is there) (subst Q is obeys) zero in
+            known_files (compile source game) texts (subst P is there) (subst Q is obeys) (λ files. Compiled files source game shelf'.files)
+            (λ files known f. compiled_by laws source game texts files known f m.0 m.1 m.2 zero);
+        decompiled = λ zero game source e.
+            let is : request ≡ decompile game source = cc in
+            let m = made (decompile game source) texts (subst P is there) (subst Q is obeys) zero in
+            known_files (decompile game source) texts (subst P is there) (subst Q is obeys) (λ files. Decompiled files game source shelf'.files)
+            (λ files known f. decompiled_by laws game source texts files known f m.0 m.1 m.2 zero);
         played = λ zero game source e.
             let is : request ≡ play game source = cc in
-            let P : Request → Type 0 = λ r. IfSome shelf.files (λ files. texts_of files r ≡ Ok texts) in
-            let Q : Request → Type 0 = λ r. Obeys console console' (refusing (work r texts)) status in
             known_both (play game source) texts (subst P is there) (subst Q is obeys) (λ files lines. Played files lines game source console console') zero
-            (λ files lines f d. played_by law game source texts files lines f d.0 d.1 d.2 d.3 d.4);
-        counts = record { shelf_later = omega arith; console_later = obeys.later; steady = λ h. (steady, obeys.steady h) };
+            (λ files lines f d. played_by laws game source texts files lines f d.0 d.1 d.2 d.3 d.4);
+        counts = record { shelf_later = obeys.shelf_later; console_later = obeys.later; steady = obeys.steady };
       }

@@ -7,9 +7,13 @@ use Rattle.adv_io.specs.Faults.{Rose}
 use Rattle.adv_io.specs.Shelf.{Files, ShelfView, Lacks}
 use Rattle.scott_format.specs.Faults.{Fault}
 use Rattle.scott_format.specs.File.{DatText, DatFault}
-use Rattle.scott_requests.specs.Request.{Request, check, play}
+use Rattle.scott_requests.specs.Request.{Request, check, compile, decompile, play}
 use Rattle.scott_types.specs.Database.{Database}
-use Rattle.scott_tool.specs.Loading.{Load, main_of, draws_of, IsLoad, database_load, draws_load}
+use Rattle.adv_compiler.specs.Meaning.{meant}
+use Rattle.source_reader.specs.Text.{SourceText}
+use Rattle.source_reader.specs.declared.tree.Source.{Source}
+use Rattle.scott_tool.specs.Compile.{IsNoSource}
+use Rattle.scott_tool.specs.Loading.{Load, main_of, draws_of, IsLoad, database_load, source_load, draws_load}
 
 -- one of the files that the request loads has this
 abbrev pub OneLoaded : Option Request → (Load → Type 0) → Type 0
@@ -20,6 +24,11 @@ OneLoaded (Some request) P = (load : Load) × IsLoad request load × P load
 abbrev pub MainHas : Files → Option Request → (List ℕ → Type 0) → Type 0
 MainHas files None P = ⊥
 MainHas files (Some request) P = (load : Load) × (bytes : List ℕ) × (main_of request ≡ Some load) × (get files load.name ≡ Some bytes) × P bytes
+
+-- the source that the request compiles is there, and its bytes have this
+abbrev pub SourceHas : Files → Option Request → (List ℕ → Type 0) → Type 0
+SourceHas files (Some (compile source game)) P = (bytes : List ℕ) × (get files source ≡ Some bytes) × P bytes
+SourceHas files _ P = ⊥
 
 -- the file of draws that the request loads is there, and its bytes have this
 abbrev pub DrawsHave : Files → Option Request → (List ℕ → Type 0) → Type 0
@@ -36,7 +45,7 @@ pub record HasCause (shelf shelf' : ShelfView) (console console' : ConsoleView) 
   pub unread : status ≡ 2 → Rose shelf.faults shelf'.faults ⊎ OneLoaded asked (λ load. Lacks shelf.files load.name)
   pub unsaid : status ≡ 3 → Rose console.faults console'.faults
   pub no_database : status ≡ 4 → IfSome shelf.files (λ files. MainHas files asked (λ bytes. (fault : Fault) × DatFault bytes fault))
-  pub no_draws : status ≡ 5 → IfSome shelf.files (λ files. DrawsHave files asked (λ bytes. (at : ℕ) × (listed_draws bytes ≡ Err at)))
+  pub no_source_or_draws : status ≡ 5 → IfSome shelf.files (λ files. SourceHas files asked IsNoSource ⊎ DrawsHave files asked (λ bytes. (at : ℕ) × (listed_draws bytes ≡ Err at)))
   pub memory : status ≡ 9 → IsSome asked
   pub too_long : status ≡ 11 → IfSome shelf.files (λ files. OneLoaded asked (IsTooLong files))
 
@@ -49,6 +58,11 @@ IsLoadable files load bytes = (get files load.name ≡ Some bytes) × (length by
 abbrev pub IsGame : Files → List ℕ → Type 0
 IsGame files name = (bytes : List ℕ) × (db : Database) × IsLoadable files (database_load name) bytes × DatText bytes db
 
+-- a text of a source that means a database
+abbrev pub IsSource : Files → List ℕ → Type 0
+IsSource files name =
+    (bytes : List ℕ) × (tree : Source) × (db : Database) × IsLoadable files (source_load name) bytes × SourceText bytes tree × (meant tree ≡ Ok db)
+
 -- the draws are given by a seed, or listed by a file
 abbrev pub HasDraws : Files → Option Load → Type 0
 HasDraws files None = Unit {0}
@@ -58,4 +72,6 @@ HasDraws files (Some load) = (bytes : List ℕ) × (draws : List ℕ) × IsLoada
 abbrev pub IsAccepted : Files → Option Request → Type 0
 IsAccepted files None = ⊥
 IsAccepted files (Some (check game)) = IsGame files game
+IsAccepted files (Some (compile source game)) = IsSource files source
+IsAccepted files (Some (decompile game source)) = IsGame files game
 IsAccepted files (Some (play game source)) = IsGame files game × HasDraws files (draws_load source)

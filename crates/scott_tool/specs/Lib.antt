@@ -3,6 +3,8 @@ pub mod Refusal
 pub mod Outcome
 pub mod Loading
 pub mod Check
+pub mod Compile
+pub mod Decompile
 pub mod Play
 pub mod Work
 pub mod Views

@@ -4,8 +4,8 @@ use Rattle.std.specs.FinMap.{get}
 use Rattle.adv_io.specs.Shelf.{Files}
 use Rattle.scott_format.specs.declared.reading.TheConstants.{DATABASE_LIMIT}
 use Rattle.scott_requests.specs.Settings.{DrawSource, listed, seeded}
-use Rattle.scott_requests.specs.Request.{Request, check, play}
-use Rattle.scott_tool.specs.declared.loads.TheConstants.{DRAWS_LIMIT}
+use Rattle.scott_requests.specs.Request.{Request, check, compile, decompile, play}
+use Rattle.scott_tool.specs.declared.loads.TheConstants.{SOURCE_LIMIT, DRAWS_LIMIT}
 use Rattle.scott_tool.specs.Steps.{◌>>=◌}
 use Rattle.scott_tool.specs.Refusal.{Refusal, unread, too_long}
 
@@ -17,6 +17,9 @@ pub record Load : Type 0 where
 abbrev pub database_load : List ℕ → Load
 database_load name = record { name = name; limit = DATABASE_LIMIT }
 
+abbrev pub source_load : List ℕ → Load
+source_load name = record { name = name; limit = SOURCE_LIMIT }
+
 abbrev pub draws_load : DrawSource → Option Load
 draws_load (listed name) = Some (record { name = name; limit = DRAWS_LIMIT })
 draws_load (seeded seed) = None
@@ -25,11 +28,22 @@ draws_load (seeded seed) = None
 
 abbrev pub main_of : Request → Option Load
 main_of (check game) = Some (database_load game)
+main_of (compile source game) = Some (source_load source)
+main_of (decompile game source) = Some (database_load game)
 main_of (play game source) = Some (database_load game)
 
 abbrev pub draws_of : Request → Option Load
 draws_of (check game) = None
+draws_of (compile source game) = None
+draws_of (decompile game source) = None
 draws_of (play game source) = draws_load source
+
+-- the name of the file that a request stores
+abbrev pub stores : Request → Option (List ℕ)
+stores (check game) = None
+stores (compile source game) = Some game
+stores (decompile game source) = Some source
+stores (play game source) = None
 
 -- one of the files that a request loads
 abbrev pub IsLoad : Request → Load → Type 0

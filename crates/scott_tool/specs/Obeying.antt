@@ -3,37 +3,56 @@ use Rattle.std.specs.Prelude.{◌≡◌, ◌⊎◌, ◌≤◌, ℕ, List, length
 use Rattle.adv_io.specs.Console.{ConsoleView}
 use Rattle.adv_io.specs.Faults.{Rose}
 use Rattle.adv_io.specs.History.{says}
-use Rattle.adv_io.specs.Shelf.{Files, ShelfView, Lacks}
+use Rattle.adv_io.specs.Shelf.{Files, ShelfView, Lacks, with_file}
 use Rattle.scott_format.specs.declared.faults.FormatFault.{FormatFault}
 use Rattle.scott_format.specs.declared.faults.FormatFault.TheVariants as answer
 use Rattle.scott_requests.specs.Request.{Request}
 use Rattle.scott_tool.specs.declared.refusals.ContentFault.TheVariants.{NoDatabase}
 use Rattle.scott_tool.specs.declared.refusals.Refusal.{Refusal as HeldRefusal}
-use Rattle.scott_tool.specs.Refusal.{Refusal, Unfit, no_request, unread, too_long, unfit, refusing}
-use Rattle.scott_tool.specs.Outcome.{Outcome, done, refused, Concludes, Silent}
+use Rattle.scott_tool.specs.Refusal.{Refusal, Unfit, no_request, unread, too_long, unfit, unwritten, refusing}
+use Rattle.scott_tool.specs.Outcome.{Outcome, done, refused, Concludes, Silent, Loses, Ends}
 use Rattle.scott_tool.specs.Loading.{Load, Texts, main_of, IsLoad, texts_of}
-use Rattle.scott_tool.specs.Work.{Task, Does, work, statuses_of, IsExpected}
+use Rattle.scott_tool.specs.Work.{Task, reporting, storing, playing, Does, work, statuses_of, IsExpected}
 use Rattle.scott_tool.specs.Views.{refusal_of}
 
--- ---- the console
+-- ---- outcomes
 
 -- One of these statuses; or, in its place, 9 for want of memory, or 3 or 2 where the console or the shelf failed.
 abbrev pub Stands : (ShelfFailed ConsoleFailed : Type 0) → List ℕ → (status : ℕ) → Type 0
 Stands ShelfFailed ConsoleFailed expected status =
     Contains expected status ⊎ (status ≡ 9) ⊎ ((status ≡ 3) × ConsoleFailed) ⊎ ((status ≡ 2) × ShelfFailed)
 
--- what is seen is an outcome that is expected, unless memory runs out
-abbrev pub Answers : (old new : ConsoleView) → List (List ℕ) → Result Task Refusal → (status : ℕ) → Type 0
-Answers old new lines expected status = ((o : Outcome) × IsExpected expected lines o × Concludes old new o status) ⊎ Silent old new status
+-- an outcome that is expected ends, unless memory runs out
+abbrev pub Answers : (shelf shelf' : ShelfView) → (old new : ConsoleView) → List (List ℕ) → Result Task Refusal → (status : ℕ) → Type 0
+Answers shelf shelf' old new lines expected status =
+    ((o : Outcome) × IsExpected expected lines o × Ends shelf shelf' old new o status) ⊎ Silent old new status
+
+-- the file is stored with status 0; else the files stay, or the shelf failed as it stored
+pub record Keeps (shelf shelf' : ShelfView) (name bytes : List ℕ) (status : ℕ) : Type 0 where
+  pub stored : status ≡ 0 → shelf'.files ≡ with_file shelf.files name bytes
+  pub stay : (status ≡ 0) ⊎ (shelf'.files ≡ shelf.files) ⊎ Loses shelf shelf' name
+
+-- the files after what is expected; they stay where it stores nothing
+abbrev pub Leaves : (shelf shelf' : ShelfView) → Result Task Refusal → (status : ℕ) → Type 0
+Leaves shelf shelf' (Ok (reporting db)) status = shelf'.files ≡ shelf.files
+Leaves shelf shelf' (Ok (storing name bytes)) status = Keeps shelf shelf' name bytes status
+Leaves shelf shelf' (Ok (playing db draws)) status = shelf'.files ≡ shelf.files
+Leaves shelf shelf' (Err refusal) status = shelf'.files ≡ shelf.files
 
 -- what a call promises that does what is expected
-pub record Obeys (old new : ConsoleView) (expected : Result Task Refusal) (status : ℕ) : Type 0 where
-  pub answered : IfSome old.left (λ lines. Answers old new lines expected status)
-  pub stands : Stands ⊥ (Rose old.faults new.faults) (statuses_of expected) status
+pub record Obeys (shelf shelf' : ShelfView) (old new : ConsoleView) (expected : Result Task Refusal) (status : ℕ) : Type 0 where
+  pub answered : IfSome old.left (λ lines. Answers shelf shelf' old new lines expected status)
+  pub stands : Stands (Rose shelf.faults shelf'.faults) (Rose old.faults new.faults) (statuses_of expected) status
   pub silent : status ≡ 9 → new.history ≡ old.history
   pub lines : (status ≡ 0) ⊎ (status ≡ 3) ⊎ (new.left ≡ old.left)
+  pub files : Leaves shelf shelf' expected status
+  pub shelf_later : shelf.faults ≤ shelf'.faults
   pub later : old.faults ≤ new.faults
-  pub steady : (status ≡ 0) ⊎ (status ≡ 9) → new.faults ≡ old.faults
+  pub steady : (status ≡ 0) ⊎ (status ≡ 9) → (shelf'.faults ≡ shelf.faults) × (new.faults ≡ old.faults)
+
+-- the same of a call that has no shelf
+abbrev pub ObeysAlone : (old new : ConsoleView) → Result Task Refusal → (status : ℕ) → Type 0
+ObeysAlone old new expected status = (shelf : ShelfView) → Obeys shelf shelf old new expected status
 
 -- for a refusal with its status and its line; for want of memory with status 9, and nothing is said
 abbrev pub EndsFor : (old new : ConsoleView) → Option Refusal → (status : ℕ) → Type 0
@@ -56,6 +75,7 @@ Declines expected (Some no_request) = ⊥
 Declines expected (Some (unread name)) = ⊥
 Declines expected (Some (too_long name limit)) = ⊥
 Declines expected (Some (unfit u)) = expected ≡ Err u
+Declines expected (Some (unwritten name)) = ⊥
 
 -- a value is the one that is expected, unless memory ran out
 abbrev pub Gives : {T X : Type 0} → (T → X) → Result T HeldRefusal → Result X Unfit → Type 0
@@ -72,6 +92,17 @@ abbrev pub Makes : {A : Type 0} → Result (Vec ℕ A) HeldRefusal → Result Ta
 Makes (Ok bytes) expected = (task : Task) × (expected ≡ Ok task) × ((lines : List (List ℕ)) → Does task lines (done (says bytes.items)))
 Makes (Err refusal) expected = Declines expected (refusal_of refusal)
 
+-- bytes are what the expected task stores under a name
+abbrev pub MakesFile : {A : Type 0} → List ℕ → Result (Vec ℕ A) HeldRefusal → Result Task Unfit → Type 0
+MakesFile name (Ok bytes) expected = expected ≡ Ok (storing name bytes.items)
+MakesFile name (Err refusal) expected = Declines expected (refusal_of refusal)
+
+-- why a file wasn't stored: memory ran out and all stayed, or the shelf failed
+abbrev pub FailsToStore : (shelf shelf' : ShelfView) → List ℕ → Option Refusal → Type 0
+FailsToStore shelf shelf' name None = (shelf'.files ≡ shelf.files) × (shelf'.faults ≡ shelf.faults)
+FailsToStore shelf shelf' name (Some (unwritten other)) = (other ≡ name) × Loses shelf shelf' name
+FailsToStore shelf shelf' name (Some _) = ⊥
+
 -- ---- files
 
 -- Why files weren't loaded, of which `Loaded` are. That one can't be read can come of a shelf that failed; else it isn't there.
@@ -83,6 +114,7 @@ Misses old new Loaded expected (Some (unread name)) =
     × (Rose old.faults new.faults ⊎ (Lacks old.files name × IfSome old.files (λ files. expected files ≡ Err (unread name))))
 Misses old new Loaded expected (Some (too_long name limit)) = IfSome old.files (λ files. expected files ≡ Err (too_long name limit))
 Misses old new Loaded expected (Some (unfit u)) = ⊥
+Misses old new Loaded expected (Some (unwritten name)) = ⊥
 
 -- what a call promises that loads: a value as it is expected of the files, or why not
 pub record Fetches {T X : Type 0} (view : T → X) (old new : ShelfView) (Loaded : Load → Type 0) (expected : Files → Result X Refusal) (result : Result T HeldRefusal) : Type 0 where
@@ -106,5 +138,5 @@ pub data Handled (shelf shelf' : ShelfView) (console console' : ConsoleView) (as
       → Misses shelf shelf' (IsLoad request) (λ files. texts_of files request) refusal → shelf'.files ≡ shelf.files → shelf.faults ≤ shelf'.faults
       → Refuses console console' refusal status → Handled shelf shelf' console console' asked status
   worked : (request : Request) (texts : Texts) → asked ≡ Some request
-      → IfSome shelf.files (λ files. texts_of files request ≡ Ok texts) → shelf'.files ≡ shelf.files → shelf'.faults ≡ shelf.faults
-      → Obeys console console' (refusing (work request texts)) status → Handled shelf shelf' console console' asked status
+      → IfSome shelf.files (λ files. texts_of files request ≡ Ok texts)
+      → Obeys shelf shelf' console console' (refusing (work request texts)) status → Handled shelf shelf' console console' asked status

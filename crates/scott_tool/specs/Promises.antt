@@ -2,15 +2,18 @@
 use Rattle.std.specs.Prelude.{◌≡◌, ◌⊎◌, ◌≤◌, ℕ, List, [], ◌∷◌, Option, Some, None, IfSome, Contains}
 use Rattle.adv_io.specs.Console.{ConsoleView}
 use Rattle.adv_io.specs.Faults.{Rose}
-use Rattle.adv_io.specs.Shelf.{Files, ShelfView}
+use Rattle.adv_io.specs.Shelf.{Files, ShelfView, with_file}
 use Rattle.scott_requests.specs.Settings.{DrawSource}
-use Rattle.scott_requests.specs.Request.{Request, check, play}
+use Rattle.scott_requests.specs.Request.{Request, check, compile, decompile, play}
 use Rattle.scott_tool.specs.Refusal.{no_request, unread}
-use Rattle.scott_tool.specs.Outcome.{statuses, refused, Concludes}
+use Rattle.scott_tool.specs.Outcome.{statuses, refused, Concludes, Loses}
+use Rattle.scott_tool.specs.Loading.{stores}
 use Rattle.scott_tool.specs.Work.{expected, statuses_of}
 use Rattle.scott_tool.specs.Obeying.{Stands, Answers}
 use Rattle.scott_tool.specs.Causes.{OneLoaded, HasCause, IsAccepted}
 use Rattle.scott_tool.specs.Check.{Checked}
+use Rattle.scott_tool.specs.Compile.{Compiled}
+use Rattle.scott_tool.specs.Decompile.{Decompiled}
 use Rattle.scott_tool.specs.Play.{Played}
 
 -- where the files and the lines are known, this holds of both
@@ -45,16 +48,37 @@ SaysUnread shelf shelf' console console' asked status =
 -- It is what is expected, or a prefix of it where the console failed. With 9 it is nothing, and only what is done, or fails at the
 -- console, may take a line.
 pub record IsSeen (shelf shelf' : ShelfView) (console console' : ConsoleView) (asked : Option Request) (status : ℕ) : Type 0 where
-  pub all : IfKnown shelf console (λ files lines. Answers console console' lines (expected files asked) status ⊎ SaysUnread shelf shelf' console console' asked status)
+  pub all : IfKnown shelf console (λ files lines. Answers shelf shelf' console console' lines (expected files asked) status ⊎ SaysUnread shelf shelf' console console' asked status)
   pub usage : asked ≡ None → Concludes console console' (refused no_request) status
   pub silent : status ≡ 9 → console'.history ≡ console.history
   pub lines : (status ≡ 0) ⊎ (status ≡ 3) ⊎ (console'.left ≡ console.left)
+
+-- ---- the files
+
+-- They stay where nothing is to be stored under a name. Else that name alone has other bytes with status 0, and may be lost where the
+-- shelf failed.
+abbrev pub NameKeeps : (shelf shelf' : ShelfView) → Option (List ℕ) → (status : ℕ) → Type 0
+NameKeeps shelf shelf' None status = shelf'.files ≡ shelf.files
+NameKeeps shelf shelf' (Some name) status =
+    ((status ≡ 0) × ((bytes : List ℕ) × (shelf'.files ≡ with_file shelf.files name bytes))) ⊎ (shelf'.files ≡ shelf.files) ⊎ Loses shelf shelf' name
+
+abbrev pub KeepsFiles : (shelf shelf' : ShelfView) → Option Request → (status : ℕ) → Type 0
+KeepsFiles shelf shelf' None status = shelf'.files ≡ shelf.files
+KeepsFiles shelf shelf' (Some request) status = NameKeeps shelf shelf' (stores request) status
 
 -- ---- with status 0
 
 abbrev pub HasChecked : ShelfView → (console console' : ConsoleView) → Option Request → Type 0
 HasChecked shelf console console' asked =
     (game : List ℕ) → asked ≡ Some (check game) → IfKnown shelf console (λ files lines. Checked files game console console')
+
+abbrev pub HasCompiled : (shelf shelf' : ShelfView) → Option Request → Type 0
+HasCompiled shelf shelf' asked =
+    (source game : List ℕ) → asked ≡ Some (compile source game) → IfSome shelf.files (λ files. Compiled files source game shelf'.files)
+
+abbrev pub HasDecompiled : (shelf shelf' : ShelfView) → Option Request → Type 0
+HasDecompiled shelf shelf' asked =
+    (game source : List ℕ) → asked ≡ Some (decompile game source) → IfSome shelf.files (λ files. Decompiled files game source shelf'.files)
 
 abbrev pub HasPlayed : ShelfView → (console console' : ConsoleView) → Option Request → Type 0
 HasPlayed shelf console console' asked =

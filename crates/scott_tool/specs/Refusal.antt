@@ -1,22 +1,25 @@
 -- Why a request isn't done: its status, and the line that is said of it.
 use Rattle.std.specs.Prelude.{ℕ, List, [], ◌∷◌, ◌++◌, Result, Ok, Err, codes, decimal}
 use Rattle.std.specs.List.{flat_map}
+use Rattle.adv_compiler.specs.FaultTexts as compiler
 use Rattle.adv_draws.specs.Texts as draws
 use Rattle.scott_format.specs.FaultTexts as format
+use Rattle.source_reader.specs.FaultTexts as source
 use Rattle.scott_tool.specs.declared.refusals.ContentFault.{ContentFault}
-use Rattle.scott_tool.specs.declared.refusals.ContentFault.TheVariants.{NoDatabase, NoDraws}
+use Rattle.scott_tool.specs.declared.refusals.ContentFault.TheVariants.{NoDatabase, NoSource, NoMeaning, NoDraws}
 
 -- the content of the file of this name has a fault
 pub record Unfit : Type 0 where
   pub name : List ℕ
   pub fault : ContentFault
 
--- the words are no request; a file can't be read, is longer than its limit, or has a fault
+-- the words are no request; a file can't be read, is longer than its limit, has a fault, or can't be written
 pub data Refusal : Type 0 where
   no_request : Refusal
   unread : List ℕ → Refusal
   too_long : List ℕ → ℕ → Refusal
   unfit : Unfit → Refusal
+  unwritten : List ℕ → Refusal
 
 -- a content's fault is one of the refusals
 abbrev pub refusing : {X : Type 0} → Result X Unfit → Result X Refusal
@@ -27,6 +30,8 @@ refusing (Err u) = Err (unfit u)
 
 abbrev pub content_status : ContentFault → ℕ
 content_status (NoDatabase fault) = 4
+content_status (NoSource fault) = 5
+content_status (NoMeaning fault) = 5
 content_status (NoDraws fault) = 5
 
 abbrev pub status_of : Refusal → ℕ
@@ -34,15 +39,19 @@ status_of no_request = 1
 status_of (unread name) = 2
 status_of (too_long name limit) = 11
 status_of (unfit u) = content_status u.fault
+status_of (unwritten name) = 2
 
 -- ---- lines, in pieces
 
 -- how the program is called
 unfoldable pub usage : List ℕ
-usage = codes "usage: scott check F | play F\n"
+usage = codes "usage: scott check F | compile S F | decompile F S | play F\n"
 
 unfoldable pub cannot_read : List ℕ
 cannot_read = codes "cannot read "
+
+unfoldable pub cannot_write : List ℕ
+cannot_write = codes "cannot write "
 
 unfoldable pub after_name : List ℕ
 after_name = codes ": "
@@ -58,6 +67,8 @@ line_end = codes "\n"
 
 abbrev pub content_pieces : ContentFault → List (List ℕ)
 content_pieces (NoDatabase fault) = format.fault_pieces fault
+content_pieces (NoSource fault) = source.fault_pieces fault
+content_pieces (NoMeaning fault) = compiler.fault_pieces fault
 content_pieces (NoDraws fault) = draws.fault_pieces fault
 
 abbrev pub whole : List (List ℕ) → List ℕ
@@ -69,3 +80,4 @@ line_of no_request = usage
 line_of (unread name) = whole (cannot_read ∷ name ∷ line_end ∷ [])
 line_of (too_long name limit) = whole (name ∷ longer_than ∷ decimal limit ∷ bytes_end ∷ [])
 line_of (unfit u) = whole (u.name ∷ after_name ∷ (content_pieces u.fault ++ (line_end ∷ [])))
+line_of (unwritten name) = whole (cannot_write ∷ name ∷ line_end ∷ [])

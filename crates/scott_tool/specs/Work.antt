@@ -1,32 +1,38 @@
 -- What a request comes to: a task, or the first refusal in the order of the steps.
 use Rattle.std.specs.Prelude.{◌≡◌, ℕ, List, [], ◌∷◌, Option, Some, None, Result, Ok, Err}
 use Rattle.adv_check.specs.Report.{report_text}
+use Rattle.adv_decompiler.specs.Plain.{plain}
 use Rattle.adv_io.specs.History.{says, shown}
 use Rattle.adv_io.specs.Shelf.{Files}
-use Rattle.scott_requests.specs.Request.{Request, check, play}
+use Rattle.scott_format.specs.Canon.{canon}
+use Rattle.scott_requests.specs.Request.{Request, check, compile, decompile, play}
 use Rattle.scott_rules.specs.Play as rules
 use Rattle.adv_io.specs.Steps.{trace_of}
 use Rattle.scott_types.specs.Database.{Database}
 use Rattle.scott_tool.specs.Steps.{◌>>=◌}
 use Rattle.scott_tool.specs.Refusal.{Refusal, Unfit, no_request, refusing, status_of}
-use Rattle.scott_tool.specs.Outcome.{Outcome, done, refused}
+use Rattle.scott_tool.specs.Outcome.{Outcome, done, keeping, refused}
 use Rattle.scott_tool.specs.Loading.{Texts, texts_of}
 use Rattle.scott_tool.specs.Check.{database_of_file}
+use Rattle.scott_tool.specs.Compile.{compiled_from}
 use Rattle.scott_tool.specs.Play.{draws_from}
 
--- a database is to be reported on, or played with these draws
+-- a database is to be reported on, bytes are to be stored under a name, or a database is to be played with these draws
 pub data Task : Type 0 where
   reporting : Database → Task
+  storing : List ℕ → List ℕ → Task
   playing : Database → List ℕ → Task
 
 -- what a task does, by the lines that are left
 abbrev pub Does : Task → List (List ℕ) → Outcome → Type 0
 Does (reporting db) lines o = o ≡ done (says (report_text db))
+Does (storing name bytes) lines o = o ≡ keeping name bytes
 Does (playing db draws) lines o = o ≡ done (shown (trace_of (rules.play db lines draws).events))
 
 -- the statuses with which it can end
 abbrev pub task_statuses : Task → List ℕ
 task_statuses (reporting db) = 0 ∷ []
+task_statuses (storing name bytes) = 0 ∷ []
 task_statuses (playing db draws) = 0 ∷ []
 
 -- The task of a request, by what was loaded; or the first content that is refused, the database before the draws.
@@ -34,6 +40,12 @@ abbrev pub work : Request → Texts → Result Task Unfit
 work (check game) texts = do
   db ← database_of_file game texts.main
   Ok (reporting db)
+work (compile source game) texts = do
+  db ← compiled_from source texts.main
+  Ok (storing game (canon db))
+work (decompile game source) texts = do
+  db ← database_of_file game texts.main
+  Ok (storing source (plain db))
 work (play game source) texts = do
   db ← database_of_file game texts.main
   draws ← draws_from source texts.draws

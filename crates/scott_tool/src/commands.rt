@@ -6,24 +6,37 @@ ghost use Rattle.scott_tool.specs.Views.{texts_in};
 ghost use Rattle.scott_tool.specs.Obeying.{Obeys, MainFits};
 
 mod check;
+mod compile;
+mod decompile;
 mod play;
 mod saying;
+mod storing;
 
 use crate::loads::Texts;
-use adv_io::Console;
+use adv_io::{Console, Shelf};
 use check::check;
+use compile::compile;
+use decompile::decompile;
 use play::play;
 use scott_requests::Request;
 use std::alloc::Global;
 
 /// Does what was asked for.
-pub fn work<C: Console>(alloc: Global, request: Request<'_>, texts: &Texts, console: &mut C) -> u8
+pub fn work<S: Shelf, C: Console>(
+    alloc: Global,
+    request: Request<'_>,
+    texts: &Texts,
+    shelf: &mut S,
+    console: &mut C,
+) -> u8
     requires { MainFits (request_of request) (texts_in texts.now) }
-    ensures { Obeys (C.seen console.old) (C.seen console.new)
+    ensures { Obeys (S.seen shelf.old) (S.seen shelf.new) (C.seen console.old) (C.seen console.new)
         (refusing (work (request_of request.entry) (texts_in texts.now))) result }
 {
     match request {
         Request::Check(game) => check(alloc, game, texts, console),
+        Request::Compile(source, game) => compile(alloc, source, game, texts, shelf, console),
+        Request::Decompile(game, source) => decompile(alloc, game, source, texts, shelf, console),
         Request::Play(game, source) => play(alloc, game, source, texts, console),
     }
 }

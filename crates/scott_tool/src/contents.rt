@@ -1,18 +1,25 @@
 //! What the bytes of a file hold, or why they are refused.
-ghost use Rattle.std.specs.Prelude.{◌≡◌, ◌≤◌, length};
+ghost use Rattle.std.specs.Prelude.{◌≡◌, ◌≤◌, IfOk, length};
 ghost use Rattle.scott_requests.specs.Views.{source_of};
+ghost use Rattle.adv_compiler.specs.Meaning.{meant};
 ghost use Rattle.adv_draws.specs.Listed.{listed_draws};
+ghost use Rattle.source_reader.specs.Text.{source_in};
+ghost use Rattle.source_reader.specs.WellFormed.{WellFormed};
 ghost use Rattle.scott_tool.specs.Check.{database_of_file};
+ghost use Rattle.scott_tool.specs.Compile.{source_or_unfit, meaning_or_unfit, compiled_from};
 ghost use Rattle.scott_tool.specs.Play.{draws_or_unfit, draws_from};
 ghost use Rattle.scott_tool.specs.Views.{refusal_of};
 ghost use Rattle.scott_tool.specs.Obeying.{Gives, database_refusal};
 
 use crate::refusals::{ContentFault, Refusal};
+use adv_compiler::{CompileFault, compile};
 use adv_draws::{DrawFault, Draws};
 use scott_format::{DATABASE_LIMIT, FormatFault, read_db};
 use scott_requests::DrawSource;
 use scott_types::Db;
+use source_reader::{Source, SourceFault, read_source};
 use std::alloc::Global;
+use std::mem::forget;
 
 // Why a file with this fault is refused. Want of memory is no fault of a file.
 fn refusal_for(name: &str, fault: FormatFault) -> Refusal<'_>
@@ -33,6 +40,41 @@ pub fn database<'a>(alloc: Global, name: &'a str, bytes: &[u8]) -> Result<Db, Re
         Ok(db) => Ok(db),
         Err(fault) => Err(refusal_for(name, fault)),
     }
+}
+
+// The source of a file's bytes.
+fn source<'a>(alloc: Global, name: &'a str, bytes: &[u8]) -> Result<Source, Refusal<'a>>
+    ensures given { Gives (λ tree. tree) result (source_or_unfit name.now (source_in bytes.now)) }
+    ensures well_formed { IfOk result (λ tree. WellFormed tree) }
+{
+    match read_source(alloc, bytes) {
+        Ok(tree) => Ok(tree),
+        Err(SourceFault::Memory) => Err(Refusal::Memory),
+        Err(fault) => Err(Refusal::Unfit(name, ContentFault::NoSource(fault))),
+    }
+}
+
+// The database that a source means.
+fn meaning<'a>(alloc: Global, name: &'a str, tree: &Source) -> Result<Db, Refusal<'a>>
+    requires { WellFormed tree.now }
+    ensures { Gives (λ db. db) result (meaning_or_unfit name.now (meant tree.now)) }
+{
+    match compile(alloc, tree) {
+        Ok(db) => Ok(db),
+        Err(CompileFault::Memory) => Err(Refusal::Memory),
+        Err(fault) => Err(Refusal::Unfit(name, ContentFault::NoMeaning(fault))),
+    }
+}
+
+/// The database that a file's bytes are a source of.
+pub fn compiled<'a>(alloc: Global, name: &'a str, bytes: &[u8]) -> Result<Db, Refusal<'a>>
+    ensures { Gives (λ db. db) result (compiled_from name.now bytes.now) }
+{
+    let tree = source(alloc, name, bytes)?;
+    let made = meaning(alloc, name, &tree);
+    // The system takes the tree's memory back at once when the program ends.
+    forget(tree);
+    made
 }
 
 // The draws that a file's bytes list.

@@ -2,7 +2,7 @@
 ghost use Rattle.std.specs.Prelude.{◌≡◌, ◌≤◌, [], length, option_map, IfOk, IfSome};
 ghost use Rattle.adv_io.specs.Shelf.{Files};
 ghost use Rattle.scott_requests.specs.Views.{request_of, source_of};
-ghost use Rattle.scott_tool.specs.Loading.{database_load, main_of, draws_of, draws_load, IsLoad, loaded, texts_of};
+ghost use Rattle.scott_tool.specs.Loading.{database_load, source_load, main_of, draws_of, draws_load, IsLoad, loaded, texts_of};
 ghost use Rattle.scott_tool.specs.Views.{load_of, texts_in};
 ghost use Rattle.scott_tool.specs.Obeying.{Fetches, MainFits};
 
@@ -11,6 +11,9 @@ use adv_io::{Shelf, ShelfFault};
 use scott_format::DATABASE_LIMIT;
 use scott_requests::{DrawSource, Request};
 use std::alloc::Global;
+
+/// The most bytes of a source.
+pub const SOURCE_LIMIT: usize = 8_388_608;
 
 /// The most bytes of a file of draws.
 pub const DRAWS_LIMIT: usize = 1_048_576;
@@ -38,6 +41,15 @@ fn database_load(name: &str) -> Load<'_>
     }
 }
 
+fn source_load(name: &str) -> Load<'_>
+    ensures { load_of result ≡ source_load name.now }
+{
+    Load {
+        name,
+        limit: SOURCE_LIMIT,
+    }
+}
+
 fn draws_load(source: DrawSource<'_>) -> Option<Load<'_>>
     ensures { option_map load_of result ≡ draws_load (source_of source.entry) }
 {
@@ -56,6 +68,8 @@ fn main_of(request: Request<'_>) -> Option<Load<'_>>
 {
     match request {
         Request::Check(game) => Some(database_load(game)),
+        Request::Compile(source, _) => Some(source_load(source)),
+        Request::Decompile(game, _) => Some(database_load(game)),
         Request::Play(game, _) => Some(database_load(game)),
     }
 }
@@ -66,6 +80,8 @@ fn draws_of(request: Request<'_>) -> Option<Load<'_>>
 {
     match request {
         Request::Check(_) => None,
+        Request::Compile(_, _) => None,
+        Request::Decompile(_, _) => None,
         Request::Play(_, source) => draws_load(source),
     }
 }

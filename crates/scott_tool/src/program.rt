@@ -3,7 +3,7 @@ ghost use Rattle.std.specs.Prelude.{◌≡◌, Some};
 ghost use Rattle.scott_requests.specs.Request.{asked_by};
 ghost use Rattle.scott_requests.specs.Views.{request_of};
 ghost use Rattle.scott_tool.specs.Obeying.{Handled};
-ghost use Rattle.scott_tool.specs.Promises.{HasStatus, IsSeen, Completes, HasChecked, HasPlayed, Counts};
+ghost use Rattle.scott_tool.specs.Promises.{HasStatus, IsSeen, KeepsFiles, Completes, HasChecked, HasCompiled, HasDecompiled, HasPlayed, Counts};
 
 use crate::commands::work;
 use crate::loads::load_texts;
@@ -11,6 +11,7 @@ use crate::refusals::Refusal;
 use adv_io::{Console, Shelf};
 use scott_format::laws::{database_in, fault_in};
 use scott_requests::{Request, request_in};
+use source_reader::laws::{fault_in as source_fault_in, source_in};
 use std::alloc::Global;
 
 // Loads what a request names, and does what it asks for.
@@ -24,7 +25,7 @@ fn obey<S: Shelf, C: Console>(
         (C.seen console.old) (C.seen console.new) (Some (request_of request.entry)) result }
 {
     match load_texts(alloc, request, shelf) {
-        Ok(texts) => work(alloc, request, &texts, console),
+        Ok(texts) => work(alloc, request, &texts, shelf, console),
         Err(refusal) => refusal.end(console),
     }
 }
@@ -63,8 +64,9 @@ pub fn scott<S: Shelf, C: Console>(
     ensures seen { IsSeen (S.seen shelf.old) (S.seen shelf.new)
         (C.seen console.old) (C.seen console.new) (asked_by words.now) result }
 
-    // The files stay as they were.
-    ensures files { (S.seen shelf.new).files ≡ (S.seen shelf.old).files }
+    // The files stay as they were, but for one that is to be stored: with 0 it is, and where the
+    // shelf failed it may be lost.
+    ensures files { KeepsFiles (S.seen shelf.old) (S.seen shelf.new) (asked_by words.now) result }
 
     // Where all files are there and accepted, the status is 0, unless something fails.
     ensures complete { Completes (S.seen shelf.old) (S.seen shelf.new)
@@ -73,6 +75,14 @@ pub fn scott<S: Shelf, C: Console>(
     // With 0 `check` has said the report on the file's database.
     ensures checked { result ≡ 0 → HasChecked (S.seen shelf.old)
         (C.seen console.old) (C.seen console.new) (asked_by words.now) }
+
+    // With 0 `compile` has stored the database that the source means, and nothing else has changed.
+    ensures compiled { result ≡ 0 → HasCompiled (S.seen shelf.old) (S.seen shelf.new)
+        (asked_by words.now) }
+
+    // With 0 `decompile` has stored the plain text of the file's database.
+    ensures decompiled { result ≡ 0 → HasDecompiled (S.seen shelf.old) (S.seen shelf.new)
+        (asked_by words.now) }
 
     // With 0 `play` has shown the play of the file's database.
     ensures played { result ≡ 0 → HasPlayed (S.seen shelf.old)
@@ -84,5 +94,7 @@ pub fn scott<S: Shelf, C: Console>(
 {
     database_in();
     fault_in();
+    source_in();
+    source_fault_in();
     handle(alloc, words, shelf, console)
 }

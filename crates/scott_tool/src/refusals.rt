@@ -2,18 +2,23 @@
 ghost use Rattle.std.specs.Prelude.{◌≡◌, ◌≤◌, MatchResult};
 ghost use Rattle.adv_io.specs.History.{says};
 ghost use Rattle.adv_io.specs.Console.{Speaks};
-ghost use Rattle.scott_tool.specs.declared.refusals.ContentFault.TheVariants.{NoDatabase, NoDraws};
-ghost use Rattle.scott_tool.specs.Refusal.{no_request, unread, too_long, unfit, content_status, usage, cannot_read, after_name, longer_than, bytes_end, line_end, line_of};
+ghost use Rattle.scott_tool.specs.declared.refusals.ContentFault.TheVariants.{NoDatabase, NoSource, NoMeaning, NoDraws};
+ghost use Rattle.scott_tool.specs.Refusal.{no_request, unread, too_long, unfit, unwritten, content_status, usage, cannot_read, cannot_write, after_name, longer_than, bytes_end, line_end, line_of};
 
+use adv_compiler::CompileFault;
 use adv_draws::DrawFault;
 use adv_io::{Console, ConsoleFault, say_all};
 use itoa::Buffer;
 use scott_format::FormatFault;
+use source_reader::SourceFault;
 
-/// What is wrong with the content of a file. `Memory` is no fault of a content.
+/// What is wrong with the content of a file: it is no database, no source, a source that means no
+/// database, or no list of draws. `Memory` is no fault of a content.
 #[derive(Clone, Copy, Debug, PartialEq, Eq)]
 pub enum ContentFault {
     NoDatabase(FormatFault),
+    NoSource(SourceFault),
+    NoMeaning(CompileFault),
     NoDraws(DrawFault),
 }
 
@@ -23,6 +28,7 @@ pub enum ContentFault {
 /// - `Unread`: the file of this name isn't there, or the shelf failed.
 /// - `TooLong`: the file of this name has more bytes than this limit.
 /// - `Unfit`: the content of the file of this name has a fault.
+/// - `Unwritten`: the shelf failed as it stored the file of this name.
 /// - `Memory`: memory ran out. Nothing is said of it.
 #[derive(Clone, Copy, Debug, PartialEq, Eq)]
 pub enum Refusal<'a> {
@@ -30,6 +36,7 @@ pub enum Refusal<'a> {
     Unread(&'a str),
     TooLong(&'a str, usize),
     Unfit(&'a str, ContentFault),
+    Unwritten(&'a str),
     Memory,
 }
 
@@ -38,7 +45,7 @@ pub enum Refusal<'a> {
 fn usage<'a>() -> &'a [u8]
     ensures { result.now ≡ usage }
 {
-    b"usage: scott check F | play F\n"
+    b"usage: scott check F | compile S F | decompile F S | play F\n"
 }
 
 #[tactic(auto, unfolding(crate::specs::Refusal::cannot_read))]
@@ -46,6 +53,13 @@ fn cannot_read<'a>() -> &'a [u8]
     ensures { result.now ≡ cannot_read }
 {
     b"cannot read "
+}
+
+#[tactic(auto, unfolding(crate::specs::Refusal::cannot_write))]
+fn cannot_write<'a>() -> &'a [u8]
+    ensures { result.now ≡ cannot_write }
+{
+    b"cannot write "
 }
 
 #[tactic(auto, unfolding(crate::specs::Refusal::after_name))]
@@ -124,6 +138,54 @@ fn say_no_database<C: Console>(
     )
 }
 
+fn say_no_source<C: Console>(
+    name: &str,
+    fault: SourceFault,
+    console: &mut C,
+) -> Result<(), ConsoleFault>
+    ensures { Speaks (C.seen console.old) (C.seen console.new) result
+        (says (line_of (unfit (record { name = name.now; fault = NoSource fault })))) }
+{
+    let mut digits = Buffer::new();
+    let [opening, place] = fault.pieces(&mut digits);
+    say_all(
+        console,
+        &[name.as_bytes(), after_name(), opening, place, line_end()],
+    )
+}
+
+fn say_no_meaning<C: Console>(
+    name: &str,
+    fault: CompileFault,
+    console: &mut C,
+) -> Result<(), ConsoleFault>
+    ensures { Speaks (C.seen console.old) (C.seen console.new) result
+        (says (line_of (unfit (record { name = name.now; fault = NoMeaning fault })))) }
+{
+    let mut number_digits = Buffer::new();
+    let mut place_digits = Buffer::new();
+    let number = fault.number(&mut number_digits);
+    let place = fault.place(&mut place_digits);
+    say_all(
+        console,
+        &[
+            name.as_bytes(),
+            after_name(),
+            number,
+            fault.opening(),
+            place,
+            line_end(),
+        ],
+    )
+}
+
+fn say_unwritten<C: Console>(name: &str, console: &mut C) -> Result<(), ConsoleFault>
+    ensures { Speaks (C.seen console.old) (C.seen console.new) result
+        (says (line_of (unwritten name.now))) }
+{
+    say_all(console, &[cannot_write(), name.as_bytes(), line_end()])
+}
+
 fn say_no_draws<C: Console>(
     name: &str,
     fault: DrawFault,
@@ -159,6 +221,8 @@ impl ContentFault {
     {
         match self {
             ContentFault::NoDatabase(_) => 4,
+            ContentFault::NoSource(_) => 5,
+            ContentFault::NoMeaning(_) => 5,
             ContentFault::NoDraws(_) => 5,
         }
     }
@@ -170,6 +234,8 @@ impl ContentFault {
     {
         match self {
             ContentFault::NoDatabase(fault) => say_no_database(name, fault, console),
+            ContentFault::NoSource(fault) => say_no_source(name, fault, console),
+            ContentFault::NoMeaning(fault) => say_no_meaning(name, fault, console),
             ContentFault::NoDraws(fault) => say_no_draws(name, fault, console),
         }
     }
@@ -188,6 +254,7 @@ impl<'a> Refusal<'a> {
             Refusal::Unread(name) => concluded(say_unread(name, console), 2),
             Refusal::TooLong(name, limit) => concluded(say_too_long(name, limit, console), 11),
             Refusal::Unfit(name, fault) => concluded(fault.say(name, console), fault.status()),
+            Refusal::Unwritten(name) => concluded(say_unwritten(name, console), 2),
             Refusal::Memory => 9,
         }
     }

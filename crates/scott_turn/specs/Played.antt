@@ -21,6 +21,10 @@ pub record SessionView : Type 0 where
   pub state : State
   pub broken : Bool
 
+-- what a session does from where it stands, on these lines and draws
+abbrev pub goes : SessionView → List (List ℕ) → List ℕ → Traced Step PlayEnd
+goes session lines draws = go session.game session.position session.state lines draws
+
 -- what a play leaves is what the rules leave: where it stands, its state, the draws, and why it stopped
 pub record Leaves (t : Traced Step PlayEnd) (new : SessionView) (before now : Supply) (why : Ending) : Type 0 where
   pub position : new.position ≡ t.value.position

@@ -1,5 +1,6 @@
 //! What is done up to the prompt.
 ghost use Rattle.std.specs.Prelude.{◌≡◌, ◌+◌, ◌++◌, IfOk, OnOk, [], length};
+ghost use Rattle.adv_draws.specs.Supply.{supplied};
 ghost use Rattle.adv_io.specs.Console.{Speaks};
 ghost use Rattle.scott_types.specs.State.{Fits};
 ghost use Rattle.adv_io.specs.Steps.{said_steps, shown_of};
@@ -94,7 +95,7 @@ fn advance_from<C: Console>(
         (λ position. (to_prompt game.now
         (automatic game.now (groups_from game.now from) state.old draws.old.left)).value
         ≡ record { position = position; state = state.new; draws = draws.new.left }) }
-    ensures taken { draws.new.taken + length draws.new.left ≡ draws.old.taken + length draws.old.left }
+    ensures taken { supplied draws.new ≡ supplied draws.old }
     ensures fits { Fits game.now state.new }
 {
     let halt = automatic(game, state, from, draws, console)?;
@@ -114,7 +115,7 @@ fn begin<C: Console>(
     ensures left { IfOk result (λ position.
         (advance game.now Position.Fresh state.old draws.old.left).value
         ≡ record { position = position; state = state.new; draws = draws.new.left }) }
-    ensures taken { draws.new.taken + length draws.new.left ≡ draws.old.taken + length draws.old.left }
+    ensures taken { supplied draws.new ≡ supplied draws.old }
     ensures fits { Fits game.now state.new }
 {
     look_if_due(game.db(), state, console)?;
@@ -138,7 +139,7 @@ pub fn advance<C: Console>(
     ensures left { IfOk result (λ reached.
         (advance game.now position state.old draws.old.left).value
         ≡ record { position = reached; state = state.new; draws = draws.new.left }) }
-    ensures taken { draws.new.taken + length draws.new.left ≡ draws.old.taken + length draws.old.left }
+    ensures taken { supplied draws.new ≡ supplied draws.old }
     ensures fits { Fits game.now state.new }
 {
     match position {

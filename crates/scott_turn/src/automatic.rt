@@ -1,5 +1,6 @@
 //! The automatic step: the groups of verb 0, each where a draw lets it in.
 ghost use Rattle.std.specs.Prelude.{◌≡◌, ◌+◌, ◌<◌, ◌==◌, nat_le, IfOk, OnOk, [], length};
+ghost use Rattle.adv_draws.specs.Supply.{supplied};
 ghost use Rattle.scott_types.specs.Database.{action_at};
 ghost use Rattle.adv_io.specs.Console.{Speaks};
 ghost use Rattle.scott_types.specs.State.{Fits};
@@ -84,7 +85,7 @@ fn auto_turn<C: Console>(
         (group_at game.now head) state.old draws.old.left).value.halt) }
     ensures draws { draws.new.left
         ≡ (auto_turn game.now (group_at game.now head) state.old draws.old.left).value.draws }
-    ensures taken { draws.new.taken + length draws.new.left ≡ draws.old.taken + length draws.old.left }
+    ensures taken { supplied draws.new ≡ supplied draws.old }
     ensures fits { Fits game.now state.new }
 {
     match draws.next() {
@@ -122,7 +123,7 @@ pub fn automatic<C: Console>(
     ensures left { IfOk result
         (λ halt. (automatic game.now (groups_from game.now from) state.old draws.old.left).value
         ≡ record { state = state.new; draws = draws.new.left; halt = halt }) }
-    ensures taken { draws.new.taken + length draws.new.left ≡ draws.old.taken + length draws.old.left }
+    ensures taken { supplied draws.new ≡ supplied draws.old }
     ensures fits { Fits game.now state.new }
 {
     let mut next = game.first_head(AUTOMATIC, from);

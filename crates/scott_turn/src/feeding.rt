@@ -1,5 +1,6 @@
 //! A play whose lines are fed, one by one.
 ghost use Rattle.std.specs.Prelude.{◌≡◌, ◌+◌, IfOk, length, true};
+ghost use Rattle.adv_draws.specs.Supply.{supplied};
 ghost use Rattle.adv_io.specs.Console.{Speaks};
 ghost use Rattle.scott_types.specs.State.{Fits};
 ghost use Rattle.scott_rules.specs.Play.{go};
@@ -25,12 +26,12 @@ fn answer_and_advance<C: Console>(
     console: &mut C,
 ) -> Result<Position, ConsoleFault>
     requires { Fits game.now state.old }
-    ensures spoken { Speaks (C.seen console.old) (C.seen console.new) result
-        (shown_of (after_line true game.now line.now Position.Line state.old draws.old.left).events) }
-    ensures left { IfOk result
-        (λ reached. (after_line true game.now line.now Position.Line state.old draws.old.left).value
+    ensures spoken { let t = after_line true game.now line.now Position.Line state.old draws.old.left in
+        Speaks (C.seen console.old) (C.seen console.new) result (shown_of t.events) }
+    ensures left { let t = after_line true game.now line.now Position.Line state.old draws.old.left in
+        IfOk result (λ reached. t.value
         ≡ record { position = reached; state = state.new; draws = draws.new.left }) }
-    ensures taken { draws.new.taken + length draws.new.left ≡ draws.old.taken + length draws.old.left }
+    ensures taken { supplied draws.new ≡ supplied draws.old }
     ensures fits { Fits game.now state.new }
 {
     let position = answer(game, state, line, console)?;
@@ -54,7 +55,7 @@ fn feed_line<C: Console>(
         IfOk result
         (λ reached. (after_line b game.now line.now position state.old draws.old.left).value
         ≡ record { position = reached; state = state.new; draws = draws.new.left }) }
-    ensures taken { draws.new.taken + length draws.new.left ≡ draws.old.taken + length draws.old.left }
+    ensures taken { supplied draws.new ≡ supplied draws.old }
     ensures fits { Fits game.now state.new }
 {
     if is_prompt(position) {
@@ -81,9 +82,13 @@ pub fn feed<C: Console>(
     ensures spoken { Speaks (C.seen console.old) (C.seen console.new) result
         (said (go game.now position state.old (given line.entry) draws.old.left).events) }
     ensures left { let t = go game.now position state.old (given line.entry) draws.old.left in
-        IfOk result (λ reached. t.value
-        ≡ record { position = reached; state = state.new; lines = t.value.lines; draws = draws.new.left }) }
-    ensures taken { draws.new.taken + length draws.new.left ≡ draws.old.taken + length draws.old.left }
+        IfOk result (λ reached. t.value ≡ record {
+          position = reached;
+          state = state.new;
+          lines = t.value.lines;
+          draws = draws.new.left;
+        }) }
+    ensures taken { supplied draws.new ≡ supplied draws.old }
     ensures fits { Fits game.now state.new }
 {
     play_spends();

@@ -1,5 +1,6 @@
 //! Rounds, one after another, until a line or a draw is wanted or the game is over.
 ghost use Rattle.std.specs.Prelude.{◌≡◌, ◌+◌, ◌<◌, ◌≤◌, false, length, IfOk, IfSome, OnOk};
+ghost use Rattle.adv_draws.specs.Supply.{supplied};
 ghost use Rattle.adv_io.specs.Faults.{HasCause};
 ghost use Rattle.scott_types.specs.State.{Fits};
 ghost use Rattle.scott_rules.specs.Play.{go};
@@ -79,7 +80,7 @@ fn go_round<C: Console>(
         → (C.seen console.new).bound < (C.seen console.old).bound) }
     ensures bounded { (C.seen console.new).bound ≤ (C.seen console.old).bound }
     ensures cause { HasCause (C.seen console.old).faults (C.seen console.new).faults result }
-    ensures taken { draws.new.taken + length draws.new.left ≡ draws.old.taken + length draws.old.left }
+    ensures taken { supplied draws.new ≡ supplied draws.old }
     ensures fits { Fits game.now state.new }
     ensures ends { IfOk result (λ round. EndsWell round.position) }
 {
@@ -123,7 +124,7 @@ pub fn play_on<C: Console>(
         state.new draws.new.left) }
     ensures bounded { (C.seen console.new).bound ≤ (C.seen console.old).bound }
     ensures cause { HasCause (C.seen console.old).faults (C.seen console.new).faults result }
-    ensures taken { draws.new.taken + length draws.new.left ≡ draws.old.taken + length draws.old.left }
+    ensures taken { supplied draws.new ≡ supplied draws.old }
     ensures fits { Fits game.now state.new }
     ensures ends { IfOk result EndsWell }
 {

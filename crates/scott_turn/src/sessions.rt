@@ -5,9 +5,9 @@ ghost use Rattle.adv_io.specs.Faults.{HasCause};
 ghost use Rattle.scott_types.specs.State.{Fits, start};
 ghost use Rattle.scott_rules.specs.Laws.{EndsWell};
 ghost use Rattle.scott_types.specs.declared.endings.Position.TheVariants.{Fresh};
-ghost use Rattle.scott_rules.specs.Play.{go, ending_of};
+ghost use Rattle.scott_rules.specs.Play.{ending_of};
 ghost use Rattle.scott_turn.specs.Fed.{given, said};
-ghost use Rattle.scott_turn.specs.Played.{Leaves, Plays, GoesOn, EndingIsKnown};
+ghost use Rattle.scott_turn.specs.Played.{goes, Leaves, Plays, GoesOn, EndingIsKnown};
 
 use crate::feeding::feed;
 use crate::games::Game;
@@ -85,10 +85,9 @@ impl<'a> Session<'a> {
         requires { self.old.broken ≡ false }
         ensures plays { IfSome (C.seen console.old).left (λ lines.
             Plays (C.seen console.old) (C.seen console.new) result
-            (go self.old.game self.old.position self.old.state lines draws.old.left) self.new draws.old draws.new) }
+            (goes self.old lines draws.old.left) self.new draws.old draws.new) }
         ensures goes_on { IfSome (C.seen console.old).left (λ lines. OnOk result
-            (GoesOn self.old self.new lines draws.old.left
-            (go self.old.game self.old.position self.old.state lines draws.old.left))) }
+            (GoesOn self.old self.new lines draws.old.left (goes self.old lines draws.old.left))) }
         ensures bounded { (C.seen console.new).bound ≤ (C.seen console.old).bound }
         ensures cause { HasCause (C.seen console.old).faults (C.seen console.new).faults result }
         ensures game { self.new.game ≡ self.old.game }
@@ -122,9 +121,9 @@ impl<'a> Session<'a> {
     ) -> Result<Ending, ConsoleFault>
         requires { self.old.broken ≡ false }
         ensures spoken { Speaks (C.seen console.old) (C.seen console.new) result
-            (said (go self.old.game self.old.position self.old.state (given line.entry) draws.old.left).events) }
+            (said (goes self.old (given line.entry) draws.old.left).events) }
         ensures leaves { IfOk result (λ ending.
-            Leaves (go self.old.game self.old.position self.old.state (given line.entry) draws.old.left)
+            Leaves (goes self.old (given line.entry) draws.old.left)
             self.new draws.old draws.new ending) }
         ensures game { self.new.game ≡ self.old.game }
         ensures breaks { IsOk result ↔ IsFalse self.new.broken }

@@ -4,7 +4,7 @@ ghost use Rattle.scott_requests.specs.Request.{check};
 ghost use Rattle.scott_tool.specs.Refusal.{refusing};
 ghost use Rattle.scott_tool.specs.Work.{work};
 ghost use Rattle.scott_tool.specs.Views.{texts_in};
-ghost use Rattle.scott_tool.specs.Obeying.{Makes, Obeys};
+ghost use Rattle.scott_tool.specs.Obeying.{Makes, ObeysAlone};
 
 use super::saying::say_made;
 use crate::contents::database;
@@ -30,7 +30,7 @@ fn report_on<'a>(alloc: Global, game: &'a str, texts: &Texts) -> Result<Vec<u8>,
 /// Says the report on a database.
 pub fn check<C: Console>(alloc: Global, game: &str, texts: &Texts, console: &mut C) -> u8
     requires { length texts.now.main.items ≤ DATABASE_LIMIT }
-    ensures { Obeys (C.seen console.old) (C.seen console.new)
+    ensures { ObeysAlone (C.seen console.old) (C.seen console.new)
         (refusing (work (check game.now) (texts_in texts.now))) result }
 {
     say_made(report_on(alloc, game, texts), console)

@@ -5,7 +5,7 @@ ghost use Rattle.scott_requests.specs.Views.{source_of};
 ghost use Rattle.scott_tool.specs.Refusal.{refusing};
 ghost use Rattle.scott_tool.specs.Work.{playing, work};
 ghost use Rattle.scott_tool.specs.Views.{texts_in};
-ghost use Rattle.scott_tool.specs.Obeying.{Gives, Obeys};
+ghost use Rattle.scott_tool.specs.Obeying.{Gives, ObeysAlone};
 
 use crate::contents::{database, draws_from};
 use crate::loads::Texts;
@@ -37,7 +37,7 @@ fn game_and_draws<'a>(
 
 // Plays a database with these draws.
 fn play_with<C: Console>(alloc: Global, db: &Db, mut draws: Draws, console: &mut C) -> u8
-    ensures { Obeys (C.seen console.old) (C.seen console.new)
+    ensures { ObeysAlone (C.seen console.old) (C.seen console.new)
         (Ok (playing db.now draws.left)) result }
 {
     match Session::open(alloc, db) {
@@ -58,7 +58,7 @@ pub fn play<C: Console>(
     console: &mut C,
 ) -> u8
     requires { length texts.now.main.items ≤ DATABASE_LIMIT }
-    ensures { Obeys (C.seen console.old) (C.seen console.new)
+    ensures { ObeysAlone (C.seen console.old) (C.seen console.new)
         (refusing (work (play game.now (source_of source.entry)) (texts_in texts.now))) result }
 {
     match game_and_draws(alloc, game, source, texts) {

@@ -2,6 +2,7 @@
 use super::games::T;
 use super::plays::{self, WALK};
 use super::refusals::{self, USAGE};
+use super::sources;
 use super::trying::{Case, File, NOTHING, answer_of, console_of, expect};
 use crate::program::scott;
 use crate::status_without_words;
@@ -11,7 +12,11 @@ use std::test::Fail;
 
 #[test]
 fn commands_are_answered(rt: HostRuntime) -> Result<(), Fail> {
-    for cases in plays::ALL.iter().chain(refusals::ALL.iter()) {
+    for cases in plays::ALL
+        .iter()
+        .chain(refusals::ALL.iter())
+        .chain(sources::ALL.iter())
+    {
         for case in cases.iter() {
             expect(&rt, case)?;
         }
@@ -55,13 +60,13 @@ fn long_files_and_no_words_are_refused(rt: HostRuntime) -> Result<(), Fail> {
 // of the whole.
 #[test]
 fn consoles_fail(rt: HostRuntime) -> Result<(), Fail> {
-    let (_, whole) = answer_of(rt.alloc(), &WALK)?;
+    let (_, whole, _) = answer_of(rt.alloc(), &WALK)?;
     for number in 1..1_000 {
         let failing = Case {
             failing_calls: &[number],
             ..WALK
         };
-        let (status, console) = answer_of(rt.alloc(), &failing)?;
+        let (status, console, _) = answer_of(rt.alloc(), &failing)?;
         assert!(rt; whole.said().starts_with(console.said()), "{number}");
         if status == 0 {
             assert_eq!(rt; console.said(), whole.said());

@@ -3,7 +3,7 @@ use super::games::T;
 use super::plays::{ASK, HALL};
 use super::trying::{Case, File, NOTHING};
 
-pub const USAGE: &str = "usage: scott check F | play F\n";
+pub const USAGE: &str = "usage: scott check F | compile S F | decompile F S | play F\n";
 
 const UNASKED: Case<'static> = Case {
     status: 1,
@@ -11,7 +11,7 @@ const UNASKED: Case<'static> = Case {
     ..NOTHING
 };
 
-const NO_REQUESTS: [Case<'static>; 5] = [
+const NO_REQUESTS: [Case<'static>; 6] = [
     UNASKED,
     Case {
         command: "play",
@@ -27,6 +27,10 @@ const NO_REQUESTS: [Case<'static>; 5] = [
     },
     Case {
         command: "check no file",
+        ..UNASKED
+    },
+    Case {
+        command: "compile t.adv",
         ..UNASKED
     },
 ];

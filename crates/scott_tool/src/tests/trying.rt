@@ -6,38 +6,43 @@ use std::alloc::Global;
 use std::process::Abort;
 use std::test::Fail;
 
-/// The file `t.dat` before a command.
+/// A file: none, these bytes, these pieces, or the text of a game.
 #[derive(Clone, Copy)]
 pub enum File<'a> {
     Absent,
     Bytes(&'a [u8]),
+    Pieces(&'a [&'a str]),
     Of(Game<'a>),
 }
 
-/// A command, what is there before it, and what is expected: its status, and what is said, piece by
-/// piece.
+/// A command, the files `t.dat`, `t.adv` and `d.txt` before it, and what is expected: its status, what
+/// is said, piece by piece, and files after it.
 #[derive(Clone, Copy)]
 pub struct Case<'a> {
     pub command: &'a str,
     pub game: File<'a>,
+    pub source: File<'a>,
     pub draws: Option<&'a [u8]>,
     pub lines: &'a [&'a [u8]],
     pub failing_loads: &'a [u64],
     pub failing_calls: &'a [u64],
     pub status: u8,
     pub said: &'a [&'a str],
+    pub after: &'a [(&'a str, File<'a>)],
 }
 
 /// Nothing is there, and nothing is expected.
 pub const NOTHING: Case<'static> = Case {
     command: "",
     game: File::Absent,
+    source: File::Absent,
     draws: None,
     lines: &[],
     failing_loads: &[],
     failing_calls: &[],
     status: 0,
     said: &[],
+    after: &[],
 };
 
 // The words of a command, which blanks part.
@@ -49,18 +54,33 @@ fn words_of(alloc: Global, command: &str) -> Result<Vec<String>, Fail> {
     Ok(words)
 }
 
-// A shelf with the game as `t.dat` and the draws as `d.txt`.
+fn joined(alloc: Global, pieces: &[&str]) -> Result<Vec<u8>, Fail> {
+    let mut bytes = Vec::new(alloc);
+    for piece in pieces {
+        bytes.extend_from_slice(piece.as_bytes())?;
+    }
+    Ok(bytes)
+}
+
+// The bytes of a file, if there is one.
+fn bytes_of(alloc: Global, file: &File<'_>) -> Result<Option<Vec<u8>>, Fail> {
+    match file {
+        File::Absent => Ok(None),
+        File::Bytes(bytes) => Ok(Some(bytes.to_vec(alloc)?)),
+        File::Pieces(pieces) => Ok(Some(joined(alloc, pieces)?)),
+        File::Of(game) => Ok(Some(game.text(alloc)?.into_bytes())),
+    }
+}
+
+// A shelf with the files of a case, stored in their order.
 fn shelf_of(alloc: Global, case: &Case<'_>) -> Result<MemoryShelf, Fail> {
     let failing = case.failing_loads.to_vec(alloc)?;
     let mut shelf = MemoryShelf::new(Vec::new(alloc), failing);
-    match case.game {
-        File::Absent => (),
-        File::Bytes(bytes) => {
-            let _ = shelf.store(alloc, "t.dat", bytes);
-        }
-        File::Of(game) => {
-            let _ = shelf.store(alloc, "t.dat", game.text(alloc)?.as_bytes());
-        }
+    if let Some(bytes) = bytes_of(alloc, &case.game)? {
+        let _ = shelf.store(alloc, "t.dat", &bytes);
+    }
+    if let Some(bytes) = bytes_of(alloc, &case.source)? {
+        let _ = shelf.store(alloc, "t.adv", &bytes);
     }
     if let Some(draws) = case.draws {
         let _ = shelf.store(alloc, "d.txt", draws);
@@ -78,23 +98,37 @@ pub fn console_of(alloc: Global, case: &Case<'_>) -> Result<MemoryConsole, Fail>
     Ok(MemoryConsole::new(alloc, lines, failing, 65_536)?)
 }
 
-/// Gives a command: its status, and the console after it.
-pub fn answer_of(alloc: Global, case: &Case<'_>) -> Result<(u8, MemoryConsole), Fail> {
+/// Gives a command: its status, and the console and the shelf after it.
+pub fn answer_of(alloc: Global, case: &Case<'_>) -> Result<(u8, MemoryConsole, MemoryShelf), Fail> {
     let words = words_of(alloc, case.command)?;
     let mut shelf = shelf_of(alloc, case)?;
     let mut console = console_of(alloc, case)?;
     let status = scott(alloc, &words, &mut shelf, &mut console);
-    Ok((status, console))
+    Ok((status, console, shelf))
 }
 
-/// Gives a command, and expects its status and what is said.
-pub fn expect<R: Abort + AllocGlobal>(rt: &R, case: &Case<'_>) -> Result<MemoryConsole, Fail> {
-    let mut said = Vec::new(rt.alloc());
-    for piece in case.said {
-        said.extend_from_slice(piece.as_bytes())?;
+// Expects a file after a command.
+fn expect_file<R: Abort + AllocGlobal>(
+    rt: &R,
+    shelf: &MemoryShelf,
+    name: &str,
+    file: &File<'_>,
+) -> Result<(), Fail> {
+    match bytes_of(rt.alloc(), file)? {
+        Some(bytes) => assert_eq!(rt; shelf.file(name), Some(bytes.as_slice()), "{name}"),
+        None => assert_eq!(rt; shelf.file(name), None, "{name}"),
     }
-    let (status, console) = answer_of(rt.alloc(), case)?;
+    Ok(())
+}
+
+/// Gives a command, and expects its status, what is said, and the files after it.
+pub fn expect<R: Abort + AllocGlobal>(rt: &R, case: &Case<'_>) -> Result<MemoryConsole, Fail> {
+    let said = joined(rt.alloc(), case.said)?;
+    let (status, console, shelf) = answer_of(rt.alloc(), case)?;
     assert_eq!(rt; status, case.status, "{}", case.command);
     assert_eq!(rt; console.said(), said.as_slice(), "{}", case.command);
+    for (name, file) in case.after {
+        expect_file(rt, &shelf, name, file)?;
+    }
     Ok(console)
 }

@@ -1,13 +1,21 @@
-use Rattle.std.proofs.Common.{refl}
+use Rattle.std.proofs.Common.{◌≡◌, refl, subst}
+use Rattle.adv_io.specs.Shelf.{ShelfView}
 use Rattle.scott_requests.specs.Views.{request_of}
 use Rattle.scott_tool.specs.Views.{refusal_of, texts_in}
-use Rattle.scott_tool.specs.Obeying.{not_loaded, worked}
+use Rattle.scott_tool.specs.Refusal.{refusing}
+use Rattle.scott_tool.specs.Work.{work}
+use Rattle.scott_tool.specs.Obeying.{Obeys, not_loaded, worked}
 use Rattle.scott_tool.proofs.program.obey.Goals as goal
 
 pub returns-in-Ok : goal.returns-in-Ok
 returns-in-Ok g c =
     let fetched = c.in-Ok.ensures.fetched in
-    worked (request_of c.args.request) (texts_in c.in-Ok.texts) refl fetched.found fetched.files_stay fetched.steady c.work.ensures
+    let before = g.S.Shelf.seen c.args.shelf.now in
+    let loaded = g.S.Shelf.seen c.load_texts.new.shelf in
+    let same : record { files = loaded.files; faults = loaded.faults } ≡ before = λ i. record { files = fetched.files_stay i; faults = fetched.steady i } in
+    worked (request_of c.args.request) (texts_in c.in-Ok.texts) refl fetched.found
+    (subst (λ (s : ShelfView). Obeys s (g.S.Shelf.seen c.work.new.shelf) (g.C.Console.seen c.args.console.now) (g.C.Console.seen c.work.new.console)
+    (refusing (work (request_of c.args.request) (texts_in c.in-Ok.texts))) c.work.result) same c.work.ensures)
 
 pub returns-in-Err : goal.returns-in-Err
 returns-in-Err g c =
