@@ -6,6 +6,7 @@ pub mod Tokens
 pub mod Spans
 pub mod Answers
 pub mod Views
+pub mod FaultTexts
 pub mod Laws
 pub mod Written
 pub mod Worked

@@ -2,6 +2,7 @@
 #![tactic(auto)]
 
 // What there is.
+mod fault_texts;
 pub mod faults;
 pub mod kinds;
 

@@ -1,6 +1,7 @@
 //! Texts that have tokens, and texts that have none, with ample memory.
 use inform_lexemes::{Keyword, Symbol};
 use inform_lexer::{Glance, Kind, LexFault, glance, name, text, tokens};
+use itoa::Buffer;
 use std::alloc::Global;
 use std::test::Fail;
 
@@ -51,7 +52,32 @@ fn is_refused(alloc: Global, bytes: &[u8], fault: LexFault) -> bool {
 #[test]
 fn faults_are_found(rt: HostRuntime) {
     for (bytes, fault) in FAULTS {
-        assert!(rt; is_refused(rt.alloc(), bytes, *fault), "at {fault}");
+        assert!(rt; is_refused(rt.alloc(), bytes, *fault));
+    }
+}
+
+// What is said of each fault, in pieces.
+const TEXTS_OF_FAULTS: &[(LexFault, &[u8], &[u8])] = &[
+    (LexFault::BadByte(4), b"bad byte at ", b"4"),
+    (LexFault::BigNumber(0), b"number too large at ", b"0"),
+    (LexFault::LongName(17), b"name too long at ", b"17"),
+    (LexFault::BadCharacter(10), b"bad character at ", b"10"),
+    (LexFault::BadString(2), b"bad string at ", b"2"),
+    (
+        LexFault::OpenString(33554431),
+        b"string not closed at ",
+        b"33554431",
+    ),
+    (LexFault::Memory, b"", b""),
+];
+
+#[test]
+fn faults_are_said(rt: HostRuntime) {
+    for (fault, opening, place) in TEXTS_OF_FAULTS {
+        let mut digits = Buffer::new();
+        let pieces = fault.pieces(&mut digits);
+        assert_eq!(rt; pieces[0], *opening);
+        assert_eq!(rt; pieces[1], *place);
     }
 }
 
