@@ -17,17 +17,17 @@ use Rattle.inform_names.specs.Places.{Scope, is_one_of, first_fault}
 
 -- ---- scopes of directives
 
--- outside of routines
-abbrev pub outer_scope : Width → Known → Scope
-outer_scope width known = record { width = width; known = known; routine = []; locals = [] }
+-- what a directive of this name has, outside of routines
+abbrev pub outer_scope : Width → Known → List ℕ → Scope
+outer_scope width known name = record { width = width; known = known; directive = name; locals = [] }
 
 -- the value of a constant, which uses the directives before number `at` alone
-abbrev pub constant_scope : Width → Known → ℕ → Scope
-constant_scope width known at = outer_scope width (λ name. earlier at (known name))
+abbrev pub constant_scope : Width → Known → ℕ → List ℕ → Scope
+constant_scope width known at name = outer_scope width (λ other. earlier at (known other)) name
 
 -- the body of a routine
 abbrev pub routine_scope : Width → Known → RoutineTree → Scope
-routine_scope width known r = record { width = width; known = known; routine = r.name; locals = r.locals }
+routine_scope width known r = record { width = width; known = known; directive = r.name; locals = r.locals }
 
 -- ---- at the name of a directive
 
@@ -76,10 +76,10 @@ routine_faults width known r = fault_if (nat_lt DEEPEST (routine_depth r)) (too_
 
 -- directive number `at`, after its name was tested for another directive, where the arrays before have `total` entries
 abbrev pub inner_fault : Width → Known → ℕ → ℕ → DirectiveTree → Option Fault
-inner_fault width known at total (d.Constant name value) = first_fault (constant_scope width known at) (constant_demands value)
-inner_fault width known at total (d.Global name value) = first_fault (outer_scope width known) (optional_demands constant_demands value)
+inner_fault width known at total (d.Constant name value) = first_fault (constant_scope width known at name) (constant_demands value)
+inner_fault width known at total (d.Global name value) = first_fault (outer_scope width known name) (optional_demands constant_demands value)
 inner_fault width known at total (d.Array name words entries) = first_of (size_fault total name (array_length width known entries)
-    ∷ first_fault (outer_scope width known) (constants_demands entries)
+    ∷ first_fault (outer_scope width known name) (constants_demands entries)
     ∷ [])
 inner_fault width known at total (d.Routine r) = first_of (routine_faults width known r)
 

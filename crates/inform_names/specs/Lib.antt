@@ -2,7 +2,10 @@ pub mod Words
 pub mod Meanings
 pub mod Demands
 pub mod Faults
+pub mod Refusals
 pub mod Places
+pub mod Tables
+pub mod Scopes
 pub mod Acceptance
 pub mod FaultTexts
 pub mod Worked

@@ -16,11 +16,11 @@ use Rattle.inform_names.specs.Faults.{Fault, missing, wrong_kind, too_many_argum
 
 -- ---- scopes
 
--- where a place stands: the width, the names that are known there, and the routine with its locals
+-- where a place stands: the width, the names that are known there, and the directive with its locals
 pub record Scope : Type 0 where
   pub width : Width
   pub known : Known
-  pub routine : List ℕ
+  pub directive : List ℕ
   pub locals : List (List ℕ)
 
 -- whether a name is one of these
@@ -85,7 +85,7 @@ fault_at scope (d.Value name) = if is_local scope name then None else kind_fault
 fault_at scope (d.Variable name) = if is_local scope name then None else kind_fault is_global name (scope.known name)
 fault_at scope (d.Array name words) = if is_local scope name then Some (wrong_kind name) else kind_fault (is_array words) name (scope.known name)
 fault_at scope (d.Call name count) = if is_local scope name then Some (wrong_kind name) else call_fault name count (scope.known name)
-fault_at scope (d.Leave has_loop) = fault_if (not has_loop) (outside scope.routine)
+fault_at scope (d.Leave has_loop) = fault_if (not has_loop) (outside scope.directive)
 
 -- ---- the first fault
 

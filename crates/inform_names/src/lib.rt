@@ -7,6 +7,15 @@ mod enclosures;
 mod faults;
 mod limits;
 mod meanings;
+mod refusals;
+mod tables;
+
+// What is wrong, place by place.
+mod changes;
+mod conditions;
+mod places;
+mod statements;
+mod values;
 
 // Worked examples.
 pub mod worked;

@@ -1,4 +1,5 @@
 //! What a name may mean.
+ghost use Rattle.std.specs.Prelude.{◌≡◌};
 
 /// What a directive makes of its name.
 #[derive(Clone, Copy, Debug, PartialEq, Eq)]
@@ -18,4 +19,56 @@ pub struct Meaning {
     /// The number of the directive in the program, counted from 0.
     pub at: usize,
     pub kind: Kind,
+}
+
+impl Kind {
+    ghost use Rattle.inform_names.specs.Places.{is_constant, is_global, is_array, has_value};
+
+    /// Whether it is that of a constant.
+    pub fn is_constant(self) -> bool
+        ensures { result ≡ is_constant self }
+    {
+        match self {
+            Kind::Constant(_) => true,
+            Kind::Global => false,
+            Kind::Array(_) => false,
+            Kind::Routine(_) => false,
+        }
+    }
+
+    /// Whether it is that of a global.
+    pub fn is_global(self) -> bool
+        ensures { result ≡ is_global self }
+    {
+        match self {
+            Kind::Constant(_) => false,
+            Kind::Global => true,
+            Kind::Array(_) => false,
+            Kind::Routine(_) => false,
+        }
+    }
+
+    /// Whether it is that of an array, of words or of bytes.
+    pub fn is_array(self, words: bool) -> bool
+        ensures { result ≡ is_array words self }
+    {
+        match self {
+            Kind::Constant(_) => false,
+            Kind::Global => false,
+            Kind::Array(other) => { if words { other } else { !other } }
+            Kind::Routine(_) => false,
+        }
+    }
+
+    /// Whether its name alone is a value: that of a constant or a global.
+    pub fn has_value(self) -> bool
+        ensures { result ≡ has_value self }
+    {
+        match self {
+            Kind::Constant(_) => true,
+            Kind::Global => true,
+            Kind::Array(_) => false,
+            Kind::Routine(_) => false,
+        }
+    }
 }
