@@ -9,6 +9,7 @@ mod limits;
 mod meanings;
 mod refusals;
 mod tables;
+mod words;
 
 // What is wrong, place by place.
 mod changes;
