@@ -14,6 +14,7 @@ mod words;
 // What is wrong, place by place.
 mod changes;
 mod conditions;
+mod directives;
 mod places;
 mod statements;
 mod values;

@@ -47,10 +47,12 @@ fn word_of(meaning: Option<Meaning>) -> Option<i32>
     ensures { result ≡ word_of_meaning meaning }
 {
     match meaning {
-        Some(Meaning {
-            at: _,
-            kind: Kind::Constant(value),
-        }) => value,
+        Some(
+            Meaning {
+                at: _,
+                kind: Kind::Constant(value),
+            },
+        ) => value,
         _ => None,
     }
 }
@@ -64,7 +66,14 @@ impl<'a> Table<'a> {
     pub fn find(&self, name: &Name) -> Option<Meaning>
         ensures { result ≡ found_in self.now name.now }
     {
-        self.meanings.get(name.bytes()).copied()
+        self.find_bytes(name.bytes())
+    }
+
+    /// What the name with these bytes means, if anything.
+    pub fn find_bytes(&self, name: &[u8]) -> Option<Meaning>
+        ensures { result ≡ found_in self.now name.now }
+    {
+        self.meanings.get(name).copied()
     }
 
     /// The word that a constant stands for, if any.
