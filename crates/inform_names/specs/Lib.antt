@@ -7,5 +7,6 @@ pub mod Places
 pub mod Tables
 pub mod Scopes
 pub mod Acceptance
+pub mod Answers
 pub mod FaultTexts
 pub mod Worked

@@ -1,13 +1,15 @@
-//! Acceptance of an Inform program: what each name means, what each place asks for, and the first thing that is
-//! wrong.
+//! Acceptance of an Inform program: what each name means, what each place asks for, and the first
+//! thing that is wrong.
 #![tactic(auto)]
 
-// What names mean, and what may be wrong with them.
-mod enclosures;
+// What may be wrong, and what is said of it.
+mod fault_texts;
 mod faults;
 mod limits;
-mod meanings;
 mod refusals;
+
+// What names mean.
+mod meanings;
 mod tables;
 mod words;
 
@@ -15,12 +17,19 @@ mod words;
 mod changes;
 mod conditions;
 mod directives;
+mod enclosures;
 mod places;
 mod statements;
 mod values;
 
-// Worked examples.
+// The whole program.
+mod accepted;
+mod accepting;
+
+// Worked examples of the above.
 pub mod worked;
 
+pub use accepted::Accepted;
+pub use accepting::accept;
 pub use faults::NameFault;
 pub use meanings::{Kind, Meaning};

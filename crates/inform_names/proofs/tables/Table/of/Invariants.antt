@@ -1,5 +1,5 @@
 use Rattle.std.proofs.Common.{◌≡◌, drop, map}
-use Rattle.inform_tree.specs.Programs.{directive_of, program_of}
+use Rattle.inform_tree.specs.Programs.{directive_of}
 use Rattle.inform_names.specs.Meanings.{meanings, meanings_from}
 use Rattle.inform_names.specs.Tables.{found_in}
 use Rattle.inform_names.proofs.tables.Table.of.Given as goal
