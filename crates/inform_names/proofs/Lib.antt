@@ -1,2 +1,4 @@
 pub mod Counts
 pub mod Lookups
+pub mod Firsts
+pub mod Meant

@@ -8,5 +8,6 @@ pub mod Tables
 pub mod Scopes
 pub mod Acceptance
 pub mod Answers
+pub mod Laws
 pub mod FaultTexts
 pub mod Worked

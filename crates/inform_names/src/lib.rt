@@ -26,7 +26,8 @@ mod values;
 mod accepted;
 mod accepting;
 
-// Worked examples of the above.
+// Laws and worked examples.
+pub mod laws;
 pub mod worked;
 
 pub use accepted::Accepted;
