@@ -2,3 +2,4 @@ pub mod Counts
 pub mod Lookups
 pub mod Firsts
 pub mod Meant
+pub mod Faultless

@@ -16,7 +16,7 @@ use Rattle.inform_names.specs.Laws.{IsMeaningOf}
 -- ---- one directive
 
 -- what directive number `at` means, where these names are known before it
-abbrev own : Width → Known → ℕ → DirectiveTree → Meaning
+abbrev pub own : Width → Known → ℕ → DirectiveTree → Meaning
 own width known at directive = record { at = at; kind = kind_of width known directive }
 
 -- a name that was known stays
