@@ -17,10 +17,10 @@ use Rattle.inform_names.specs.declared.meanings.Meaning.{Meaning}
 use Rattle.inform_names.specs.declared.limits.TheConstants.{ARGUMENT_LIMIT, LENGTH_LIMIT, ENTRY_LIMIT, DEEPEST}
 use Rattle.inform_names.specs.Meanings.{Known, nothing_known, word_of_meaning, word_of_kind, constant_word, name_of, kind_of, with_directive, meanings_from, meanings, earlier, array_length, directive_entries}
 use Rattle.inform_names.specs.Demands as q
-use Rattle.inform_names.specs.Demands.{constant_demands, constants_demands, statements_demands, no_loop}
-use Rattle.inform_names.specs.Faults.{Fault, missing, wrong_kind, no_main, fault_if, first_of}
+use Rattle.inform_names.specs.Demands.{optional_demands, constant_demands, constants_demands, statements_demands, no_loop}
+use Rattle.inform_names.specs.Faults.{Fault, missing, wrong_kind, too_deep, main_locals, no_main, fault_if, first_of}
 use Rattle.inform_names.specs.Places.{Scope, is_local, is_constant, is_global, is_array, has_value, kind_fault, call_fault, arguments_fault, fault_at, first_fault, IsFine}
-use Rattle.inform_names.specs.Acceptance.{outer_scope, constant_scope, routine_scope, twice_fault, inner_fault, directive_fault, directives_fault, has_wrong_size, routine_faults, is_routine, means_routine, main_fault, main, is_main, has_locals, name_fault}
+use Rattle.inform_names.specs.Acceptance.{outer_scope, constant_scope, routine_scope, twice_fault, inner_fault, directive_fault, directives_fault, has_wrong_size, size_fault, locals_fault, routine_faults, is_routine, means_routine, main_fault, main, is_main, has_locals, name_fault}
 use Rattle.inform_names.specs.Laws.{IsMeaningOf, total_entries}
 use Rattle.inform_names.proofs.Firsts.{first_is_none, rest_is_none, fine_where_faultless}
 use Rattle.inform_names.proofs.Meant.{own, becomes, all_stays, of_directives, earlier_stay}
@@ -300,6 +300,11 @@ means_some : (o : Option Meaning) → means_routine o ≡ true → (m : Meaning)
 means_some None e = absurd (cc)
 means_some (Some m) e = (m , refl , e)
 
+second_is_none : (deep main locals body : Option Fault) → first_of (deep ∷ main ∷ locals ∷ body ∷ []) ≡ None → main ≡ None
+second_is_none deep main locals body e =
+    first_is_none main (option_or locals (option_or body None))
+    (rest_is_none deep (option_or main (option_or locals (option_or body None))) e)
+
 pub main_is_a_routine : (width : Width) (program : List DirectiveTree) → name_fault width program ≡ None
     → (m : Meaning) × (routine : RoutineTree) × (meanings width program main ≡ Some m)
     × IsMeaningOf width program main m (d.Routine routine)
@@ -312,8 +317,62 @@ main_is_a_routine width program none =
     let here : slice_get program m.0.at ≡ Some (d.Routine r.0) = f.1.0 ∙ ap Some r.1 in
     let name : r.0.name ≡ main = ap name_of (sym r.1) ∙ f.1.1 in
     let inside = faultless_inside width program m.0.at (d.Routine r.0) none here in
-    let after = rest_is_none _ _ inside in
-    let locals = not_wrong (is_main r.0.name && has_locals r.0.locals) _ (first_is_none _ _ after) in
+    let locals : (is_main r.0.name && has_locals r.0.locals) ≡ false =
+    not_wrong (is_main r.0.name && has_locals r.0.locals) main_locals
+    (second_is_none (fault_if (nat_lt DEEPEST (routine_depth r.0)) (too_deep r.0.name))
+    (fault_if (is_main r.0.name && has_locals r.0.locals) main_locals)
+    (locals_fault r.0.name r.0.locals 0 r.0.locals)
+    (first_fault (routine_scope width (meanings width program) r.0) (statements_demands no_loop r.0.body))
+    inside) in
     (m.0 , r.0 , m.1
     , (here , name , f.1.2 ∙ ap (kind_of width (meanings width (take m.0.at program))) r.1)
     , no_locals r.0.locals (both_by (is_main r.0.name) (has_locals r.0.locals) ((bytes_eq-Decides r.0.name main).1 name) locals))
+
+-- ---- what is in directives
+
+is_array_of : (words : Bool) → is_array words (k.Array words) ≡ true
+is_array_of true = refl
+is_array_of false = refl
+
+pub arrays_mean_themselves : (width : Width) (program : List DirectiveTree) (at : ℕ) (name : List ℕ) (words : Bool) (entries : List Const)
+    → name_fault width program ≡ None → slice_get program at ≡ Some (d.Array name words entries)
+    → kind_fault (is_array words) name (meanings width program name) ≡ None
+arrays_mean_themselves width program at name words entries none e =
+    ap (kind_fault (is_array words) name) (means_itself width program at (d.Array name words entries) none e)
+    ∙ ap (λ (b : Bool). fault_if (not b) (wrong_kind name)) (is_array_of words)
+
+pub globals_are_fine : (width : Width) (program : List DirectiveTree) (at : ℕ) (name : List ℕ) (value : Option Const)
+    → name_fault width program ≡ None → slice_get program at ≡ Some (d.Global name value)
+    → IsFine (outer_scope width (meanings width program) name) (optional_demands constant_demands value)
+globals_are_fine width program at name value none e =
+    fine_where_faultless (outer_scope width (meanings width program) name) (optional_demands constant_demands value)
+    (faultless_inside width program at (d.Global name value) none e)
+
+pub entries_are_fine : (width : Width) (program : List DirectiveTree) (at : ℕ) (name : List ℕ) (words : Bool) (entries : List Const)
+    → name_fault width program ≡ None → slice_get program at ≡ Some (d.Array name words entries)
+    → IsFine (outer_scope width (meanings width program) name) (constants_demands entries)
+entries_are_fine width program at name words entries none e =
+    let scope : Scope = outer_scope width (meanings width program) name in
+    let fault : Option Fault = size_fault (total_entries width (meanings width program) (take at program)) name (array_length width (meanings width program) entries) in
+    fine_where_faultless scope (constants_demands entries)
+    (first_is_none (first_fault scope (constants_demands entries)) None
+    (rest_is_none fault (first_of (first_fault scope (constants_demands entries) ∷ [])) (faultless_inside width program at (d.Array name words entries) none e)))
+
+last_is_none : (deep main locals body : Option Fault) → first_of (deep ∷ main ∷ locals ∷ body ∷ []) ≡ None → body ≡ None
+last_is_none deep main locals body e =
+    first_is_none body None
+    (rest_is_none locals (option_or body None)
+    (rest_is_none main (option_or locals (option_or body None))
+    (rest_is_none deep (option_or main (option_or locals (option_or body None))) e)))
+
+pub bodies_are_fine : (width : Width) (program : List DirectiveTree) (at : ℕ) (routine : RoutineTree)
+    → name_fault width program ≡ None → slice_get program at ≡ Some (d.Routine routine)
+    → IsFine (routine_scope width (meanings width program) routine) (statements_demands no_loop routine.body)
+bodies_are_fine width program at routine none e =
+    let scope : Scope = routine_scope width (meanings width program) routine in
+    fine_where_faultless scope (statements_demands no_loop routine.body)
+    (last_is_none (fault_if (nat_lt DEEPEST (routine_depth routine)) (too_deep routine.name))
+    (fault_if (is_main routine.name && has_locals routine.locals) main_locals)
+    (locals_fault routine.name routine.locals 0 routine.locals)
+    (first_fault scope (statements_demands no_loop routine.body))
+    (faultless_inside width program at (d.Routine routine) none e))

@@ -3,3 +3,4 @@ pub mod Lookups
 pub mod Firsts
 pub mod Meant
 pub mod Faultless
+pub mod Named

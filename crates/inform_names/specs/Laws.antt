@@ -13,9 +13,9 @@ use Rattle.inform_names.specs.declared.meanings.Meaning.{Meaning}
 use Rattle.inform_names.specs.declared.limits.TheConstants.{ARGUMENT_LIMIT, LENGTH_LIMIT, ENTRY_LIMIT, DEEPEST}
 use Rattle.inform_names.specs.Meanings.{Known, constant_word, name_of, kind_of, meanings, earlier, array_length, directive_entries}
 use Rattle.inform_names.specs.Demands as q
-use Rattle.inform_names.specs.Demands.{Demands, constant_demands}
+use Rattle.inform_names.specs.Demands.{Demands, optional_demands, constant_demands, constants_demands, statements_demands, no_loop}
 use Rattle.inform_names.specs.Places.{Scope, is_local, is_constant, is_global, is_array, has_value, kind_fault, call_fault, fault_at, first_fault, IsFine}
-use Rattle.inform_names.specs.Acceptance.{directive_fault, main, name_fault}
+use Rattle.inform_names.specs.Acceptance.{outer_scope, routine_scope, directive_fault, main, name_fault}
 
 -- ---- meanings
 
@@ -90,6 +90,31 @@ RoutinesAreShallow = (width : Width) (program : List DirectiveTree) (at : ℕ) (
   → name_fault width program ≡ None
   → slice_get program at ≡ Some (d.Routine routine)
   → routine_depth routine ≤ DEEPEST
+
+-- the names of arrays, and what stands in globals, arrays and routines, are as they are demanded
+abbrev pub ArraysMeanThemselves : Type 0
+ArraysMeanThemselves = (width : Width) (program : List DirectiveTree) (at : ℕ) (name : List ℕ) (words : Bool) (entries : List Const)
+  → name_fault width program ≡ None
+  → slice_get program at ≡ Some (d.Array name words entries)
+  → kind_fault (is_array words) name (meanings width program name) ≡ None
+
+abbrev pub GlobalsAreFine : Type 0
+GlobalsAreFine = (width : Width) (program : List DirectiveTree) (at : ℕ) (name : List ℕ) (value : Option Const)
+  → name_fault width program ≡ None
+  → slice_get program at ≡ Some (d.Global name value)
+  → IsFine (outer_scope width (meanings width program) name) (optional_demands constant_demands value)
+
+abbrev pub EntriesAreFine : Type 0
+EntriesAreFine = (width : Width) (program : List DirectiveTree) (at : ℕ) (name : List ℕ) (words : Bool) (entries : List Const)
+  → name_fault width program ≡ None
+  → slice_get program at ≡ Some (d.Array name words entries)
+  → IsFine (outer_scope width (meanings width program) name) (constants_demands entries)
+
+abbrev pub BodiesAreFine : Type 0
+BodiesAreFine = (width : Width) (program : List DirectiveTree) (at : ℕ) (routine : RoutineTree)
+  → name_fault width program ≡ None
+  → slice_get program at ≡ Some (d.Routine routine)
+  → IsFine (routine_scope width (meanings width program) routine) (statements_demands no_loop routine.body)
 
 -- `main` is a routine without locals
 abbrev pub MainIsARoutine : Type 0

@@ -9,5 +9,7 @@ pub mod Scopes
 pub mod Acceptance
 pub mod Answers
 pub mod Laws
+pub mod Views
+pub mod Lookups
 pub mod FaultTexts
 pub mod Worked

@@ -1,6 +1,6 @@
 //! The laws of names. Each is the contract of a function that does nothing else.
 ghost use Rattle.inform_names.specs.Places.{FirstOfTheList};
-ghost use Rattle.inform_names.specs.Laws.{MeaningsAreOfDirectives, MeaningsAreFirst, EarlierMeaningsStay, DirectivesAreFaultless, NamesMeanTheirDirectives, ConstantsHaveWords, FineConstantsHaveWords, ArraysHaveLengths, RoutinesAreShallow, MainIsARoutine, FaultlessPlacesAreFine, CallsAreKnown, ArraysAreKnown, ConstantsAreKnown, ValuesAreKnown, VariablesAreKnown};
+ghost use Rattle.inform_names.specs.Laws.{MeaningsAreOfDirectives, MeaningsAreFirst, EarlierMeaningsStay, DirectivesAreFaultless, NamesMeanTheirDirectives, ConstantsHaveWords, FineConstantsHaveWords, ArraysHaveLengths, ArraysMeanThemselves, GlobalsAreFine, EntriesAreFine, BodiesAreFine, RoutinesAreShallow, MainIsARoutine, FaultlessPlacesAreFine, CallsAreKnown, ArraysAreKnown, ConstantsAreKnown, ValuesAreKnown, VariablesAreKnown};
 
 // ---- meanings
 
@@ -44,6 +44,26 @@ pub fn fine_constants_have_words()
 /// Each array of an accepted program has a length in 1..32767.
 pub fn arrays_have_lengths()
     ensures { ArraysHaveLengths }
+{}
+
+/// In an accepted program the name of an array is that of an array of its kind.
+pub fn arrays_mean_themselves()
+    ensures { ArraysMeanThemselves }
+{}
+
+/// What the globals of an accepted program begin with is fine.
+pub fn globals_are_fine()
+    ensures { GlobalsAreFine }
+{}
+
+/// The entries of the arrays of an accepted program are fine.
+pub fn entries_are_fine()
+    ensures { EntriesAreFine }
+{}
+
+/// Each place in the routines of an accepted program is fine.
+pub fn bodies_are_fine()
+    ensures { BodiesAreFine }
 {}
 
 /// No routine of an accepted program is deeper than 64.

@@ -25,6 +25,7 @@ mod values;
 // The whole program.
 mod accepted;
 mod accepting;
+mod names;
 
 // Laws and worked examples.
 pub mod laws;
@@ -33,4 +34,5 @@ pub mod worked;
 pub use accepted::Accepted;
 pub use accepting::accept;
 pub use faults::NameFault;
-pub use meanings::{Kind, Meaning};
+pub use meanings::{Kind, Meaning, Value};
+pub use names::Names;

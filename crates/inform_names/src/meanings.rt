@@ -21,6 +21,15 @@ pub struct Meaning {
     pub kind: Kind,
 }
 
+/// What a name stands for as a value.
+#[derive(Clone, Copy, Debug, PartialEq, Eq)]
+pub enum Value {
+    /// The word of a constant.
+    Word(i32),
+    /// The global that is the directive of this number.
+    Global(usize),
+}
+
 impl Kind {
     ghost use Rattle.inform_names.specs.Places.{is_constant, is_global, is_array, has_value};
 
