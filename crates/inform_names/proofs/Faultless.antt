@@ -1,9 +1,8 @@
 -- What holds in a program without a fault.
 use Rattle.std.proofs.Common.{◌≡◌, ◌∙◌, ℕ, ◌+◌, ◌<◌, ◌≤◌, ℤ, pos, negsuc, Bool, true, false, cond, List, [], ◌∷◌, length, take, refl, sym, ap, arith, Option, None, Some, zero, suc, subst}
 use Rattle.std.proofs.lemmas.Bool.{ltb-false}
-use Rattle.std.specs.Prelude.{nat_lt, slice_get, is_some, not, IsSome, ◌||◌, ◌&&◌}
+use Rattle.std.specs.Prelude.{nat_lt, slice_get, is_some, not, IsSome, ◌&&◌}
 use Rattle.std.specs.Option.{option_or}
-use Rattle.std.specs.Str.{bytes_eq}
 use Rattle.std.proofs.lemmas.Slice.Eq.{bytes_eq-Decides}
 use Rattle.inform_tree.specs.declared.widths.Width.{Width}
 use Rattle.inform_tree.specs.declared.values.Const.{Const}
@@ -14,13 +13,13 @@ use Rattle.inform_tree.specs.Depths.{routine_depth}
 use Rattle.inform_names.specs.declared.meanings.Kind.{Kind}
 use Rattle.inform_names.specs.declared.meanings.Kind.TheVariants as k
 use Rattle.inform_names.specs.declared.meanings.Meaning.{Meaning}
-use Rattle.inform_names.specs.declared.limits.TheConstants.{ARGUMENT_LIMIT, LENGTH_LIMIT, ENTRY_LIMIT, DEEPEST}
+use Rattle.inform_names.specs.declared.limits.TheConstants.{LENGTH_LIMIT, DEEPEST}
 use Rattle.inform_names.specs.Meanings.{Known, nothing_known, word_of_meaning, word_of_kind, constant_word, name_of, kind_of, with_directive, meanings_from, meanings, earlier, array_length, directive_entries}
 use Rattle.inform_names.specs.Demands as q
 use Rattle.inform_names.specs.Demands.{optional_demands, constant_demands, constants_demands, statements_demands, no_loop}
-use Rattle.inform_names.specs.Faults.{Fault, missing, wrong_kind, too_deep, main_locals, no_main, fault_if, first_of}
-use Rattle.inform_names.specs.Places.{Scope, is_local, is_constant, is_global, is_array, has_value, kind_fault, call_fault, arguments_fault, fault_at, first_fault, IsFine}
-use Rattle.inform_names.specs.Acceptance.{outer_scope, constant_scope, routine_scope, twice_fault, inner_fault, directive_fault, directives_fault, has_wrong_size, size_fault, locals_fault, routine_faults, is_routine, means_routine, main_fault, main, is_main, has_locals, name_fault}
+use Rattle.inform_names.specs.Faults.{Fault, wrong_kind, too_deep, main_locals, no_main, fault_if, first_of}
+use Rattle.inform_names.specs.Places.{Scope, is_local, is_constant, is_global, is_array, has_value, kind_fault, call_fault, fault_at, first_fault, IsFine}
+use Rattle.inform_names.specs.Acceptance.{outer_scope, constant_scope, routine_scope, twice_fault, inner_fault, directive_fault, directives_fault, has_wrong_size, size_fault, locals_fault, is_routine, means_routine, main_fault, main, is_main, has_locals, name_fault}
 use Rattle.inform_names.specs.Laws.{IsMeaningOf, total_entries}
 use Rattle.inform_names.proofs.Firsts.{first_is_none, rest_is_none, fine_where_faultless}
 use Rattle.inform_names.proofs.Meant.{own, becomes, all_stays, of_directives, earlier_stay}
@@ -43,7 +42,7 @@ earlier_some_by : (at : ℕ) (m m' : Meaning) (low : Bool) → nat_lt m.at at �
 earlier_some_by at m m' true low e =
     let same : m ≡ m' = cc in
     let f : m.at ≡ m'.at = ap (λ (x : Meaning). x.at) same in
-    (grind arith , same)
+    (grind arith, same)
 earlier_some_by at m m' false low e = absurd (cc)
 
 -- a meaning that stands before a number
@@ -51,15 +50,15 @@ pub earlier_some : (at : ℕ) (o : Option Meaning) (m : Meaning) → earlier at 
 earlier_some at None m e = absurd (cc)
 earlier_some at (Some m') m e =
     let f = earlier_some_by at m' m (nat_lt m'.at at) refl e in
-    (f.0 , ap Some f.1)
+    (f.0, ap Some f.1)
 
 -- a name that is of the kind that is demanded
 pub known_kind : (test : Kind → Bool) (name : List ℕ) (o : Option Meaning) → kind_fault test name o ≡ None → (m : Meaning) × (o ≡ Some m) × (test m.kind ≡ true)
 known_kind test name None e = absurd (cc)
-known_kind test name (Some m) e = (m , refl , not_false (test m.kind) (not_wrong (not (test m.kind)) (wrong_kind name) e))
+known_kind test name (Some m) e = (m, refl, not_false (test m.kind) (not_wrong (not (test m.kind)) (wrong_kind name) e))
 
 pub constant_kind : (kind : Kind) → is_constant kind ≡ true → (value : Option ℤ) × (kind ≡ k.Constant value)
-constant_kind (k.Constant value) e = (value , refl)
+constant_kind (k.Constant value) e = (value, refl)
 constant_kind k.Global e = absurd (cc)
 constant_kind (k.Array words) e = absurd (cc)
 constant_kind (k.Routine locals) e = absurd (cc)
@@ -199,7 +198,7 @@ constants_have_words width program name at value none e = worded width program (
 
 not_local_by : (local : Bool) (name : List ℕ) (rest : Option Fault) → cond local (Some (wrong_kind name)) rest ≡ None → (local ≡ false) × (rest ≡ None)
 not_local_by true name rest e = absurd (cc)
-not_local_by false name rest e = (refl , e)
+not_local_by false name rest e = (refl, e)
 
 pub calls_known : (scope : Scope) (name : List ℕ) (count : ℕ) → fault_at scope (q.Call name count) ≡ None
     → (is_local scope name ≡ false) × (call_fault name count (scope.known name) ≡ None)
@@ -227,7 +226,7 @@ variables_known scope name e is = local_by (is_local scope name) (kind_fault is_
 
 -- ---- constants in their places, and lengths
 
-fine_name : (width : Width) (program : List DirectiveTree) (known : Known) (name : List ℕ)
+pub fine_name : (width : Width) (program : List DirectiveTree) (known : Known) (name : List ℕ)
     → name_fault width program ≡ None → known ≡ meanings width program
     → kind_fault is_constant name (known name) ≡ None → IsSome (word_of_meaning (known name))
 fine_name width program known name none all fine =
@@ -256,7 +255,7 @@ length_known width program scope (x ∷ (y ∷ xs)) none all fine = refl
 
 right_size : (total : ℕ) (o : Option ℤ) → IsSome o → has_wrong_size total o ≡ false → (n : ℕ) × (o ≡ Some (pos n)) × (1 ≤ n) × (n ≤ LENGTH_LIMIT)
 right_size total None some e = absurd (cc)
-right_size total (Some (pos n)) some e = (n , refl , grind arith , grind arith)
+right_size total (Some (pos n)) some e = (n, refl, grind arith, grind arith)
 right_size total (Some (negsuc n)) some e = absurd (cc)
 
 pub arrays_have_lengths : (width : Width) (program : List DirectiveTree) (at : ℕ) (name : List ℕ) (words : Bool) (entries : List Const)
@@ -294,11 +293,11 @@ routine_kind : (width : Width) (known : Known) (directive : DirectiveTree) → i
 routine_kind width known (d.Constant name value) e = absurd (cc)
 routine_kind width known (d.Global name value) e = absurd (cc)
 routine_kind width known (d.Array name words entries) e = absurd (cc)
-routine_kind width known (d.Routine r) e = (r , refl)
+routine_kind width known (d.Routine r) e = (r, refl)
 
 means_some : (o : Option Meaning) → means_routine o ≡ true → (m : Meaning) × (o ≡ Some m) × (is_routine m.kind ≡ true)
 means_some None e = absurd (cc)
-means_some (Some m) e = (m , refl , e)
+means_some (Some m) e = (m, refl, e)
 
 second_is_none : (deep main locals body : Option Fault) → first_of (deep ∷ main ∷ locals ∷ body ∷ []) ≡ None → main ≡ None
 second_is_none deep main locals body e =
@@ -323,10 +322,13 @@ main_is_a_routine width program none =
     (fault_if (is_main r.0.name && has_locals r.0.locals) main_locals)
     (locals_fault r.0.name r.0.locals 0 r.0.locals)
     (first_fault (routine_scope width (meanings width program) r.0) (statements_demands no_loop r.0.body))
-    inside) in
-    (m.0 , r.0 , m.1
-    , (here , name , f.1.2 ∙ ap (kind_of width (meanings width (take m.0.at program))) r.1)
-    , no_locals r.0.locals (both_by (is_main r.0.name) (has_locals r.0.locals) ((bytes_eq-Decides r.0.name main).1 name) locals))
+    inside) in (
+      m.0,
+      r.0,
+      m.1,
+      (here, name, f.1.2 ∙ ap (kind_of width (meanings width (take m.0.at program))) r.1),
+      no_locals r.0.locals (both_by (is_main r.0.name) (has_locals r.0.locals) ((bytes_eq-Decides r.0.name main).1 name) locals),
+    )
 
 -- ---- what is in directives
 
@@ -376,3 +378,22 @@ bodies_are_fine width program at routine none e =
     (locals_fault routine.name routine.locals 0 routine.locals)
     (first_fault scope (statements_demands no_loop routine.body))
     (faultless_inside width program at (d.Routine routine) none e))
+
+-- ---- `main`, where it is found
+
+pub main_has_no_locals : (width : Width) (program : List DirectiveTree) (m : Meaning) (r : RoutineTree)
+    → name_fault width program ≡ None → meanings width program main ≡ Some m → slice_get program m.at ≡ Some (d.Routine r)
+    → r.locals ≡ []
+main_has_no_locals width program m r none e here =
+    let law = main_is_a_routine width program none in
+    let same : m ≡ law.0 = cc (e, law.2) in
+    let there : slice_get program m.at ≡ Some (d.Routine law.1) = ap (λ (x : Meaning). slice_get program x.at) same ∙ law.3.0 in
+    let routine : r ≡ law.1 = cc (here, there) in
+    ap (λ (x : RoutineTree). x.locals) routine ∙ law.4
+
+pub main_means : (width : Width) (program : List DirectiveTree) (m : Meaning) (r : RoutineTree)
+    → name_fault width program ≡ None → meanings width program main ≡ Some m → IsMeaningOf width program main m (d.Routine r)
+    → meanings width program main ≡ Some (record { at = m.at; kind = k.Routine 0 })
+main_means width program m r none e found =
+    let kind : m.kind ≡ k.Routine 0 = found.2 ∙ ap (λ (locals : List (List ℕ)). k.Routine (length locals)) (main_has_no_locals width program m r none e found.0) in
+    e ∙ ap (λ (x : Kind). Some (record { at = m.at; kind = x })) kind

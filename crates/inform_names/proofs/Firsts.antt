@@ -41,6 +41,7 @@ first_of_the_list scope (d.Both first rest) =
 pub fine_where_faultless : (scope : Scope) (demands : Demands) → first_fault scope demands ≡ None → IsFine scope demands
 fine_where_faultless scope d.Nothing e = tt
 fine_where_faultless scope (d.One demand) e = e
-fine_where_faultless scope (d.Both first rest) e =
-    (fine_where_faultless scope first (first_is_none (first_fault scope first) (first_fault scope rest) e)
-    , fine_where_faultless scope rest (rest_is_none (first_fault scope first) (first_fault scope rest) e))
+fine_where_faultless scope (d.Both first rest) e = (
+  fine_where_faultless scope first (first_is_none (first_fault scope first) (first_fault scope rest) e),
+  fine_where_faultless scope rest (rest_is_none (first_fault scope first) (first_fault scope rest) e),
+)

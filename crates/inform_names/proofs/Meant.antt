@@ -2,7 +2,7 @@
 use Rattle.std.proofs.Common.{◌≡◌, ◌∙◌, ℕ, ◌+◌, ◌<◌, ◌≤◌, Bool, true, false, cond, List, [], ◌∷◌, take, refl, sym, ap, arith, Option, None, Some, zero, suc, lt-ltb}
 use Rattle.std.proofs.lemmas.Bool.{le-ltb}
 use Rattle.std.proofs.lemmas.Option.{cond_some}
-use Rattle.std.specs.Prelude.{nat_lt, slice_get}
+use Rattle.std.specs.Prelude.{slice_get}
 use Rattle.std.specs.List.{position_from}
 use Rattle.std.specs.Option.{option_or, option_map}
 use Rattle.std.specs.Str.{bytes_eq}
@@ -50,13 +50,13 @@ Found width directives known at name m = (i : ℕ) × (directive : DirectiveTree
 found_here : (width : Width) (directive : DirectiveTree) (directives : List DirectiveTree) (known : Known) (at : ℕ) (name : List ℕ) (m : Meaning)
     → name_of directive ≡ name → m ≡ own width known at directive → Found width (directive ∷ directives) known at name m
 found_here width directive directives known at name m same e =
-    (0 , directive , (let f = ap (λ (x : Meaning). x.at) e in omega (arith, f)) , refl , same , ap (λ (x : Meaning). x.kind) e)
+    (0, directive, (let f = ap (λ (x : Meaning). x.at) e in omega (arith, f)), refl, same, ap (λ (x : Meaning). x.kind) e)
 
 found_later : (width : Width) (directive : DirectiveTree) (directives : List DirectiveTree) (known : Known) (at : ℕ) (name : List ℕ) (m : Meaning)
     → Found width directives (with_directive width known at directive) (at + 1) name m
     → Found width (directive ∷ directives) known at name m
 found_later width directive directives known at name m f =
-    (suc f.0 , f.1 , (let e = f.2 in omega (arith, e)) , f.3 , f.4 , f.5)
+    (suc f.0, f.1, (let e = f.2 in omega (arith, e)), f.3, f.4, f.5)
 
 found_by : (width : Width) (directive : DirectiveTree) (directives : List DirectiveTree) (known : Known) (at : ℕ) (name : List ℕ) (m : Meaning) (same : Bool)
     → known name ≡ None → meanings_from width (with_directive width known at directive) (at + 1) directives name ≡ Some m
@@ -83,10 +83,14 @@ pub of_directives : (width : Width) (program : List DirectiveTree) (name : List 
     → meanings width program name ≡ Some m → (directive : DirectiveTree) × IsMeaningOf width program name m directive
 of_directives width program name m e =
     let f = found width program nothing_known 0 name m refl e in
-    let here : m.at ≡ f.0 = (let at = f.2 in omega (arith, at)) in
-    (f.1 , (ap (slice_get program) here ∙ f.3
-    , f.4
-    , f.5 ∙ ap (λ (i : ℕ). kind_of width (meanings width (take i program)) f.1) (sym here)))
+    let here : m.at ≡ f.0 = (let at = f.2 in omega (arith, at)) in (
+      f.1,
+      (
+        ap (slice_get program) here ∙ f.3,
+        f.4,
+        f.5 ∙ ap (λ (i : ℕ). kind_of width (meanings width (take i program)) f.1) (sym here),
+      ),
+    )
 
 -- ---- the first directive of a name
 

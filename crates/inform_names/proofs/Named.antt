@@ -1,15 +1,11 @@
 -- What a look-up of a name finds.
-use Rattle.std.proofs.Common.{◌≡◌, ◌∙◌, ℕ, ◌+◌, ◌<◌, ◌≤◌, ℤ, Bool, true, false, List, [], ◌∷◌, length, get_or, map, refl, sym, ap, arith, Option, None, Some, subst}
+use Rattle.std.proofs.Common.{◌≡◌, ◌∙◌, ℕ, ◌<◌, List, length, get_or, map, refl, sym, ap, Option, None, Some, subst}
 use Rattle.std.proofs.lemmas.Option.{slice_get_within, slice_get_read, slice_get-map}
 use Rattle.std.specs.Prelude.{slice_get}
 use Rattle.std.specs.Option.{option_map}
 use Rattle.inform_tree.specs.declared.widths.Width.{Width}
 use Rattle.inform_tree.specs.declared.programs.Directive.{Directive}
-use Rattle.inform_tree.specs.declared.programs.Program.{Program}
-use Rattle.inform_tree.specs.Programs as d
-use Rattle.inform_tree.specs.Programs.{DirectiveTree, RoutineTree, directive_of, program_of}
-use Rattle.inform_names.specs.declared.meanings.Kind.{Kind}
-use Rattle.inform_names.specs.declared.meanings.Kind.TheVariants as k
+use Rattle.inform_tree.specs.Programs.{DirectiveTree, directive_of}
 use Rattle.inform_names.specs.declared.meanings.Meaning.{Meaning}
 use Rattle.inform_names.specs.Meanings.{meanings}
 use Rattle.inform_names.specs.Laws.{IsMeaningOf}

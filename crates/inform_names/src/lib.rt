@@ -35,4 +35,4 @@ pub use accepted::Accepted;
 pub use accepting::accept;
 pub use faults::NameFault;
 pub use meanings::{Kind, Meaning, Value};
-pub use names::Names;
+pub use names::{Entries, Names};

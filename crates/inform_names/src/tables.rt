@@ -42,8 +42,8 @@ pub fn name_of(directive: &Directive) -> &Name
     }
 }
 
-// The word of a constant that means this.
-fn word_of(meaning: Option<Meaning>) -> Option<i32>
+/// The word of a constant that means this.
+pub fn word_of(meaning: Option<Meaning>) -> Option<i32>
     ensures { result ≡ word_of_meaning meaning }
 {
     match meaning {
