@@ -1,0 +1,15 @@
+pub mod Words
+pub mod Meanings
+pub mod Demands
+pub mod Faults
+pub mod Refusals
+pub mod Places
+pub mod Tables
+pub mod Scopes
+pub mod Acceptance
+pub mod Answers
+pub mod Laws
+pub mod Views
+pub mod Lookups
+pub mod FaultTexts
+pub mod Worked
