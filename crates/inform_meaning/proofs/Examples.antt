@@ -1,0 +1,68 @@
+-- The worked examples hold by computing.
+use Rattle.std.proofs.Common.{refl}
+use Rattle.inform_meaning.specs.Worked.{DivisionTraps, StepsAreSpent, CallsNest, WordsWrap, DivisionGoesTowardZero, ChainsGoFromTheLeft, IndexIsTestedLast, LoopsAreLeft, BodyComesFirst, OneCaseIsDone, DrawsAreTaken, LinesAreKept, QuitEndsTheRun, RoutinesGiveValues, LocalsHide, RoutinesAreNoted}
+use Rattle.inform_meaning.proofs.Opened.{opened}
+
+pub division_traps : DivisionTraps
+unfolding opened
+division_traps = refl
+
+pub steps_are_spent : StepsAreSpent
+unfolding opened
+steps_are_spent = (refl, refl)
+
+pub calls_nest : CallsNest
+unfolding opened
+calls_nest = refl
+
+pub words_wrap : WordsWrap
+unfolding opened
+words_wrap = (refl, refl, refl, refl, refl, refl)
+
+pub division_goes_toward_zero : DivisionGoesTowardZero
+unfolding opened
+division_goes_toward_zero = (refl, refl, refl)
+
+pub chains_go_from_the_left : ChainsGoFromTheLeft
+unfolding opened
+chains_go_from_the_left = refl
+
+pub index_is_tested_last : IndexIsTestedLast
+unfolding opened
+index_is_tested_last = refl
+
+pub loops_are_left : LoopsAreLeft
+unfolding opened
+loops_are_left = refl
+
+pub body_comes_first : BodyComesFirst
+unfolding opened
+body_comes_first = refl
+
+pub one_case_is_done : OneCaseIsDone
+unfolding opened
+one_case_is_done = (refl, refl, refl)
+
+pub draws_are_taken : DrawsAreTaken
+unfolding opened
+draws_are_taken = (refl, refl, refl)
+
+pub lines_are_kept : LinesAreKept
+unfolding opened
+lines_are_kept = (refl, refl)
+
+pub quit_ends_the_run : QuitEndsTheRun
+unfolding opened
+quit_ends_the_run = refl
+
+pub locals_hide : LocalsHide
+unfolding opened
+locals_hide = refl
+
+pub routines_are_noted : RoutinesAreNoted
+unfolding opened
+routines_are_noted = refl
+
+pub routines_give_values : RoutinesGiveValues
+unfolding opened
+routines_give_values = refl

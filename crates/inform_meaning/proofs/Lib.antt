@@ -1,0 +1,10 @@
+pub mod Going
+pub mod GoingTrees
+pub mod GoingRuns
+pub mod Splitting
+pub mod SplittingParts
+pub mod Looping
+pub mod SplittingTrees
+pub mod SplittingRuns
+pub mod Opened
+pub mod Examples

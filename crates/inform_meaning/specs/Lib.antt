@@ -1,0 +1,11 @@
+pub mod Words
+pub mod Tables
+pub mod Worlds
+pub mod Frames
+pub mod Parts
+pub mod Meaning
+pub mod Statements
+pub mod Runs
+pub mod Programs
+pub mod Laws
+pub mod Worked
