@@ -7,3 +7,6 @@ pub mod ShownStatements
 pub mod ShownPrograms
 pub mod Writable
 pub mod ReadBack
+pub mod Written
+pub mod Loops
+pub mod Trees

@@ -17,8 +17,9 @@ use Rattle.inform_tree.specs.Words.{is_name}
 use Rattle.inform_tree.specs.Depths.{routine_depth}
 use Rattle.inform_tree.specs.Formed.{has_some, has_terms, has_factors, has_two, is_formed_if_any, is_formed_constant, is_formed_expression, are_formed_arguments, are_formed_terms, are_formed_factors, is_formed_sum, is_formed_product, are_formed_both, is_formed_condition, are_formed_conditions, is_formed_assignment, is_formed_item, is_formed_choice, are_formed_choices, is_formed_head, is_formed_statement, are_formed_statements, are_formed_cases, is_formed_default, is_formed_routine, are_formed_entries, is_formed_directive, is_well_formed}
 use Rattle.inform_lexemes.specs.declared.symbols.Symbol.{Symbol}
-use Rattle.inform_lexemes.specs.declared.symbols.Symbol.TheVariants.{And, Or, Comma}
-use Rattle.inform_lexemes.specs.Lexemes.{Lexeme}
+use Rattle.inform_lexemes.specs.declared.symbols.Symbol.TheVariants.{And, Or, Comma, Minus}
+use Rattle.inform_lexemes.specs.Lexemes.{Lexeme, Name, Sign}
+use Rattle.inform_grammar.specs.Lexemes.{arrow}
 use Rattle.inform_lexer.specs.Written.{is_writable}
 use Rattle.inform_printer.specs.ValueLexemes.{bracketed, separated, constant_lexemes, is_minus, entry_lexemes, value_lexemes, argument_lexemes, term_lexemes, factor_lexemes}
 use Rattle.inform_printer.specs.ConditionLexemes.{condition_lexemes, member_lexemes}
@@ -64,20 +65,24 @@ mutual
   value_written part (v.Name name) f rest h = also f h
   value_written part (v.Entry name words index) f rest h =
       let fs = and_parts (is_name name) (is_formed_expression index) f in
-      in_brackets part _ (λ after g. also fs.0 (also refl (value_written true index fs.1 after g))) rest h
+      in_brackets part (λ after. Name name ∷ Sign (arrow words) ∷ value_lexemes true index after)
+      (λ after g. also fs.0 (also refl (value_written true index fs.1 after g))) rest h
   value_written part (v.Call name xs) f rest h =
       let fs = and_parts (is_name name) (are_formed_arguments xs) f in
       also fs.0 (also refl (arguments_written false xs fs.1 rest h))
   value_written part (v.Random limit) f rest h = also refl (also refl (value_written false limit f _ (also refl h)))
-  value_written part (v.Neg operand) f rest h = in_brackets part _ (λ after g. also refl (value_written true operand f after g)) rest h
+  value_written part (v.Neg operand) f rest h =
+      in_brackets part (λ after. Sign Minus ∷ value_lexemes true operand after) (λ after g. also refl (value_written true operand f after g)) rest h
   value_written part (v.Sum first xs) f rest h =
       let fs = and_parts (is_formed_expression first) (is_formed_sum xs) f in
       let gs = and_parts (has_terms xs) (are_formed_terms xs) fs.1 in
-      in_brackets part _ (λ after g. value_written true first fs.0 _ (terms_written xs gs.1 after g)) rest h
+      in_brackets part (λ after. value_lexemes true first (term_lexemes xs after))
+      (λ after g. value_written true first fs.0 _ (terms_written xs gs.1 after g)) rest h
   value_written part (v.Product first xs) f rest h =
       let fs = and_parts (is_formed_expression first) (is_formed_product xs) f in
       let gs = and_parts (has_factors xs) (are_formed_factors xs) fs.1 in
-      in_brackets part _ (λ after g. value_written true first fs.0 _ (factors_written xs gs.1 after g)) rest h
+      in_brackets part (λ after. value_lexemes true first (factor_lexemes xs after))
+      (λ after g. value_written true first fs.0 _ (factors_written xs gs.1 after g)) rest h
 
   arguments_written : (later : Bool) (xs : Arguments) → are_formed_arguments xs ≡ true → Written (argument_lexemes later xs)
   arguments_written later v.NoArguments f rest h = also refl h
@@ -106,9 +111,9 @@ mutual
       value_written false left fs.0 _ (also refl (value_written false right fs.1 rest h))
   condition_written member (c.Nonzero x) f rest h = value_written false x f rest h
   condition_written member (c.All xs) f rest h =
-      in_brackets member _ (λ after g. members_written And false xs (and_parts (has_two xs) (are_formed_conditions xs) f).1 after g) rest h
+      in_brackets member (member_lexemes And false xs) (λ after g. members_written And false xs (and_parts (has_two xs) (are_formed_conditions xs) f).1 after g) rest h
   condition_written member (c.Any xs) f rest h =
-      in_brackets member _ (λ after g. members_written Or false xs (and_parts (has_two xs) (are_formed_conditions xs) f).1 after g) rest h
+      in_brackets member (member_lexemes Or false xs) (λ after g. members_written Or false xs (and_parts (has_two xs) (are_formed_conditions xs) f).1 after g) rest h
   condition_written member (c.Not x) f rest h = also refl (also refl (condition_written false x f _ (also refl h)))
 
   members_written : (symbol : Symbol) (later : Bool) (xs : Conditions) → are_formed_conditions xs ≡ true → Written (member_lexemes symbol later xs)

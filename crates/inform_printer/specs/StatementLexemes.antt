@@ -7,7 +7,7 @@ use Rattle.inform_lexemes.specs.declared.symbols.Symbol.TheVariants.{Semicolon, 
 use Rattle.inform_lexemes.specs.declared.keywords.Keyword.TheVariants as w
 use Rattle.inform_lexemes.specs.Lexemes.{Lexeme, Word, Name, Quoted, Sign}
 use Rattle.inform_grammar.specs.Lexemes.{arrow}
-use Rattle.inform_printer.specs.ValueLexemes.{separated, constant_lexemes, value_lexemes, argument_lexemes}
+use Rattle.inform_printer.specs.ValueLexemes.{round, separated, constant_lexemes, value_lexemes, argument_lexemes}
 use Rattle.inform_printer.specs.ConditionLexemes.{condition_lexemes}
 
 -- ---- changes, items of `print` and choices
@@ -54,10 +54,6 @@ unless_none (s.MoreStatements x xs) lexemes rest = lexemes rest
 abbrev pub braced : (List Lexeme → List Lexeme) → List Lexeme → List Lexeme
 braced inside rest = Sign LeftBrace ∷ inside (Sign RightBrace ∷ rest)
 
--- a condition in brackets, after a word of the grammar
-abbrev pub tested : (List Lexeme → List Lexeme) → List Lexeme → List Lexeme
-tested inside rest = Sign LeftRound ∷ inside (Sign RightRound ∷ rest)
-
 abbrev mutual
   pub statement_lexemes : Statement → List Lexeme → List Lexeme
   statement_lexemes s.Empty rest = Sign Semicolon ∷ rest
@@ -65,15 +61,15 @@ abbrev mutual
   statement_lexemes (s.Assign change) rest = assignment_lexemes change (Sign Semicolon ∷ rest)
   statement_lexemes (s.Call name xs) rest = Name name ∷ Sign LeftRound ∷ argument_lexemes false xs (Sign Semicolon ∷ rest)
   statement_lexemes (s.If test body other) rest =
-      Word w.If ∷ tested (condition_lexemes false test) (braced (λ after. statements_lexemes body after)
+      Word w.If ∷ round (condition_lexemes false test) (braced (λ after. statements_lexemes body after)
       (unless_none other (λ after. Word w.Else ∷ braced (λ end. statements_lexemes other end) after) rest))
-  statement_lexemes (s.While test body) rest = Word w.While ∷ tested (condition_lexemes false test) (braced (λ after. statements_lexemes body after) rest)
-  statement_lexemes (s.Do body test) rest = Word w.Do ∷ braced (λ after. statements_lexemes body after) (Word w.Until ∷ tested (condition_lexemes false test) (Sign Semicolon ∷ rest))
+  statement_lexemes (s.While test body) rest = Word w.While ∷ round (condition_lexemes false test) (braced (λ after. statements_lexemes body after) rest)
+  statement_lexemes (s.Do body test) rest = Word w.Do ∷ braced (λ after. statements_lexemes body after) (Word w.Until ∷ round (condition_lexemes false test) (Sign Semicolon ∷ rest))
   statement_lexemes (s.For first test next body) rest =
       Word w.For ∷ Sign LeftRound ∷ optional_lexemes assignment_lexemes first (Sign Colon ∷ optional_lexemes (condition_lexemes false) test
       (Sign Colon ∷ optional_lexemes assignment_lexemes next (Sign RightRound ∷ braced (λ after. statements_lexemes body after) rest)))
   statement_lexemes (s.Switch x xs other) rest =
-      Word w.Switch ∷ tested (value_lexemes false x) (braced (λ after. cases_lexemes xs (default_lexemes other after)) rest)
+      Word w.Switch ∷ round (value_lexemes false x) (braced (λ after. cases_lexemes xs (default_lexemes other after)) rest)
   statement_lexemes s.Break rest = Word w.Break ∷ Sign Semicolon ∷ rest
   statement_lexemes s.Continue rest = Word w.Continue ∷ Sign Semicolon ∷ rest
   statement_lexemes s.Quit rest = Word w.Quit ∷ Sign Semicolon ∷ rest

@@ -1,5 +1,5 @@
 -- The lexemes with which constants and expressions are printed, before those that follow.
-use Rattle.std.specs.Prelude.{Bool, true, false, List, ◌∷◌}
+use Rattle.std.specs.Prelude.{ℕ, Bool, true, false, List, ◌∷◌}
 use Rattle.inform_tree.specs.declared.values.Const.{Const}
 use Rattle.inform_tree.specs.declared.values.Const.TheVariants as k
 use Rattle.inform_tree.specs.Values as v
@@ -12,10 +12,21 @@ use Rattle.inform_grammar.specs.Lexemes.{arrow, factor_sign, term_sign}
 
 -- ---- what may be left out
 
+abbrev pub opening : Bool → List Lexeme → List Lexeme
+opening true rest = Sign LeftRound ∷ rest
+opening false rest = rest
+
+abbrev pub closing : Bool → List Lexeme → List Lexeme
+closing true rest = Sign RightRound ∷ rest
+closing false rest = rest
+
 -- in brackets, or not
 abbrev pub bracketed : Bool → (List Lexeme → List Lexeme) → List Lexeme → List Lexeme
-bracketed true inside rest = Sign LeftRound ∷ inside (Sign RightRound ∷ rest)
-bracketed false inside rest = inside rest
+bracketed part inside rest = opening part (inside (closing part rest))
+
+-- always in brackets
+abbrev pub round : (List Lexeme → List Lexeme) → List Lexeme → List Lexeme
+round inside rest = Sign LeftRound ∷ inside (Sign RightRound ∷ rest)
 
 -- after a separator, or not
 abbrev pub separated : Bool → Symbol → List Lexeme → List Lexeme
@@ -66,3 +77,21 @@ abbrev mutual
   pub factor_lexemes : Factors → List Lexeme → List Lexeme
   factor_lexemes v.NoFactors rest = rest
   factor_lexemes (v.MoreFactors op x xs) rest = Sign (factor_sign op) ∷ value_lexemes true x (factor_lexemes xs rest)
+
+-- ---- parts of expressions
+
+-- the first part of a chain, after the bracket of the chain
+abbrev pub first_lexemes : Bool → Expression → List Lexeme → List Lexeme
+first_lexemes part first rest = opening part (value_lexemes true first rest)
+
+-- an entry of an array that is read
+abbrev pub element_lexemes : List ℕ → Bool → Expression → List Lexeme → List Lexeme
+element_lexemes name words index rest = Name name ∷ Sign (arrow words) ∷ value_lexemes true index rest
+
+-- an operand after a minus sign
+abbrev pub negative_lexemes : Expression → List Lexeme → List Lexeme
+negative_lexemes operand rest = Sign Minus ∷ value_lexemes true operand rest
+
+-- a call with its arguments
+abbrev pub call_lexemes : List ℕ → Arguments → List Lexeme → List Lexeme
+call_lexemes name xs rest = Name name ∷ Sign LeftRound ∷ argument_lexemes false xs rest
