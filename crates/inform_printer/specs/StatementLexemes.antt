@@ -1,8 +1,11 @@
 -- The lexemes with which statements are printed, before those that follow.
 use Rattle.std.specs.Prelude.{Bool, true, false, List, [], ◌∷◌, Option, Some, None}
 use Rattle.inform_tree.specs.declared.values.Const.{Const}
+use Rattle.inform_tree.specs.declared.conditions.Cond.{Cond}
+use Rattle.inform_tree.specs.declared.statements.Change.{Change}
+use Rattle.inform_tree.specs.Conditions.{Condition}
 use Rattle.inform_tree.specs.Statements as s
-use Rattle.inform_tree.specs.Statements.{Statement, Statements, Cases, Default, Assignment, PrintItem, Choice}
+use Rattle.inform_tree.specs.Statements.{Statement, Statements, Cases, Default, Assignment, PrintItem, Choice, assignment_if_any, condition_if_any}
 use Rattle.inform_lexemes.specs.declared.symbols.Symbol.TheVariants.{Semicolon, Comma, Colon, LeftRound, RightRound, LeftBrace, RightBrace, Assign, Increment, Decrement}
 use Rattle.inform_lexemes.specs.declared.keywords.Keyword.TheVariants as w
 use Rattle.inform_lexemes.specs.Lexemes.{Lexeme, Word, Name, Quoted, Sign}
@@ -43,6 +46,16 @@ abbrev pub choices_lexemes : Bool → List Choice → List Lexeme → List Lexem
 choices_lexemes later [] rest = rest
 choices_lexemes later (x ∷ xs) rest = separated later Comma (choice_lexemes x (choices_lexemes true xs rest))
 
+-- what stands in the brackets of a `for`, with them
+abbrev pub head_lexemes : Option Assignment → Option Condition → Option Assignment → List Lexeme → List Lexeme
+head_lexemes first test next rest =
+    Sign LeftRound ∷ optional_lexemes assignment_lexemes first (Sign Colon ∷ optional_lexemes (condition_lexemes false) test
+    (Sign Colon ∷ optional_lexemes assignment_lexemes next (Sign RightRound ∷ rest)))
+
+-- the same of a head of the program
+abbrev pub head_lexemes_of : Option Change → Option Cond → Option Change → List Lexeme → List Lexeme
+head_lexemes_of first test next rest = head_lexemes (assignment_if_any first) (condition_if_any test) (assignment_if_any next) rest
+
 -- ---- statements
 
 -- an `else` with its body, unless that has no statement
@@ -66,8 +79,7 @@ abbrev mutual
   statement_lexemes (s.While test body) rest = Word w.While ∷ round (condition_lexemes false test) (braced (λ after. statements_lexemes body after) rest)
   statement_lexemes (s.Do body test) rest = Word w.Do ∷ braced (λ after. statements_lexemes body after) (Word w.Until ∷ round (condition_lexemes false test) (Sign Semicolon ∷ rest))
   statement_lexemes (s.For first test next body) rest =
-      Word w.For ∷ Sign LeftRound ∷ optional_lexemes assignment_lexemes first (Sign Colon ∷ optional_lexemes (condition_lexemes false) test
-      (Sign Colon ∷ optional_lexemes assignment_lexemes next (Sign RightRound ∷ braced (λ after. statements_lexemes body after) rest)))
+      Word w.For ∷ head_lexemes first test next (braced (λ after. statements_lexemes body after) rest)
   statement_lexemes (s.Switch x xs other) rest =
       Word w.Switch ∷ round (value_lexemes false x) (braced (λ after. cases_lexemes xs (default_lexemes other after)) rest)
   statement_lexemes s.Break rest = Word w.Break ∷ Sign Semicolon ∷ rest
@@ -91,3 +103,13 @@ abbrev mutual
   pub default_lexemes : Default → List Lexeme → List Lexeme
   default_lexemes s.NoDefault rest = rest
   default_lexemes (s.SomeDefault body) rest = Word w.Default ∷ Sign Colon ∷ statements_lexemes body rest
+
+-- ---- parts of statements
+
+-- a body in its braces
+abbrev pub body_lexemes : Statements → List Lexeme → List Lexeme
+body_lexemes body rest = Sign LeftBrace ∷ statements_lexemes body (Sign RightBrace ∷ rest)
+
+-- what follows the body of an `if`
+abbrev pub else_lexemes : Statements → List Lexeme → List Lexeme
+else_lexemes other rest = unless_none other (λ after. Word w.Else ∷ body_lexemes other after) rest

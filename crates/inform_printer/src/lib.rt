@@ -6,7 +6,19 @@ mod signs;
 mod strings;
 mod writing;
 
-// How each part of a program is printed, from its leaves up.
-mod conditions;
-pub mod laws;
+// How each part of a program is printed, from its leaves up: expressions.
 mod values;
+// Conditions.
+mod conditions;
+// What stands in statements.
+mod items;
+// Statements.
+mod statements;
+
+// Directives, and whole programs.
+mod directives;
+mod programs;
+// The laws of all of it.
+pub mod laws;
+
+pub use programs::print;

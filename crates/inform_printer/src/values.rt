@@ -73,9 +73,9 @@ pub fn put_entry(out: &mut Vec<u8>, entry: &Const) -> Result<(), Memory>
 
 // ---- expressions
 
-// Prints an entry of an array that is read.
+/// Prints the name of an array, its arrow and an index.
 #[cycle(values)]
-fn put_element(out: &mut Vec<u8>, name: &Name, words: bool, index: &Expr) -> Result<(), Memory>
+pub fn put_element(out: &mut Vec<u8>, name: &Name, words: bool, index: &Expr) -> Result<(), Memory>
     ensures { OnOk result (Prints (element_lexemes name.now words (expression_of index.now))
         out.old.items out.new.items) }
 {
