@@ -1,0 +1,12 @@
+pub mod Lists
+pub mod Depths
+pub mod Ends
+pub mod ShownValues
+pub mod ShownConditions
+pub mod ShownStatements
+pub mod ShownPrograms
+pub mod Writable
+pub mod ReadBack
+pub mod Written
+pub mod Loops
+pub mod Trees
