@@ -1,5 +1,5 @@
-//! Acceptance: each fault of a program, the limits on both sides, the order of faults, and look-ups.
-use inform_names::{Kind, Names, Value, accept};
+//! Acceptance: each fault of a program, the limits on both sides, the order of faults, look-ups.
+use inform_names::{Accepted, Kind, Names, Value, accept};
 use inform_tree::{
     Case, Change, Cond, Const, Directive, Expr, Name, Program, Routine, Stmt, SumOp, Width,
 };
@@ -104,8 +104,8 @@ fn nested(alloc: Global, count: u32) -> Result<Vec<Stmt>, AllocError> {
 // "accepted", or what is said of the first fault.
 fn judged(alloc: Global, program: Program, width: Width) -> Result<String, AllocError> {
     match accept(alloc, program, width) {
-        Ok(_) => String::from_str(alloc, "accepted"),
-        Err((_, fault)) => {
+        Ok(_accepted) => String::from_str(alloc, "accepted"),
+        Err((_program, fault)) => {
             let mut digits = Buffer::new();
             let mut text = Vec::new(alloc);
             for piece in fault.pieces(&mut digits) {
@@ -133,8 +133,8 @@ fn judged_directive(alloc: Global, directive: Directive) -> Result<String, Alloc
     judged_with_main(alloc, directives, Vec::new(alloc), Width::W16)
 }
 
-// The body of `main`, after some of each kind: a constant `c`, a global `g`, arrays `w` of words and `b`
-// of bytes, and a routine `f` with two locals.
+// The body of `main`, after a constant `c`, a global `g`, arrays `w` of words and `b` of bytes, and
+// a routine `f` with two locals.
 fn judged_body(alloc: Global, body: Vec<Stmt>) -> Result<String, AllocError> {
     let bytes = vec![in alloc; Const::Number(9)]?;
     let directives = vec![in alloc;
@@ -600,40 +600,56 @@ fn value_of(names: &Names<'_>, word: &Name) -> Option<Value> {
     }
 }
 
+// What the look-ups of the accepted sample give.
+fn look_up(rt: &HostRuntime, accepted: &Accepted) -> Result<(), Fail> {
+    let alloc = rt.alloc();
+    let names = Names::of(alloc, accepted)?;
+    assert_eq!(rt; names.accepted().program().directives.len(), 5);
+    assert_eq!(rt; names.word(&Const::Minus(2)), -2);
+    let (at, main) = names.main();
+    assert_eq!(rt; at, 4);
+    assert_eq!(rt; main.name.bytes(), b"main".as_slice());
+    for (word, found) in [
+        ("c", Some(-1)),
+        ("g", Some(1)),
+        ("w", Some(9)),
+        ("f", Some(3)),
+        ("x", None),
+    ] {
+        let key = name(alloc, word)?;
+        assert_eq!(rt; looked_up(&names, &key), found, "at {word}");
+    }
+    for (word, found) in [
+        ("c", Some(Value::Word(-1))),
+        ("g", Some(Value::Global(1))),
+        ("w", None),
+    ] {
+        let key = name(alloc, word)?;
+        assert_eq!(rt; value_of(&names, &key), found, "at {word}");
+    }
+    Ok(())
+}
+
 #[test]
 fn names_are_looked_up(rt: HostRuntime) -> Result<(), Fail> {
-    let alloc = rt.alloc();
     for width in [Width::W16, Width::W32] {
-        let outcome = accept(alloc, sample(alloc)?, width);
-        assert!(rt; outcome.is_ok());
-        if let Ok(accepted) = outcome {
-            assert_eq!(rt; accepted.width(), width);
-            assert_eq!(rt; accepted.program().directives.len(), 5);
-            let names = Names::of(alloc, &accepted)?;
-            assert_eq!(rt; names.accepted().program().directives.len(), 5);
-            assert_eq!(rt; names.word(&Const::Minus(2)), -2);
-            let (at, main) = names.main();
-            assert_eq!(rt; at, 4);
-            assert_eq!(rt; main.name.bytes(), b"main".as_slice());
-            for (word, found) in [
-                ("c", Some(-1)),
-                ("g", Some(1)),
-                ("w", Some(9)),
-                ("f", Some(3)),
-                ("x", None),
-            ] {
-                assert_eq!(rt; looked_up(&names, &name(alloc, word)?), found, "at {word}");
+        match accept(rt.alloc(), sample(rt.alloc())?, width) {
+            Ok(accepted) => {
+                assert_eq!(rt; accepted.width(), width);
+                look_up(&rt, &accepted)?;
             }
-            for (word, found) in [
-                ("c", Some(Value::Word(-1))),
-                ("g", Some(Value::Global(1))),
-                ("w", None),
-            ] {
-                assert_eq!(rt; value_of(&names, &name(alloc, word)?), found, "at {word}");
-            }
+            Err((_program, _fault)) => assert!(rt; false),
         }
     }
     Ok(())
+}
+
+// `Global g;` and nothing else.
+fn is_global_alone(program: &Program) -> bool {
+    match program.directives.as_slice() {
+        [Directive::Global(word, None)] => word.bytes() == b"g".as_slice(),
+        _ => false,
+    }
 }
 
 #[test]
@@ -641,13 +657,8 @@ fn refused_program_comes_back(rt: HostRuntime) -> Result<(), Fail> {
     let alloc = rt.alloc();
     let directives = vec![in alloc; global(alloc, "g", None)?]?;
     match accept(alloc, Program { directives }, Width::W16) {
-        Ok(_) => assert!(rt; false),
-        Err((program, _)) => match program.directives.as_slice() {
-            [Directive::Global(word, None)] => {
-                assert_eq!(rt; word.bytes(), b"g".as_slice());
-            }
-            _ => assert!(rt; false),
-        },
+        Ok(_accepted) => assert!(rt; false),
+        Err((program, _fault)) => assert!(rt; is_global_alone(&program)),
     }
     Ok(())
 }
