@@ -43,15 +43,18 @@ pub record ConditionEnds (rest : List Lexeme) : Type 0 where
 abbrev ends : {rest : List Lexeme} → No (is_sign LeftRound) rest → No is_arrow rest
     → No is_factor_sign rest → No is_term_sign rest → ValueEnds rest
 ends b a f t =
-    record { product = record { operand = record { bracket = b; arrow = a }; factor = f }; term = t }
+    let operand : OperandEnds _ = record { bracket = b; arrow = a } in
+    record { product = record { operand = operand; factor = f }; term = t }
 
 pub at_bracket : (rest : List Lexeme) → ConditionEnds (Sign RightRound ∷ rest)
 at_bracket rest =
-    record { test = record { value = ends refl refl refl refl; relation = refl }; connective = refl }
+    let test : TestEnds _ = record { value = ends refl refl refl refl; relation = refl } in
+    record { test = test; connective = refl }
 
 pub at_colon : (rest : List Lexeme) → ConditionEnds (Sign Colon ∷ rest)
 at_colon rest =
-    record { test = record { value = ends refl refl refl refl; relation = refl }; connective = refl }
+    let test : TestEnds _ = record { value = ends refl refl refl refl; relation = refl } in
+    record { test = test; connective = refl }
 
 pub at_comma : (rest : List Lexeme) → ValueEnds (Sign Comma ∷ rest)
 at_comma rest = ends refl refl refl refl

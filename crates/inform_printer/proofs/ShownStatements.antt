@@ -286,10 +286,10 @@ mutual
       let h = head_depth first test next in
       let n = statements_depth body in
       let fs = and_parts (is_formed_head first test next) (are_formed_statements body) f in
-      let gs = and_parts (is_formed_if_any is_formed_assignment first)
-      (is_formed_if_any is_formed_condition test && is_formed_if_any is_formed_assignment next) fs.0 in
-      let hs = and_parts (is_formed_if_any is_formed_condition test)
-      (is_formed_if_any is_formed_assignment next) gs.1 in
+      let formed_test = is_formed_if_any is_formed_condition test in
+      let formed_next = is_formed_if_any is_formed_assignment next in
+      let gs = and_parts (is_formed_if_any is_formed_assignment first) (formed_test && formed_next) fs.0 in
+      let hs = and_parts formed_test formed_next gs.1 in
       let head = left (suc (suc o)) h n (value_inside o (max h n) d) in
       let later = right (suc (suc o)) a (max b c) head in
       for_as first test next body (for_loop (opens_first o (max h n) d) (opens_second o (max h n) d)

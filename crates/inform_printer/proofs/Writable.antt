@@ -221,10 +221,10 @@ mutual
       (condition_written false test fs.1 _ (also refl (also refl h))))))))
   statement_written (s.For first test next body) f rest h =
       let fs = and_parts (is_formed_head first test next) (are_formed_statements body) f in
-      let gs = and_parts (is_formed_if_any is_formed_assignment first)
-      (is_formed_if_any is_formed_condition test && is_formed_if_any is_formed_assignment next) fs.0 in
-      let hs = and_parts (is_formed_if_any is_formed_condition test)
-      (is_formed_if_any is_formed_assignment next) gs.1 in
+      let formed_test = is_formed_if_any is_formed_condition test in
+      let formed_next = is_formed_if_any is_formed_assignment next in
+      let gs = and_parts (is_formed_if_any is_formed_assignment first) (formed_test && formed_next) fs.0 in
+      let hs = and_parts formed_test formed_next gs.1 in
       also refl
       (also refl
       (optional_written is_formed_assignment assignment_lexemes change_written first gs.0 _

@@ -51,9 +51,9 @@ entry_lexemes x rest = bracketed (is_minus x) (constant_lexemes x) rest
 
 -- ---- expressions
 
--- The truth value tells whether it is a part of a chain, an index or the operand of a minus sign. Such
--- a part stands in brackets, unless it is a number, a character, a name, a call or `random`. Of
--- arguments it tells whether one stands before them.
+-- The truth value tells whether it is a part of a chain, an index or the operand of a minus sign.
+-- Such a part stands in brackets, unless it is a number, a character, a name, a call or `random`.
+-- Of arguments it tells whether one stands before them.
 abbrev mutual
   pub value_lexemes : Bool → Expression → List Lexeme → List Lexeme
   value_lexemes part (v.Number n) rest = Number n ∷ rest

@@ -11,14 +11,17 @@ use Rattle.inform_printer.proofs.statements.+statements.Goals as goal
 
 pub put_statements-returns : goal.put_statements-returns
 put_statements-returns t c =
-    let shown : List Stmt → List Lexeme → List Lexeme = λ xs. statements_lexemes
-    (statements_of xs) in
-    ended shown shown _ _ c.loop-statement.statement-index _ _ c.loop-statement-test.false c.deref-statement-items.ensures.value c.loop-statement.invariant
+    let shown : List Stmt → List Lexeme → List Lexeme = λ xs. statements_lexemes (statements_of xs) in
+    let l = c.loop-statement in
+    ended shown shown _ _ l.statement-index _ _ c.loop-statement-test.false
+    c.deref-statement-items.ensures.value l.invariant
 
 pub put_cases-returns : goal.put_cases-returns
 put_cases-returns t c =
     let shown : List Case → List Lexeme → List Lexeme = λ xs. cases_lexemes (cases_of xs) in
-    ended shown shown _ _ c.loop-case.case-index _ _ c.loop-case-test.false c.deref-case-items.ensures.value c.loop-case.invariant
+    let l = c.loop-case in
+    ended shown shown _ _ l.case-index _ _ c.loop-case-test.false
+    c.deref-case-items.ensures.value l.invariant
 
 pub put_statement-returns-in_ok-put_default-in-Some : goal.put_statement-returns-in_ok-put_default-in-Some
 put_statement-returns-in_ok-put_default-in-Some t c rest =
