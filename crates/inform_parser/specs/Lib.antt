@@ -1,0 +1,4 @@
+pub mod Glances
+pub mod Reading
+pub mod Nexts
+pub mod Views
