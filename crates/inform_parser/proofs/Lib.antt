@@ -2,4 +2,6 @@ pub mod Glances
 pub mod Steps
 pub mod Taking
 pub mod SeenKinds
+pub mod Loops
 pub mod ValueSteps
+pub mod TreesMade

@@ -66,4 +66,9 @@ pub next_no : {X : Type 0} (test : Lexeme → Bool) (k : Lexeme → Plan X) (q :
 unfolding read
 next_no test k q s e = next-no within_limit s.rest test e k q s.opened
 
-pub ruleset steps = (next_yes, next_no, read-done, read-shut, read-then, read-one, read-chain, read-next, stops-then)
+-- nothing more is read
+pub ends-done : {X : Type 0} (a : Answer X) → and_then a (continued done) ≡ a
+ends-done (Ok x) = read-done x.0 x.1
+ends-done (Err fault) = refl
+
+pub ruleset steps = (ends-done, next_yes, next_no, read-done, read-shut, read-then, read-one, read-chain, read-next, stops-then)

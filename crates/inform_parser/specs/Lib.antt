@@ -2,3 +2,4 @@ pub mod Glances
 pub mod Reading
 pub mod Nexts
 pub mod Views
+pub mod Plans

@@ -19,10 +19,14 @@ StopsAt s stop.Mixed answer = answer ≡ Err (fault Mixed s.rest)
 StopsAt s stop.TooDeep answer = answer ≡ Err (fault TooDeep s.rest)
 StopsAt s stop.Memory answer = Unit {0}
 
+-- what was given is what is read, up to this spot, or its fault stands there
+abbrev pub Answered : {T V : Type 0} → (T → V) → Result T Stop → Spot → Answer V → Type 0
+Answered view (Ok x) after answer = answer ≡ Ok (view x, after)
+Answered view (Err stop) after answer = StopsAt after stop answer
+
 -- from a spot to another, a method gave what the plan reads
 abbrev pub Gives : {T V : Type 0} → (T → V) → Plan V → Spot → Result T Stop → Spot → Type 0
-Gives view p s (Ok x) after = read p s ≡ Ok (view x, after)
-Gives view p s (Err stop) after = StopsAt after stop (read p s)
+Gives view p s result after = Answered view result after (read p s)
 
 -- a statement that was open has ended
 abbrev pub shut_spot : Spot → Spot

@@ -2,18 +2,18 @@
 ghost use Rattle.std.specs.Prelude.{◌≡◌, ◌≤◌, ◌<◌, OnOk, IfOk, MatchOption, length, false};
 ghost use Rattle.inform_lexemes.specs.Lexemes.{Word, Name as NameLexeme, Number, Character, Quoted, Sign, is_sign, is_word, is_name, is_number, is_character, is_quoted};
 ghost use Rattle.inform_lexer.specs.Spans.{lexemes};
-ghost use Rattle.inform_grammar.specs.Lexemes.{heads, is_arrow, is_relation, relation_in};
+ghost use Rattle.inform_grammar.specs.Lexemes.{heads, is_arrow, is_factor_sign, is_term_sign, is_relation, relation_in};
 ghost use Rattle.inform_grammar.specs.Reading.{spot};
 ghost use Rattle.inform_parser.specs.Glances.{first_glance, opens, closes, opened_within};
 ghost use Rattle.inform_parser.specs.Reading.{Gives, StandsNext, shut_spot};
-ghost use Rattle.inform_parser.specs.Nexts.{next_of, any_next, arrow_lexeme, relation_lexeme};
+ghost use Rattle.inform_parser.specs.Nexts.{next_of, any_next, arrow_next, relation_next, factor_next, term_next, relation_lexeme};
 
 use crate::stops::Stop;
 use adv_io::Memory;
 use inform_grammar::limits::OPENER_LIMIT;
 use inform_lexemes::{Keyword, Symbol};
 use inform_lexer::{Glance, Token, glance, name, text};
-use inform_tree::{Name, Relation, Text};
+use inform_tree::{Name, ProdOp, Relation, SumOp, Text};
 use std::alloc::Global;
 use std::marker::Model;
 
@@ -192,6 +192,38 @@ impl<'a> Cursor<'a> {
         }
     }
 
+    /// Whether `->` or `-->` stands next.
+    #[tactic(auto, using(crate::proofs::SeenKinds::at_arrow))]
+    pub fn at_arrow(&self) -> bool
+        ensures { result ≡ heads is_arrow self.now.rest }
+    {
+        self.at(Symbol::ByteArrow) || self.at(Symbol::WordArrow)
+    }
+
+    /// Whether the sign of a further factor stands next.
+    #[tactic(auto, using(crate::proofs::SeenKinds::at_factor))]
+    pub fn at_factor(&self) -> bool
+        ensures { result ≡ heads is_factor_sign self.now.rest }
+    {
+        self.at(Symbol::Times) || self.at(Symbol::Divide) || self.at(Symbol::Remainder)
+    }
+
+    /// Whether the sign of a further term stands next.
+    #[tactic(auto, using(crate::proofs::SeenKinds::at_term))]
+    pub fn at_term(&self) -> bool
+        ensures { result ≡ heads is_term_sign self.now.rest }
+    {
+        self.at(Symbol::Plus) || self.at(Symbol::Minus)
+    }
+
+    /// Whether a symbol that compares values stands next.
+    #[tactic(auto, using(crate::proofs::SeenKinds::at_relation))]
+    pub fn at_relation(&self) -> bool
+        ensures { result ≡ heads is_relation self.now.rest }
+    {
+        self.next_relation().is_some()
+    }
+
     /// Takes whatever stands next.
     pub fn advance(&mut self) -> Result<(), Stop>
         ensures gives { Gives (λ _. tt) any_next self.old result self.new }
@@ -349,7 +381,6 @@ impl<'a> Cursor<'a> {
     }
 
     // How values are compared by the symbol that stands next.
-    #[tactic(auto, using(crate::proofs::SeenKinds::relations))]
     fn next_relation(&self) -> Option<Relation>
         ensures { MatchOption result (heads is_relation self.now.rest ≡ false)
             (λ x. StandsNext (relation_lexeme x) self.now) }
@@ -361,9 +392,9 @@ impl<'a> Cursor<'a> {
     }
 
     /// Takes a symbol that compares values, which must stand next.
-    #[tactic(auto, using(crate::proofs::Taking::fails))]
+    #[tactic(auto, using(crate::proofs::SeenKinds::relation_fails))]
     pub fn relation(&mut self) -> Result<Relation, Stop>
-        ensures gives { Gives relation_lexeme (next_of is_relation) self.old result self.new }
+        ensures gives { Gives (λ op. op) relation_next self.old result self.new }
         ensures ahead { length self.new.rest ≤ length self.old.rest }
         ensures taken { OnOk result (length self.new.rest < length self.old.rest) }
     {
@@ -375,9 +406,9 @@ impl<'a> Cursor<'a> {
     }
 
     /// Takes `->` or `-->`, which must stand next, and tells whether it is the one of words.
-    #[tactic(auto, using(crate::proofs::SeenKinds::arrows))]
+    #[tactic(auto, using(crate::proofs::Steps::steps, crate::proofs::SeenKinds::arrows))]
     pub fn arrow(&mut self) -> Result<bool, Stop>
-        ensures gives { Gives arrow_lexeme (next_of is_arrow) self.old result self.new }
+        ensures gives { Gives (λ words. words) arrow_next self.old result self.new }
         ensures ahead { length self.new.rest ≤ length self.old.rest }
         ensures taken { OnOk result (length self.new.rest < length self.old.rest) }
     {
@@ -387,6 +418,40 @@ impl<'a> Cursor<'a> {
         }
         self.expect(Symbol::ByteArrow)?;
         Ok(false)
+    }
+
+    /// Takes the sign of a further factor, which must stand next.
+    #[tactic(auto, using(crate::proofs::Steps::steps), unfolding(crate::specs::Nexts::factor_next))]
+    pub fn factor_sign(&mut self) -> Result<ProdOp, Stop>
+        ensures gives { Gives (λ op. op) factor_next self.old result self.new }
+        ensures ahead { length self.new.rest ≤ length self.old.rest }
+        ensures taken { OnOk result (length self.new.rest < length self.old.rest) }
+    {
+        if self.at(Symbol::Times) {
+            self.expect(Symbol::Times)?;
+            return Ok(ProdOp::Mul);
+        }
+        if self.at(Symbol::Divide) {
+            self.expect(Symbol::Divide)?;
+            return Ok(ProdOp::Div);
+        }
+        self.expect(Symbol::Remainder)?;
+        Ok(ProdOp::Rem)
+    }
+
+    /// Takes the sign of a further term, which must stand next.
+    #[tactic(auto, using(crate::proofs::Steps::steps), unfolding(crate::specs::Nexts::term_next))]
+    pub fn term_sign(&mut self) -> Result<SumOp, Stop>
+        ensures gives { Gives (λ op. op) term_next self.old result self.new }
+        ensures ahead { length self.new.rest ≤ length self.old.rest }
+        ensures taken { OnOk result (length self.new.rest < length self.old.rest) }
+    {
+        if self.at(Symbol::Plus) {
+            self.expect(Symbol::Plus)?;
+            return Ok(SumOp::Add);
+        }
+        self.expect(Symbol::Minus)?;
+        Ok(SumOp::Sub)
     }
 
     /// A statement that was open has ended.

@@ -4,15 +4,15 @@ use Rattle.inform_lexemes.specs.Lexemes.{Sign}
 use Rattle.inform_grammar.specs.Lexemes.{is_relation}
 use Rattle.inform_parser.specs.Nexts.{relation_lexeme}
 use Rattle.inform_parser.proofs.Taking.{first_taken, first_stops}
-use Rattle.inform_parser.proofs.SeenKinds.{relation_kind}
+use Rattle.inform_parser.proofs.SeenKinds.{relation_taken, relation_stops}
 use Rattle.inform_parser.proofs.cursor.Cursor.relation.Goals as goal
 
 pub returns-in_err-advance-clause-gives : goal.returns-in_err-advance-clause-gives
 returns-in_err-advance-clause-gives c =
     let p = err_from_is_err_and c.from_residual.result c.from_residual.ensures.1 in
     rw (p.1, p.2)
-    (first_stops c.args.self.now is_relation (relation_lexeme c.in-Some.relation) c.in-Some.ensures (relation_kind c.in-Some.relation) c.advance.new.self c.in_err-advance.field-0.0 c.in_err-advance.ensures.gives)
+    (relation_stops c.args.self.now c.in-Some.relation c.in-Some.ensures c.advance.new.self c.in_err-advance.field-0.0 c.in_err-advance.ensures.gives)
 
 pub returns-clause-gives : goal.returns-clause-gives
 returns-clause-gives c =
-    first_taken c.args.self.now is_relation (relation_lexeme c.in-Some.relation) c.in-Some.ensures (relation_kind c.in-Some.relation) c.advance.new.self c.in_ok-advance.ensures.gives
+    relation_taken c.args.self.now c.in-Some.relation c.in-Some.ensures c.advance.new.self c.in_ok-advance.ensures.gives

@@ -1,0 +1,85 @@
+-- The trees of what the methods make.
+use Rattle.std.proofs.Common.{◌≡◌, ℕ, Bool, List, [], ◌∷◌, length, map, refl, sym, ap, ◌∙◌}
+use Rattle.std.specs.Global.{Box, Vec}
+use Rattle.inform_tree.specs.declared.values.SumOp.{SumOp}
+use Rattle.inform_tree.specs.declared.values.ProdOp.{ProdOp}
+use Rattle.inform_tree.specs.declared.values.Expr.{Expr}
+use Rattle.inform_tree.specs.declared.values.Expr.TheVariants as ev
+use Rattle.inform_tree.specs.Values.{Expression, expression_step, expression_of, arguments, terms, factors}
+use Rattle.inform_tree.specs.declared.values.Expr.TheOpen as eo
+use Rattle.inform_tree.specs.declared.values.Expr.TheFolds.{fold-roll-Expr}
+use Rattle.inform_tree.specs.Values as v
+use Rattle.inform_tree.proofs.Views.{expression_of_sum, expression_of_product}
+use Rattle.inform_grammar.specs.Trees.{product_of, sum_of}
+use Rattle.inform_parser.specs.Views.{factor_of, term_of, factors_of, terms_of, expressions_of}
+
+no_factor : (x : Expression) (xs : List (ProdOp × Expr)) → length xs ≡ 0 → x ≡ product_of x (map factor_of xs)
+no_factor x [] e = refl
+no_factor x (y ∷ ys) e = absurd (cc)
+
+pub product_alone : (x : Expression) (xs : Vec (ProdOp × Expr)) → length xs.items ≡ 0 → x ≡ product_of x (factors_of xs)
+product_alone x xs e = no_factor x xs.items e
+
+some_factors : (x : Expression) (xs : List (ProdOp × Expr)) → (length xs ≡ 0 → ⊥) → v.Product x (factors (map factor_of xs)) ≡ product_of x (map factor_of xs)
+unfolding factor_of
+some_factors x [] e = absurd (e refl)
+some_factors x (y ∷ ys) e = refl
+
+pub product_chain : (x : Box Expr) (xs : Vec (ProdOp × Expr)) → (length xs.items ≡ 0 → ⊥)
+    → expression_of (ev.Product x xs) ≡ product_of (expression_of x.value) (factors_of xs)
+unfolding factor_of
+product_chain x xs e = expression_of_product x xs ∙ some_factors (expression_of x.value) xs.items e
+
+pub ruleset products = (product_alone, product_chain)
+
+no_term : (x : Expression) (xs : List (SumOp × Expr)) → length xs ≡ 0 → x ≡ sum_of x (map term_of xs)
+no_term x [] e = refl
+no_term x (y ∷ ys) e = absurd (cc)
+
+pub sum_alone : (x : Expression) (xs : Vec (SumOp × Expr)) → length xs.items ≡ 0 → x ≡ sum_of x (terms_of xs)
+sum_alone x xs e = no_term x xs.items e
+
+some_terms : (x : Expression) (xs : List (SumOp × Expr)) → (length xs ≡ 0 → ⊥) → v.Sum x (terms (map term_of xs)) ≡ sum_of x (map term_of xs)
+unfolding term_of
+some_terms x [] e = absurd (e refl)
+some_terms x (y ∷ ys) e = refl
+
+pub sum_chain : (x : Box Expr) (xs : Vec (SumOp × Expr)) → (length xs.items ≡ 0 → ⊥)
+    → expression_of (ev.Sum x xs) ≡ sum_of (expression_of x.value) (terms_of xs)
+unfolding term_of
+sum_chain x xs e = expression_of_sum x xs ∙ some_terms (expression_of x.value) xs.items e
+
+pub ruleset sums = (sum_alone, sum_chain)
+
+-- ---- each expression
+
+pub expression_of_number : (n : ℕ) → expression_of (ev.Number n) ≡ v.Number n
+expression_of_number n = ap expression_of (sym (ev.rolls-Number n)) ∙ fold-roll-Expr Expression expression_step (eo.Number n)
+
+pub expression_of_char : (n : ℕ) → expression_of (ev.Char n) ≡ v.Char n
+expression_of_char n = ap expression_of (sym (ev.rolls-Char n)) ∙ fold-roll-Expr Expression expression_step (eo.Char n)
+
+pub expression_of_name : (n : List ℕ) → expression_of (ev.Name n) ≡ v.Name n
+expression_of_name n = ap expression_of (sym (ev.rolls-Name n)) ∙ fold-roll-Expr Expression expression_step (eo.Name n)
+
+pub expression_of_entry : (n : List ℕ) (w : Bool) (x : Box Expr) → expression_of (ev.Entry n w x) ≡ v.Entry n w (expression_of x.value)
+expression_of_entry n w x = ap expression_of (sym (ev.rolls-Entry n w x)) ∙ fold-roll-Expr Expression expression_step (eo.Entry n w x)
+
+pub expression_of_call : (n : List ℕ) (xs : Vec Expr) → expression_of (ev.Call n xs) ≡ v.Call n (arguments (expressions_of xs))
+expression_of_call n xs = ap expression_of (sym (ev.rolls-Call n xs)) ∙ fold-roll-Expr Expression expression_step (eo.Call n xs)
+
+pub expression_of_random : (x : Box Expr) → expression_of (ev.Random x) ≡ v.Random (expression_of x.value)
+expression_of_random x = ap expression_of (sym (ev.rolls-Random x)) ∙ fold-roll-Expr Expression expression_step (eo.Random x)
+
+pub expression_of_neg : (x : Box Expr) → expression_of (ev.Neg x) ≡ v.Neg (expression_of x.value)
+expression_of_neg x = ap expression_of (sym (ev.rolls-Neg x)) ∙ fold-roll-Expr Expression expression_step (eo.Neg x)
+
+pub factor_of_pair : (op : ProdOp) (x : Expr) → factor_of (op, x) ≡ (op, expression_of x)
+unfolding factor_of
+factor_of_pair op x = refl
+
+pub term_of_pair : (op : SumOp) (x : Expr) → term_of (op, x) ≡ (op, expression_of x)
+unfolding term_of
+term_of_pair op x = refl
+
+pub ruleset expressions = (expression_of_number, expression_of_char, expression_of_name, expression_of_entry, expression_of_call, expression_of_random, expression_of_neg, factor_of_pair, term_of_pair)
