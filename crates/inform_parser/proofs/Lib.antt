@@ -4,4 +4,5 @@ pub mod Taking
 pub mod SeenKinds
 pub mod Loops
 pub mod ValueSteps
+pub mod ConditionSteps
 pub mod TreesMade

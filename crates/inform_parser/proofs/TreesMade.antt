@@ -8,6 +8,14 @@ use Rattle.inform_tree.specs.declared.values.Expr.TheVariants as ev
 use Rattle.inform_tree.specs.Values.{Expression, expression_step, expression_of, arguments, terms, factors}
 use Rattle.inform_tree.specs.declared.values.Expr.TheOpen as eo
 use Rattle.inform_tree.specs.declared.values.Expr.TheFolds.{fold-roll-Expr}
+use Rattle.inform_tree.specs.declared.conditions.Relation.{Relation}
+use Rattle.inform_tree.specs.declared.conditions.Cond.{Cond}
+use Rattle.inform_tree.specs.declared.conditions.Cond.TheVariants as cv
+use Rattle.inform_tree.specs.declared.conditions.Cond.TheOpen as co
+use Rattle.inform_tree.specs.declared.conditions.Cond.TheFolds.{fold-roll-Cond}
+use Rattle.inform_tree.specs.Conditions as c
+use Rattle.inform_tree.specs.Conditions.{Condition, condition_step, condition_of}
+use Rattle.inform_parser.specs.Guards.{conditions_in}
 use Rattle.inform_tree.specs.Values as v
 use Rattle.inform_tree.proofs.Views.{expression_of_sum, expression_of_product}
 use Rattle.inform_grammar.specs.Trees.{product_of, sum_of}
@@ -83,3 +91,22 @@ unfolding term_of
 term_of_pair op x = refl
 
 pub ruleset expressions = (expression_of_number, expression_of_char, expression_of_name, expression_of_entry, expression_of_call, expression_of_random, expression_of_neg, factor_of_pair, term_of_pair)
+
+-- ---- each condition
+
+pub condition_of_compare : (op : Relation) (x y : Expr) → condition_of (cv.Compare op x y) ≡ c.Compare op (expression_of x) (expression_of y)
+condition_of_compare op x y = ap condition_of (sym (cv.rolls-Compare op x y)) ∙ fold-roll-Cond Condition condition_step (co.Compare op x y)
+
+pub condition_of_nonzero : (x : Expr) → condition_of (cv.Nonzero x) ≡ c.Nonzero (expression_of x)
+condition_of_nonzero x = ap condition_of (sym (cv.rolls-Nonzero x)) ∙ fold-roll-Cond Condition condition_step (co.Nonzero x)
+
+pub condition_of_all : (xs : Vec Cond) → condition_of (cv.All xs) ≡ c.All (c.conditions (conditions_in xs))
+condition_of_all xs = ap condition_of (sym (cv.rolls-All xs)) ∙ fold-roll-Cond Condition condition_step (co.All xs)
+
+pub condition_of_any : (xs : Vec Cond) → condition_of (cv.Any xs) ≡ c.Any (c.conditions (conditions_in xs))
+condition_of_any xs = ap condition_of (sym (cv.rolls-Any xs)) ∙ fold-roll-Cond Condition condition_step (co.Any xs)
+
+pub condition_of_not : (x : Box Cond) → condition_of (cv.Not x) ≡ c.Not (condition_of x.value)
+condition_of_not x = ap condition_of (sym (cv.rolls-Not x)) ∙ fold-roll-Cond Condition condition_step (co.Not x)
+
+pub ruleset conditions = (condition_of_compare, condition_of_nonzero, condition_of_all, condition_of_any, condition_of_not)

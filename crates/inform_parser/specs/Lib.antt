@@ -2,4 +2,5 @@ pub mod Glances
 pub mod Reading
 pub mod Nexts
 pub mod Views
+pub mod Guards
 pub mod Plans
