@@ -5,4 +5,5 @@ pub mod SeenKinds
 pub mod Loops
 pub mod ValueSteps
 pub mod ConditionSteps
+pub mod StatementSteps
 pub mod TreesMade

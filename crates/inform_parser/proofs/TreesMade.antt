@@ -1,5 +1,5 @@
 -- The trees of what the methods make.
-use Rattle.std.proofs.Common.{◌≡◌, ℕ, Bool, List, [], ◌∷◌, length, map, refl, sym, ap, ◌∙◌}
+use Rattle.std.proofs.Common.{◌≡◌, ℕ, Bool, Option, Some, None, List, [], ◌∷◌, length, map, refl, sym, ap, ◌∙◌}
 use Rattle.std.specs.Global.{Box, Vec}
 use Rattle.inform_tree.specs.declared.values.SumOp.{SumOp}
 use Rattle.inform_tree.specs.declared.values.ProdOp.{ProdOp}
@@ -16,10 +16,18 @@ use Rattle.inform_tree.specs.declared.conditions.Cond.TheFolds.{fold-roll-Cond}
 use Rattle.inform_tree.specs.Conditions as c
 use Rattle.inform_tree.specs.Conditions.{Condition, condition_step, condition_of}
 use Rattle.inform_parser.specs.Guards.{conditions_in}
+use Rattle.inform_tree.specs.declared.statements.Change.{Change}
+use Rattle.inform_tree.specs.declared.statements.Item.{Item}
+use Rattle.inform_tree.specs.declared.statements.Stmt.{Stmt}
+use Rattle.inform_tree.specs.declared.statements.Stmt.TheVariants as sv
+use Rattle.inform_tree.specs.declared.statements.Stmt.TheOpen as so
+use Rattle.inform_tree.specs.declared.statements.Stmt.TheFolds.{fold-roll-Stmt}
+use Rattle.inform_tree.specs.Statements as s
+use Rattle.inform_tree.specs.Statements.{Statement, Statements, Choice, statement_step, case_step, statement_of, statements_of, assignment_of}
 use Rattle.inform_tree.specs.Values as v
 use Rattle.inform_tree.proofs.Views.{expression_of_sum, expression_of_product}
 use Rattle.inform_grammar.specs.Trees.{product_of, sum_of}
-use Rattle.inform_parser.specs.Views.{factor_of, term_of, factors_of, terms_of, expressions_of}
+use Rattle.inform_parser.specs.Views.{factor_of, term_of, factors_of, terms_of, expressions_of, items_in}
 
 no_factor : (x : Expression) (xs : List (ProdOp × Expr)) → length xs ≡ 0 → x ≡ product_of x (map factor_of xs)
 no_factor x [] e = refl
@@ -110,3 +118,49 @@ pub condition_of_not : (x : Box Cond) → condition_of (cv.Not x) ≡ c.Not (con
 condition_of_not x = ap condition_of (sym (cv.rolls-Not x)) ∙ fold-roll-Cond Condition condition_step (co.Not x)
 
 pub ruleset conditions = (condition_of_compare, condition_of_nonzero, condition_of_all, condition_of_any, condition_of_not)
+
+-- ---- each statement
+
+pub statement_of_empty : statement_of sv.Empty ≡ s.Empty
+statement_of_empty = ap statement_of (sym sv.rolls-Empty) ∙ fold-roll-Stmt Statement (List Choice × Statements) statement_step case_step so.Empty
+
+pub statement_of_break : statement_of sv.Break ≡ s.Break
+statement_of_break = ap statement_of (sym sv.rolls-Break) ∙ fold-roll-Stmt Statement (List Choice × Statements) statement_step case_step so.Break
+
+pub statement_of_continue : statement_of sv.Continue ≡ s.Continue
+statement_of_continue = ap statement_of (sym sv.rolls-Continue) ∙ fold-roll-Stmt Statement (List Choice × Statements) statement_step case_step so.Continue
+
+pub statement_of_quit : statement_of sv.Quit ≡ s.Quit
+statement_of_quit = ap statement_of (sym sv.rolls-Quit) ∙ fold-roll-Stmt Statement (List Choice × Statements) statement_step case_step so.Quit
+
+pub statement_of_rtrue : statement_of sv.Rtrue ≡ s.Rtrue
+statement_of_rtrue = ap statement_of (sym sv.rolls-Rtrue) ∙ fold-roll-Stmt Statement (List Choice × Statements) statement_step case_step so.Rtrue
+
+pub statement_of_rfalse : statement_of sv.Rfalse ≡ s.Rfalse
+statement_of_rfalse = ap statement_of (sym sv.rolls-Rfalse) ∙ fold-roll-Stmt Statement (List Choice × Statements) statement_step case_step so.Rfalse
+
+pub statement_of_newline : statement_of sv.NewLine ≡ s.NewLine
+statement_of_newline = ap statement_of (sym sv.rolls-NewLine) ∙ fold-roll-Stmt Statement (List Choice × Statements) statement_step case_step so.NewLine
+
+pub statement_of_block : (xs : Vec Stmt) → statement_of (sv.Block xs) ≡ s.Block (statements_of xs.items)
+statement_of_block xs = ap statement_of (sym (sv.rolls-Block xs)) ∙ fold-roll-Stmt Statement (List Choice × Statements) statement_step case_step (so.Block xs)
+
+pub statement_of_change : (x : Change) → statement_of (sv.Change x) ≡ s.Assign (assignment_of x)
+statement_of_change x = ap statement_of (sym (sv.rolls-Change x)) ∙ fold-roll-Stmt Statement (List Choice × Statements) statement_step case_step (so.Change x)
+
+pub statement_of_call : (n : List ℕ) (xs : Vec Expr) → statement_of (sv.Call n xs) ≡ s.Call n (arguments (expressions_of xs))
+statement_of_call n xs = ap statement_of (sym (sv.rolls-Call n xs)) ∙ fold-roll-Stmt Statement (List Choice × Statements) statement_step case_step (so.Call n xs)
+
+pub statement_of_no_value : statement_of (sv.Return None) ≡ s.Return None
+statement_of_no_value = ap statement_of (sym (sv.rolls-Return None)) ∙ fold-roll-Stmt Statement (List Choice × Statements) statement_step case_step (so.Return None)
+
+pub statement_of_return : (x : Expr) → statement_of (sv.Return (Some x)) ≡ s.Return (Some (expression_of x))
+statement_of_return x = ap statement_of (sym (sv.rolls-Return (Some x))) ∙ fold-roll-Stmt Statement (List Choice × Statements) statement_step case_step (so.Return (Some x))
+
+pub statement_of_print : (xs : Vec Item) → statement_of (sv.Print xs) ≡ s.Print (items_in xs)
+statement_of_print xs = ap statement_of (sym (sv.rolls-Print xs)) ∙ fold-roll-Stmt Statement (List Choice × Statements) statement_step case_step (so.Print xs)
+
+pub statement_of_read : (x y : List ℕ) → statement_of (sv.Read x y) ≡ s.Read x y
+statement_of_read x y = ap statement_of (sym (sv.rolls-Read x y)) ∙ fold-roll-Stmt Statement (List Choice × Statements) statement_step case_step (so.Read x y)
+
+pub ruleset statements = (statement_of_empty, statement_of_break, statement_of_continue, statement_of_quit, statement_of_rtrue, statement_of_rfalse, statement_of_newline, statement_of_block, statement_of_change, statement_of_call, statement_of_no_value, statement_of_return, statement_of_print, statement_of_read)

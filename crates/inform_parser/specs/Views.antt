@@ -5,7 +5,9 @@ use Rattle.inform_tree.specs.declared.values.Const.{Const}
 use Rattle.inform_tree.specs.declared.values.SumOp.{SumOp}
 use Rattle.inform_tree.specs.declared.values.ProdOp.{ProdOp}
 use Rattle.inform_tree.specs.declared.values.Expr.{Expr}
+use Rattle.inform_tree.specs.declared.statements.Item.{Item}
 use Rattle.inform_tree.specs.Values.{Expression, expression_of}
+use Rattle.inform_tree.specs.Statements.{PrintItem, print_item_of}
 
 -- a constant is its own tree
 abbrev pub same_tree : Const → Const
@@ -25,3 +27,6 @@ term_of x = (x.0, expression_of x.1)
 
 abbrev pub terms_of : Vec (SumOp × Expr) → List (SumOp × Expression)
 terms_of xs = map term_of xs.items
+
+abbrev pub items_in : Vec Item → List PrintItem
+items_in xs = map print_item_of xs.items
