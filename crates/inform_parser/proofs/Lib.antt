@@ -6,4 +6,5 @@ pub mod Loops
 pub mod ValueSteps
 pub mod ConditionSteps
 pub mod StatementSteps
+pub mod ChoiceSteps
 pub mod TreesMade

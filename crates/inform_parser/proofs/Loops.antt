@@ -21,3 +21,13 @@ goes_on r view found items x s after total more push here same =
     ∙ ap (λ front. read (many r front done) after) (map_push view found x)
     ∙ sym (ap (λ a. and_then a (continued (λ x. many r (map view found ++ x ∷ []) done))) here)
     ∙ sym (read-one r (λ x. many r (map view found ++ x ∷ []) done) s) ∙ sym more ∙ same
+
+-- the same where what is found is its own tree
+pub goes_on_same : (r : Rule) (found items : List (TreeOf r)) (x : TreeOf r) (s after : Spot) (total : Answer (List (TreeOf r)))
+    → read (many r found done) s ≡ read (one r (λ x. many r (found ++ x ∷ []) done)) s
+    → items ≡ found ++ x ∷ [] → read (one r done) s ≡ Ok (x, after) → read (many r found done) s ≡ total
+    → read (many r items done) after ≡ total
+goes_on_same r found items x s after total more push here same =
+    ap (λ items. read (many r items done) after) push
+    ∙ sym (ap (λ a. and_then a (continued (λ x. many r (found ++ x ∷ []) done))) here)
+    ∙ sym (read-one r (λ x. many r (found ++ x ∷ []) done) s) ∙ sym more ∙ same

@@ -3,4 +3,5 @@ pub mod Reading
 pub mod Nexts
 pub mod Views
 pub mod Guards
+pub mod Parts
 pub mod Plans

@@ -2,9 +2,11 @@
 #![tactic(auto)]
 
 mod changes;
+mod choices;
 mod conditions;
 mod cursor;
 mod guards;
+mod parts;
 mod printing;
 mod simple;
 mod stops;
