@@ -1,1 +1,3 @@
 pub mod MovesMean
+pub mod Falling
+pub mod Fitting

@@ -1,2 +1,4 @@
 pub mod Moves
 pub mod Done
+pub mod Works
+pub mod Heights
