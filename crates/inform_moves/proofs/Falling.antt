@@ -1,6 +1,6 @@
 -- Each move that takes no step leaves less work.
-use Rattle.std.proofs.Common.{◌≡◌, arith, ℕ, zero, suc, ◌+◌, ◌<◌, ℤ, pos, Bool, true, false, List, [], ◌∷◌, Option, Some, None}
-use Rattle.std.specs.Prelude.{⊤, int_lt, if◌then◌else◌}
+use Rattle.std.proofs.Common.{arith, ℕ, zero, suc, ◌+◌, ◌<◌, ℤ, pos, Bool, true, false, List, [], ◌∷◌, Option, Some, None}
+use Rattle.std.specs.Prelude.{int_lt, if◌then◌else◌}
 use Rattle.inform_tree.specs.Values as v
 use Rattle.inform_tree.specs.Values.{Expression, Arguments, Terms, Factors}
 use Rattle.inform_tree.specs.Conditions as d
@@ -11,16 +11,14 @@ use Rattle.inform_meaning.specs.Worlds.{Program, Routine, World, entries_of, ent
 use Rattle.inform_meaning.specs.Words.{summed, multiplied}
 use Rattle.inform_meaning.specs.Frames as f
 use Rattle.inform_meaning.specs.Frames.{Loop, Begin, Want, Decide, Frame, Begins, Wants, Decides, Looping, Calling, Main, Over, Outcome, Value, Truth, Normal, Returns, Breaks, Continues, Halts, Waits}
-use Rattle.inform_meaning.specs.Statements.{while_loop, do_loop, for_loop, loop_goes_on, fits_any}
-use Rattle.inform_moves.specs.Moves.{Move, Goes, Ticks, Reads, Draws, goes_to, arguments_move, sum_move, product_move, factor_move, eval_move, all_move, any_move, test_move, alter_move, prints_move, enter_move, call_move, turn_move, change_frames, call_frames, body_move, tested_move, read_move, statement_move, block_move, default_move, cases_move, begin_move, entry_move, store_move, range_move, value_move, truth_move, next}
+use Rattle.inform_meaning.specs.Statements.{loop_goes_on, fits_any}
+use Rattle.inform_moves.specs.Moves.{Move, Goes, Ticks, Reads, Draws, goes_to, arguments_move, sum_move, product_move, factor_move, eval_move, all_move, any_move, test_move, alter_move, prints_move, enter_move, call_move, turn_move, change_frames, tested_move, read_move, statement_move, block_move, default_move, cases_move, begin_move, entry_move, store_move, range_move, value_move, truth_move, next}
+use Rattle.inform_moves.specs.Laws.{FallsBelow, MovesFall}
 use Rattle.inform_moves.specs.Works.{expression_work, arguments_work, terms_work, factors_work, condition_work, conditions_work, assignment_work, change_work, items_work, block_work, cases_work, default_work, begin_work, want_work, loop_work, decide_work, work, works}
 
 -- the frames of a move without a step have less than so much to do
 abbrev pub Falls : ℕ → Move → Type 0
-Falls most (Goes frames e effect) = works frames < most
-Falls most (Ticks frames e effect) = ⊤
-Falls most (Reads name) = 0 < most
-Falls most (Draws n) = 0 < most
+Falls = FallsBelow
 
 expression-positive : (x : Expression) → 0 < expression_work x
 expression-positive (v.Number n) = omega arith
@@ -101,7 +99,8 @@ work-positive (Over halt) = omega arith
 
 -- ---- moves
 
-arguments-fall : (name : List ℕ) (values : List ℤ) (xs : Arguments) → Falls (arguments_work xs + 2) (arguments_move name values xs)
+arguments-fall : (name : List ℕ) (values : List ℤ) (xs : Arguments)
+    → Falls (arguments_work xs + 2) (arguments_move name values xs)
 arguments-fall name values v.NoArguments = omega arith
 arguments-fall name values (v.MoreArguments x xs) = omega arith
 
@@ -113,11 +112,13 @@ product-falls : (a : ℤ) (xs : Factors) → Falls (factors_work xs + 1) (produc
 product-falls a v.NoFactors = omega arith
 product-falls a (v.MoreFactors op x xs) = omega arith
 
-factor-falls : (w : World) (o : Option ℤ) (xs : Factors) → Falls (factors_work xs + 1) (factor_move w o xs)
+factor-falls : (w : World) (o : Option ℤ) (xs : Factors)
+    → Falls (factors_work xs + 1) (factor_move w o xs)
 factor-falls w None xs = omega arith
 factor-falls w (Some a) xs = product-falls a xs
 
-eval-falls : (p : Program) (w : World) (x : Expression) → Falls (expression_work x) (eval_move p w x)
+eval-falls : (p : Program) (w : World) (x : Expression)
+    → Falls (expression_work x) (eval_move p w x)
 eval-falls p w (v.Number n) = omega arith
 eval-falls p w (v.Char byte) = omega arith
 eval-falls p w (v.Name name) = omega arith
@@ -143,7 +144,8 @@ test-falls (d.All xs) = all-falls xs
 test-falls (d.Any xs) = any-falls xs
 test-falls (d.Not x) = omega arith
 
-alter-falls : (p : Program) (w : World) (x : Assignment) → Falls (assignment_work x) (alter_move p w x)
+alter-falls : (p : Program) (w : World) (x : Assignment)
+    → Falls (assignment_work x) (alter_move p w x)
 alter-falls p w (s.Set name x) = omega arith
 alter-falls p w (s.SetEntry name words x y) = omega arith
 alter-falls p w (s.Inc name) = omega arith
@@ -169,13 +171,15 @@ more-room a b (Ticks frames e effect) h k = tt
 more-room a b (Reads name) h k = omega (arith, h, k)
 more-room a b (Draws n) h k = omega (arith, h, k)
 
-cases-fall : (p : Program) (a : ℤ) (xs : Cases) (rest : Default) → Falls (cases_work xs + (default_work rest + 1)) (cases_move p a xs rest)
+cases-fall : (p : Program) (a : ℤ) (xs : Cases) (rest : Default)
+    → Falls (cases_work xs + (default_work rest + 1)) (cases_move p a xs rest)
 cases-fall p a s.NoCases rest = more-room _ _ (default_move rest) (omega arith) (default-falls rest)
-cases-fall p a (s.MoreCases choices body xs) rest = by (fits_any p a choices) (cases-fall p a xs rest) where
-  by : (b : Bool) → Falls (cases_work xs + (default_work rest + 1)) (cases_move p a xs rest)
-      → Falls (block_work body + cases_work xs + (default_work rest + 1)) (if b then goes_to (Begins (f.Blocks body)) else cases_move p a xs rest)
-  by true h = omega arith
-  by false h = more-room _ _ (cases_move p a xs rest) (omega arith) h
+cases-fall p a (s.MoreCases choices body xs) rest =
+    by (fits_any p a choices) (cases-fall p a xs rest) where
+      by : (b : Bool) → Falls (cases_work xs + (default_work rest + 1)) (cases_move p a xs rest)
+          → Falls (block_work body + cases_work xs + (default_work rest + 1)) (if b then goes_to (Begins (f.Blocks body)) else cases_move p a xs rest)
+      by true h = omega arith
+      by false h = more-room _ _ (cases_move p a xs rest) (omega arith) h
 
 change-falls : (l : Loop) (x : Option Assignment) → works (change_frames l x) < change_work x + 2
 change-falls l None = omega arith
@@ -193,11 +197,13 @@ range-falls : (w : World) (a : ℤ) (b : Bool) → Falls 2 (range_move w a b)
 range-falls w a true = omega arith
 range-falls w a false = omega arith
 
-enter-falls : (p : Program) (w : World) (name : List ℕ) (o : Option Routine) (values : List ℤ) → Falls 1 (enter_move p w name o values)
+enter-falls : (p : Program) (w : World) (name : List ℕ) (o : Option Routine) (values : List ℤ)
+    → Falls 1 (enter_move p w name o values)
 enter-falls p w name None values = tt
 enter-falls p w name (Some r) values = tt
 
-call-falls : (p : Program) (n : ℕ) (w : World) (name : List ℕ) (values : List ℤ) → Falls 1 (call_move p n w name values)
+call-falls : (p : Program) (n : ℕ) (w : World) (name : List ℕ) (values : List ℤ)
+    → Falls 1 (call_move p n w name values)
 call-falls p zero w name values = tt
 call-falls p (suc n) w name values = enter-falls p w name (p.routines name) values
 
@@ -230,7 +236,8 @@ statement-falls w s.NewLine = tt
 statement-falls w (s.Print xs) = tt
 statement-falls w (s.Read line words) = read-falls w line (has_room (entries_of line w))
 
-begin-falls : (p : Program) (n : ℕ) (w : World) (x : Begin) → Falls (begin_work x) (begin_move p n w x)
+begin-falls : (p : Program) (n : ℕ) (w : World) (x : Begin)
+    → Falls (begin_work x) (begin_move p n w x)
 begin-falls p n w (f.Evals x) = eval-falls p w x
 begin-falls p n w (f.CallDue name values) = call-falls p n w name values
 begin-falls p n w (f.DrawDue m) = omega arith
@@ -242,7 +249,8 @@ begin-falls p n w (f.Prints xs) = prints-fall xs
 begin-falls p n w (f.LineDue name) = omega arith
 begin-falls p n w (f.TurnDue l) = turn-falls l l.test
 
-value-falls : (p : Program) (w : World) (x : Want) (a : ℤ) → Falls (want_work x) (value_move p w x a)
+value-falls : (p : Program) (w : World) (x : Want) (a : ℤ)
+    → Falls (want_work x) (value_move p w x a)
 value-falls p w (f.IndexOf name) a = entry-falls w (entry_at (entries_of name w) a)
 value-falls p w (f.Args name values xs) a = arguments-fall name (with_argument values a) xs
 value-falls p w f.RangeOf a = range-falls w a (int_lt a (pos 1))
@@ -256,14 +264,16 @@ value-falls p w (f.RightOf relation b) a = omega arith
 value-falls p w f.IsNonzero a = omega arith
 value-falls p w (f.Sets name) a = omega arith
 value-falls p w (f.PlaceOf name words y) a = omega arith
-value-falls p w (f.Stores name words i) a = store-falls w (entry_at (entries_of name w) i) (stored name words i a w)
+value-falls p w (f.Stores name words i) a =
+    store-falls w (entry_at (entries_of name w) i) (stored name words i a w)
 value-falls p w f.Forgets a = omega arith
 value-falls p w (f.Picks xs rest) a = cases-fall p a xs rest
 value-falls p w f.Gives a = omega arith
 value-falls p w (f.SaysNumber xs) a = omega arith
 value-falls p w (f.SaysChar xs) a = omega arith
 
-tested-falls : (l : Loop) (b : Bool) → Falls (block_work l.body + (loop_work l + 1)) (tested_move l b)
+tested-falls : (l : Loop) (b : Bool)
+    → Falls (block_work l.body + (loop_work l + 1)) (tested_move l b)
 tested-falls l true = omega arith
 tested-falls l false = omega arith
 
@@ -277,7 +287,8 @@ truth-falls (f.Branches body other) true = omega arith
 truth-falls (f.Branches body other) false = omega arith
 truth-falls (f.Testing l) b = tested-falls l (loop_goes_on l b)
 
-pub next-falls : (p : Program) (n : ℕ) (w : World) (x : Frame) (e : Outcome) → Falls (work x) (next p n w x e)
+pub next-falls : (p : Program) (n : ℕ) (w : World) (x : Frame) (e : Outcome)
+    → Falls (work x) (next p n w x e)
 next-falls p n w (Begins x) (Value a) = begin-positive x
 next-falls p n w (Begins x) (Truth b) = begin-positive x
 next-falls p n w (Begins x) Normal = begin-falls p n w x
@@ -313,3 +324,6 @@ next-falls p n w (Looping l) (Waits lack fs) = omega arith
 next-falls p n w (Calling scope) e = omega arith
 next-falls p n w Main e = omega arith
 next-falls p n w (Over halt) e = omega arith
+
+pub moves_fall : MovesFall
+moves_fall p n w x e = next-falls p n w x e

@@ -1,3 +1,4 @@
 pub mod MovesMean
 pub mod Falling
 pub mod Fitting
+pub mod Running

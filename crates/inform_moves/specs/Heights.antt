@@ -1,8 +1,5 @@
 -- How many frames may stand in the place of one, itself among them, inside the routine that runs.
-use Rattle.std.specs.Prelude.{ℕ, ◌+◌, ◌*◌, ◌≤◌, max, List, [], ◌∷◌, length, Option, Some, None, ⊤}
-use Rattle.inform_tree.specs.Values as v
-use Rattle.inform_tree.specs.Statements as s
-use Rattle.inform_tree.specs.Statements.{Cases, Default, Assignment, PrintItem}
+use Rattle.std.specs.Prelude.{ℕ, ◌+◌, ◌*◌, ◌≤◌, max, List, [], ◌∷◌, length, ⊤}
 use Rattle.inform_tree.specs.Depths.{expression_depth, arguments_depth, terms_depth, factors_depth, condition_depth, conditions_depth, assignment_depth, items_depth, statement_depth, statements_depth, cases_depth, default_depth, optional_depth}
 use Rattle.inform_meaning.specs.Frames as f
 use Rattle.inform_meaning.specs.Frames.{Loop, Begin, Want, Decide, Frame, Begins, Wants, Decides, Looping, Calling, Main, Over}
@@ -49,7 +46,8 @@ abbrev pub decide_height : Decide → ℕ
 decide_height (f.AllOf xs) = conditions_depth xs + 1
 decide_height (f.AnyOf xs) = conditions_depth xs + 1
 decide_height f.Flips = 1
-decide_height (f.Branches body other) = max (2 * statements_depth body + 1) (2 * statements_depth other + 1)
+decide_height (f.Branches body other) =
+    max (2 * statements_depth body + 1) (2 * statements_depth other + 1)
 decide_height (f.Testing l) = loop_height l
 
 abbrev pub height : Frame → ℕ

@@ -2,3 +2,4 @@ pub mod Moves
 pub mod Done
 pub mod Works
 pub mod Heights
+pub mod Laws

@@ -11,7 +11,7 @@ use Rattle.inform_tree.specs.Statements.{Statement, Statements, Cases, Default, 
 use Rattle.inform_meaning.specs.declared.traps.Trap.{Trap}
 use Rattle.inform_meaning.specs.declared.traps.Trap.TheVariants as t
 use Rattle.inform_meaning.specs.Words.{number_word, word_negation, word_sum, summed, multiplied, compares, low_byte}
-use Rattle.inform_meaning.specs.Worlds.{Routine, Program, Scope, World, value_of, assigned, entries_of, entry_at, stored, has_room, with_argument, scope_of}
+use Rattle.inform_meaning.specs.Worlds.{Routine, Program, World, value_of, assigned, entries_of, entry_at, stored, has_room, with_argument, scope_of}
 use Rattle.inform_meaning.specs.Frames as f
 use Rattle.inform_meaning.specs.Frames.{Loop, Begin, Want, Decide, Halt, Trapped, Quits, Frame, Begins, Wants, Decides, Looping, Calling, Main, Over, Outcome, Value, Truth, Normal, Returns, Breaks, Continues, Halts, Waits, returned, halt_of}
 use Rattle.inform_meaning.specs.Statements.{while_loop, do_loop, for_loop, loop_goes_on, fits_any}
@@ -163,7 +163,8 @@ tested_move l false = done Normal
 -- a call that stands alone: its value is forgotten
 abbrev pub call_frames : List ℕ → Arguments → List Frame
 call_frames name v.NoArguments = Begins (f.CallDue name []) ∷ Wants f.Forgets ∷ []
-call_frames name (v.MoreArguments x xs) = Begins (f.Evals x) ∷ Wants (f.Args name [] xs) ∷ Wants f.Forgets ∷ []
+call_frames name (v.MoreArguments x xs) =
+    Begins (f.Evals x) ∷ Wants (f.Args name [] xs) ∷ Wants f.Forgets ∷ []
 
 -- after the step of the statement
 abbrev pub steps_to : List Frame → Move
@@ -181,10 +182,12 @@ statement_move w s.Empty = ends Normal
 statement_move w (s.Block body) = steps_to (Begins (f.Blocks body) ∷ [])
 statement_move w (s.Assign x) = steps_to (Begins (f.Alters x) ∷ [])
 statement_move w (s.Call name xs) = steps_to (call_frames name xs)
-statement_move w (s.If x body other) = steps_to (Begins (f.Tests x) ∷ Decides (f.Branches body other) ∷ [])
+statement_move w (s.If x body other) =
+    steps_to (Begins (f.Tests x) ∷ Decides (f.Branches body other) ∷ [])
 statement_move w (s.While x body) = steps_to (Begins (f.TurnDue (while_loop x body)) ∷ [])
 statement_move w (s.Do body x) = steps_to (Begins (f.Blocks body) ∷ Looping (do_loop body x) ∷ [])
-statement_move w (s.For first x change body) = steps_to (change_frames (for_loop x change body) first)
+statement_move w (s.For first x change body) =
+    steps_to (change_frames (for_loop x change body) first)
 statement_move w (s.Switch x xs rest) = steps_to (Begins (f.Evals x) ∷ Wants (f.Picks xs rest) ∷ [])
 statement_move w s.Break = ends Breaks
 statement_move w s.Continue = ends Continues
@@ -253,7 +256,8 @@ value_move p w (f.RightOf relation b) a = done (Truth (compares relation b a))
 value_move p w f.IsNonzero a = done (Truth (not (int_eq a (pos 0))))
 value_move p w (f.Sets name) a = alters (assigned name a w)
 value_move p w (f.PlaceOf name words y) a = evals y (Wants (f.Stores name words a))
-value_move p w (f.Stores name words i) a = store_move w (entry_at (entries_of name w) i) (stored name words i a w)
+value_move p w (f.Stores name words i) a =
+    store_move w (entry_at (entries_of name w) i) (stored name words i a w)
 value_move p w f.Forgets a = done Normal
 value_move p w (f.Picks xs rest) a = cases_move p a xs rest
 value_move p w f.Gives a = done (Returns a)

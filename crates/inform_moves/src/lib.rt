@@ -1,9 +1,5 @@
-//! The meaning of the Inform profile move by move: what takes the place of the innermost frame.
+//! A run of an Inform program move by move: what takes the place of the innermost frame, that this is what the
+//! program means, and that it takes few frames and comes to a step.
 #![tactic(auto)]
 
-use inform_meaning::Trap;
-
-/// x
-pub fn x(trap: Trap) -> Trap {
-    trap
-}
+pub mod laws;
