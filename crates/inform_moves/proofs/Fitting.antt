@@ -1,0 +1,497 @@
+-- The frames of each move keep within the height of the frame whose place they take.
+use Rattle.std.proofs.Common.{◌≡◌, ◌∙◌, arith, ℕ, zero, suc, pred, ◌+◌, ◌-◌, ◌*◌, ◌≤◌, ℤ, pos, Bool, true, false, List, [], ◌∷◌, ◌++◌, length, Option, Some, None, refl, ap}
+use Rattle.std.specs.Prelude.{⊤, int_lt, if◌then◌else◌}
+use Rattle.inform_tree.specs.Depths.{expression_depth, arguments_depth, terms_depth, factors_depth, condition_depth, conditions_depth, assignment_depth, items_depth, statement_depth, statements_depth, cases_depth, default_depth, optional_depth}
+use Rattle.inform_tree.specs.Values as v
+use Rattle.inform_tree.specs.Values.{Expression, Arguments, Terms, Factors}
+use Rattle.inform_tree.specs.Conditions as d
+use Rattle.inform_tree.specs.Conditions.{Condition, Conditions}
+use Rattle.inform_tree.specs.Statements as s
+use Rattle.inform_tree.specs.Statements.{Statement, Statements, Cases, Default, Assignment, PrintItem}
+use Rattle.inform_meaning.specs.Worlds.{Program, Routine, World, entries_of, entry_at, has_room, with_argument, stored}
+use Rattle.inform_meaning.specs.Words.{summed, multiplied}
+use Rattle.inform_meaning.specs.Frames as f
+use Rattle.inform_meaning.specs.Frames.{Loop, Begin, Want, Decide, Frame, Begins, Wants, Decides, Looping, Calling, Main, Over, Outcome, Value, Truth, Normal, Returns, Breaks, Continues, Halts, Waits}
+use Rattle.inform_meaning.specs.Statements.{for_loop, loop_goes_on, fits_any}
+use Rattle.inform_moves.specs.Moves.{Move, Goes, Ticks, Reads, Draws, goes_to, arguments_move, sum_move, product_move, factor_move, eval_move, all_move, any_move, test_move, alter_move, prints_move, enter_move, call_move, turn_move, change_frames, call_frames, tested_move, read_move, statement_move, block_move, default_move, cases_move, begin_move, entry_move, store_move, range_move, value_move, truth_move, next}
+use Rattle.inform_moves.specs.Heights.{ROUTINE_FRAMES, loop_height, begin_height, want_height, decide_height, height, Within, standing, Fits, calls_open}
+use Rattle.inform_moves.specs.Laws.{IsShallow, FitsAfter, MovesFit, OpensAtMost, MovesOpen, FramesAreFew, RoomIsLeft}
+
+-- the frames of a move keep within so many
+abbrev pub Keeping : ℕ → Move → Type 0
+Keeping most (Goes frames e effect) = Within most frames
+Keeping most (Ticks frames e effect) = Within most frames
+Keeping most (Reads name) = ⊤
+Keeping most (Draws n) = ⊤
+
+pub arguments-keep : (name : List ℕ) (values : List ℤ) (xs : Arguments)
+    → Keeping (arguments_depth xs + 1) (arguments_move name values xs)
+arguments-keep name values v.NoArguments = (omega arith, tt, tt)
+arguments-keep name values (v.MoreArguments x xs) = (omega arith, tt, (omega arith, tt, tt))
+
+sum-keeps : (a : ℤ) (xs : Terms) → Keeping (terms_depth xs + 1) (sum_move a xs)
+sum-keeps a v.NoTerms = tt
+sum-keeps a (v.MoreTerms op x xs) = (omega arith, tt, (omega arith, tt, tt))
+
+product-keeps : (a : ℤ) (xs : Factors) → Keeping (factors_depth xs + 1) (product_move a xs)
+product-keeps a v.NoFactors = tt
+product-keeps a (v.MoreFactors op x xs) = (omega arith, tt, (omega arith, tt, tt))
+
+factor-keeps : (w : World) (o : Option ℤ) (xs : Factors)
+    → Keeping (factors_depth xs + 1) (factor_move w o xs)
+factor-keeps w None xs = tt
+factor-keeps w (Some a) xs = product-keeps a xs
+
+eval-keeps : (p : Program) (w : World) (x : Expression)
+    → Keeping (expression_depth x) (eval_move p w x)
+eval-keeps p w (v.Number n) = tt
+eval-keeps p w (v.Char byte) = tt
+eval-keeps p w (v.Name name) = tt
+eval-keeps p w (v.Entry name words index) = (omega arith, tt, (omega arith, tt, tt))
+eval-keeps p w (v.Call name xs) = arguments-keep name [] xs
+eval-keeps p w (v.Random x) = (omega arith, tt, (omega arith, tt, tt))
+eval-keeps p w (v.Neg x) = (omega arith, tt, (omega arith, tt, tt))
+eval-keeps p w (v.Sum x xs) = (omega arith, tt, (omega arith, tt, tt))
+eval-keeps p w (v.Product x xs) = (omega arith, tt, (omega arith, tt, tt))
+
+all-keeps : (xs : Conditions) → Keeping (conditions_depth xs + 1) (all_move xs)
+all-keeps d.NoConditions = tt
+all-keeps (d.MoreConditions x xs) = (omega arith, tt, (omega arith, tt, tt))
+
+any-keeps : (xs : Conditions) → Keeping (conditions_depth xs + 1) (any_move xs)
+any-keeps d.NoConditions = tt
+any-keeps (d.MoreConditions x xs) = (omega arith, tt, (omega arith, tt, tt))
+
+test-keeps : (x : Condition) → Keeping (condition_depth x) (test_move x)
+test-keeps (d.Compare relation x y) = (omega arith, tt, (omega arith, tt, tt))
+test-keeps (d.Nonzero x) = (omega arith, tt, (omega arith, tt, tt))
+test-keeps (d.All xs) = all-keeps xs
+test-keeps (d.Any xs) = any-keeps xs
+test-keeps (d.Not x) = (omega arith, tt, (omega arith, tt, tt))
+
+alter-keeps : (p : Program) (w : World) (x : Assignment)
+    → Keeping (assignment_depth x + 1) (alter_move p w x)
+alter-keeps p w (s.Set name x) = (omega arith, tt, (omega arith, tt, tt))
+alter-keeps p w (s.SetEntry name words x y) = (omega arith, tt, (omega arith, tt, tt))
+alter-keeps p w (s.Inc name) = tt
+alter-keeps p w (s.Dec name) = tt
+
+prints-keep : (xs : List PrintItem) → Keeping (items_depth xs + 1) (prints_move xs)
+prints-keep [] = tt
+prints-keep (s.Text text ∷ xs) = (omega arith, tt, tt)
+prints-keep (s.Value x ∷ xs) = (omega arith, tt, (omega arith, tt, tt))
+prints-keep (s.Char x ∷ xs) = (omega arith, tt, (omega arith, tt, tt))
+
+block-keeps : (xs : Statements) → Keeping (2 * statements_depth xs + 1) (block_move xs)
+block-keeps s.NoStatements = tt
+block-keeps (s.MoreStatements x xs) = (omega arith, tt, (omega arith, tt, tt))
+
+default-keeps : (most : ℕ) (x : Default) → 2 * default_depth x + 1 ≤ most
+    → Keeping most (default_move x)
+default-keeps most s.NoDefault h = tt
+default-keeps most (s.SomeDefault body) h = (omega (arith, h), tt, tt)
+
+cases-keep : (p : Program) (a : ℤ) (most : ℕ) (xs : Cases) (rest : Default)
+    → 2 * cases_depth xs + 1 ≤ most → 2 * default_depth rest + 1 ≤ most
+    → Keeping most (cases_move p a xs rest)
+cases-keep p a most s.NoCases rest h k = default-keeps most rest k
+cases-keep p a most (s.MoreCases choices body xs) rest h k =
+    by (fits_any p a choices) (cases-keep p a most xs rest (omega (arith, h)) k) where
+      by : (b : Bool) → Keeping most (cases_move p a xs rest)
+          → Keeping most (if b then goes_to (Begins (f.Blocks body)) else cases_move p a xs rest)
+      by true g = (omega (arith, h), tt, tt)
+      by false g = g
+
+change-keeps : (l : Loop) (most : ℕ) (x : Option Assignment) → loop_height l ≤ most
+    → optional_depth assignment_depth x + 2 ≤ most → Within most (change_frames l x)
+change-keeps l most None h k = (omega (arith, h), tt, tt)
+change-keeps l most (Some x) h k = (omega (arith, k), tt, (omega (arith, h), tt, tt))
+
+entry-keeps : (w : World) (o : Option ℤ) → Keeping 1 (entry_move w o)
+entry-keeps w None = tt
+entry-keeps w (Some a) = tt
+
+store-keeps : (w : World) (o : Option ℤ) (after : World) → Keeping 1 (store_move w o after)
+store-keeps w None after = tt
+store-keeps w (Some a) after = tt
+
+range-keeps : (w : World) (a : ℤ) (b : Bool) → Keeping 1 (range_move w a b)
+range-keeps w a true = tt
+range-keeps w a false = (omega arith, tt, tt)
+
+turn-keeps : (l : Loop) (x : Option Condition)
+    → optional_depth condition_depth x + 1 ≤ loop_height l → Keeping (loop_height l) (turn_move l x)
+turn-keeps l None h = (omega arith, tt, tt)
+turn-keeps l (Some x) h = (omega (arith, h), tt, (omega arith, tt, tt))
+
+read-keeps : (w : World) (name : List ℕ) (b : Bool) → Keeping 2 (read_move w name b)
+read-keeps w name true = (omega arith, tt, tt)
+read-keeps w name false = tt
+
+call_frames-keep : (name : List ℕ) (xs : Arguments)
+    → Within (2 * (arguments_depth xs + 1)) (call_frames name xs)
+call_frames-keep name v.NoArguments = (omega arith, tt, (omega arith, tt, tt))
+call_frames-keep name (v.MoreArguments x xs) =
+    (omega arith, tt, (omega arith, tt, (omega arith, tt, tt)))
+
+pub statement-keeps : (w : World) (x : Statement)
+    → Keeping (2 * statement_depth x) (statement_move w x)
+statement-keeps w s.Empty = tt
+statement-keeps w (s.Block body) = (omega arith, tt, tt)
+statement-keeps w (s.Assign x) = (omega arith, tt, tt)
+statement-keeps w (s.Call name xs) = call_frames-keep name xs
+statement-keeps w (s.If x body other) = (omega arith, tt, (omega arith, tt, tt))
+statement-keeps w (s.While x body) = (omega arith, tt, tt)
+statement-keeps w (s.Do body x) = (omega arith, tt, (omega arith, tt, tt))
+statement-keeps w (s.For first x change body) =
+    change-keeps (for_loop x change body) _ first (omega arith) (omega arith)
+statement-keeps w (s.Switch x xs rest) = (omega arith, tt, (omega arith, tt, tt))
+statement-keeps w s.Break = tt
+statement-keeps w s.Continue = tt
+statement-keeps w s.Quit = tt
+statement-keeps w s.Rtrue = tt
+statement-keeps w s.Rfalse = tt
+statement-keeps w (s.Return None) = tt
+statement-keeps w (s.Return (Some x)) = (omega arith, tt, (omega arith, tt, tt))
+statement-keeps w s.NewLine = tt
+statement-keeps w (s.Print xs) = (omega arith, tt, tt)
+statement-keeps w (s.Read line words) = read-keeps w line (has_room (entries_of line w))
+
+value-keeps : (p : Program) (w : World) (x : Want) (a : ℤ)
+    → Keeping (want_height x) (value_move p w x a)
+value-keeps p w (f.IndexOf name) a = entry-keeps w (entry_at (entries_of name w) a)
+value-keeps p w (f.Args name values xs) a = arguments-keep name (with_argument values a) xs
+value-keeps p w f.RangeOf a = range-keeps w a (int_lt a (pos 1))
+value-keeps p w f.Negates a = tt
+value-keeps p w (f.SumFrom xs) a = sum-keeps a xs
+value-keeps p w (f.SumOnto op b xs) a = sum-keeps (summed p.width op b a) xs
+value-keeps p w (f.ProductFrom xs) a = product-keeps a xs
+value-keeps p w (f.ProductOnto op b xs) a = factor-keeps w (multiplied p.width op b a) xs
+value-keeps p w (f.LeftOf relation y) a = (omega arith, tt, (omega arith, tt, tt))
+value-keeps p w (f.RightOf relation b) a = tt
+value-keeps p w f.IsNonzero a = tt
+value-keeps p w (f.Sets name) a = tt
+value-keeps p w (f.PlaceOf name words y) a = (omega arith, tt, (omega arith, tt, tt))
+value-keeps p w (f.Stores name words i) a =
+    store-keeps w (entry_at (entries_of name w) i) (stored name words i a w)
+value-keeps p w f.Forgets a = tt
+value-keeps p w (f.Picks xs rest) a = cases-keep p a _ xs rest (omega arith) (omega arith)
+value-keeps p w f.Gives a = tt
+value-keeps p w (f.SaysNumber xs) a = (omega arith, tt, tt)
+value-keeps p w (f.SaysChar xs) a = (omega arith, tt, tt)
+
+tested-keeps : (l : Loop) (b : Bool) → Keeping (loop_height l) (tested_move l b)
+tested-keeps l true = (omega arith, tt, (omega arith, tt, tt))
+tested-keeps l false = tt
+
+truth-keeps : (x : Decide) (b : Bool) → Keeping (decide_height x) (truth_move x b)
+truth-keeps (f.AllOf xs) true = all-keeps xs
+truth-keeps (f.AllOf xs) false = tt
+truth-keeps (f.AnyOf xs) true = tt
+truth-keeps (f.AnyOf xs) false = any-keeps xs
+truth-keeps f.Flips b = tt
+truth-keeps (f.Branches body other) true = (omega arith, tt, tt)
+truth-keeps (f.Branches body other) false = (omega arith, tt, tt)
+truth-keeps (f.Testing l) b = tested-keeps l (loop_goes_on l b)
+
+-- what has begun, and isn't a call
+abbrev pub IsNoCall : Frame → Type 0
+IsNoCall (Begins (f.CallDue name values)) = ⊥
+IsNoCall x = ⊤
+
+begin-keeps : (p : Program) (n : ℕ) (w : World) (x : Begin) → IsNoCall (Begins x)
+    → Keeping (begin_height x) (begin_move p n w x)
+begin-keeps p n w (f.Evals x) h = eval-keeps p w x
+begin-keeps p n w (f.CallDue name values) h = absurd h
+begin-keeps p n w (f.DrawDue m) h = tt
+begin-keeps p n w (f.Tests x) h = test-keeps x
+begin-keeps p n w (f.Alters x) h = alter-keeps p w x
+begin-keeps p n w (f.Due x) h = statement-keeps w x
+begin-keeps p n w (f.Blocks xs) h = block-keeps xs
+begin-keeps p n w (f.Prints xs) h = prints-keep xs
+begin-keeps p n w (f.LineDue name) h = tt
+begin-keeps p n w (f.TurnDue l) h = turn-keeps l l.test (omega arith)
+
+-- a frame that is no call
+pub next-keeps : (p : Program) (n : ℕ) (w : World) (x : Frame) (e : Outcome) → IsNoCall x
+    → Keeping (height x) (next p n w x e)
+next-keeps p n w (Begins x) (Value a) h = tt
+next-keeps p n w (Begins x) (Truth b) h = tt
+next-keeps p n w (Begins x) Normal h = begin-keeps p n w x h
+next-keeps p n w (Begins x) (Returns a) h = tt
+next-keeps p n w (Begins x) Breaks h = tt
+next-keeps p n w (Begins x) Continues h = tt
+next-keeps p n w (Begins x) (Halts halt) h = tt
+next-keeps p n w (Begins x) (Waits lack fs) h = tt
+next-keeps p n w (Wants x) (Value a) h = value-keeps p w x a
+next-keeps p n w (Wants x) (Truth b) h = tt
+next-keeps p n w (Wants x) Normal h = tt
+next-keeps p n w (Wants x) (Returns a) h = tt
+next-keeps p n w (Wants x) Breaks h = tt
+next-keeps p n w (Wants x) Continues h = tt
+next-keeps p n w (Wants x) (Halts halt) h = tt
+next-keeps p n w (Wants x) (Waits lack fs) h = tt
+next-keeps p n w (Decides x) (Value a) h = tt
+next-keeps p n w (Decides x) (Truth b) h = truth-keeps x b
+next-keeps p n w (Decides x) Normal h = tt
+next-keeps p n w (Decides x) (Returns a) h = tt
+next-keeps p n w (Decides x) Breaks h = tt
+next-keeps p n w (Decides x) Continues h = tt
+next-keeps p n w (Decides x) (Halts halt) h = tt
+next-keeps p n w (Decides x) (Waits lack fs) h = tt
+next-keeps p n w (Looping l) (Value a) h = tt
+next-keeps p n w (Looping l) (Truth b) h = tt
+next-keeps p n w (Looping l) Normal h = change-keeps l _ l.change (omega arith) (omega arith)
+next-keeps p n w (Looping l) (Returns a) h = tt
+next-keeps p n w (Looping l) Breaks h = tt
+next-keeps p n w (Looping l) Continues h = change-keeps l _ l.change (omega arith) (omega arith)
+next-keeps p n w (Looping l) (Halts halt) h = tt
+next-keeps p n w (Looping l) (Waits lack fs) h = tt
+next-keeps p n w (Calling scope) e h = tt
+next-keeps p n w Main e h = tt
+next-keeps p n w (Over halt) e h = tt
+
+-- ---- whole stacks
+
+standing-append : (most : ℕ) (gs fs : List Frame) → Within most gs
+    → standing (gs ++ fs) ≡ length gs + standing fs
+standing-append most [] fs h = omega arith
+standing-append most (Begins x ∷ gs) fs h = omega (arith, standing-append most gs fs h.2)
+standing-append most (Wants x ∷ gs) fs h = omega (arith, standing-append most gs fs h.2)
+standing-append most (Decides x ∷ gs) fs h = omega (arith, standing-append most gs fs h.2)
+standing-append most (Looping x ∷ gs) fs h = omega (arith, standing-append most gs fs h.2)
+standing-append most (Calling x ∷ gs) fs h = absurd h.1
+standing-append most (Main ∷ gs) fs h = omega (arith, standing-append most gs fs h.2)
+standing-append most (Over x ∷ gs) fs h = omega (arith, standing-append most gs fs h.2)
+
+-- frames that keep within the height of the one whose place they take
+pub within-fits : (most : ℕ) (gs fs : List Frame) → Within most gs
+    → most + standing fs ≤ ROUTINE_FRAMES → Fits fs → Fits (gs ++ fs)
+within-fits most [] fs h room fits = fits
+within-fits most (g ∷ gs) fs h room fits =
+    (omega (arith, h.0, room, standing-append most gs fs h.2), within-fits most gs fs h.2 room fits)
+
+no-calls : (most : ℕ) (gs : List Frame) → Within most gs → calls_open gs ≡ 0
+no-calls most [] h = refl
+no-calls most (Begins x ∷ gs) h = no-calls most gs h.2
+no-calls most (Wants x ∷ gs) h = no-calls most gs h.2
+no-calls most (Decides x ∷ gs) h = no-calls most gs h.2
+no-calls most (Looping x ∷ gs) h = no-calls most gs h.2
+no-calls most (Calling x ∷ gs) h = absurd h.1
+no-calls most (Main ∷ gs) h = no-calls most gs h.2
+no-calls most (Over x ∷ gs) h = no-calls most gs h.2
+
+-- ---- moves
+
+keeping-fits : (most : ℕ) (m : Move) (fs : List Frame) → Keeping most m
+    → most + standing fs ≤ ROUTINE_FRAMES → Fits fs → FitsAfter fs m
+keeping-fits most (Goes gs e effect) fs h room fits = within-fits most gs fs h room fits
+keeping-fits most (Ticks gs e effect) fs h room fits = within-fits most gs fs h room fits
+keeping-fits most (Reads name) fs h room fits = fits
+keeping-fits most (Draws m) fs h room fits = fits
+
+entering-fits : (p : Program) (w : World) (name : List ℕ) (o : Option Routine) (values : List ℤ) (fs : List Frame)
+    → IsShallow p → p.routines name ≡ o → 1 + standing fs ≤ ROUTINE_FRAMES → Fits fs
+    → FitsAfter fs (enter_move p w name o values)
+entering-fits p w name None values fs shallow is room fits = fits
+entering-fits p w name (Some r) values fs shallow is room fits =
+    (omega (arith, shallow name r is), (room, fits))
+
+calling-fits : (p : Program) (n : ℕ) (w : World) (name : List ℕ) (values : List ℤ) (fs : List Frame)
+    → IsShallow p → 1 + standing fs ≤ ROUTINE_FRAMES → Fits fs
+    → FitsAfter fs (call_move p n w name values)
+calling-fits p zero w name values fs shallow room fits = fits
+calling-fits p (suc n) w name values fs shallow room fits =
+    entering-fits p w name (p.routines name) values fs shallow refl room fits
+
+entering-opens : (p : Program) (n : ℕ) (w : World) (name : List ℕ) (o : Option Routine) (values : List ℤ)
+    → OpensAtMost (suc n) (enter_move p w name o values)
+entering-opens p n w name None values = omega arith
+entering-opens p n w name (Some r) values = omega arith
+
+calling-opens : (p : Program) (n : ℕ) (w : World) (name : List ℕ) (values : List ℤ)
+    → OpensAtMost n (call_move p n w name values)
+calling-opens p zero w name values = omega arith
+calling-opens p (suc n) w name values = entering-opens p n w name (p.routines name) values
+
+keeping-opens : (most n : ℕ) (m : Move) → Keeping most m → OpensAtMost n m
+keeping-opens most n (Goes gs e effect) h = omega (arith, no-calls most gs h)
+keeping-opens most n (Ticks gs e effect) h = omega (arith, no-calls most gs h)
+keeping-opens most n (Reads name) h = tt
+keeping-opens most n (Draws m) h = tt
+
+-- whether a frame is a call that is due, and gets its outcome
+data Kind : Frame → Outcome → Type 0 where
+  call : {name : List ℕ} {values : List ℤ} → Kind (Begins (f.CallDue name values)) Normal
+  other : {x : Frame} {e : Outcome}
+      → ((p : Program) (n : ℕ) (w : World) → Keeping (height x) (next p n w x e)) → Kind x e
+
+kind : (x : Frame) (e : Outcome) → Kind x e
+kind (Begins (f.CallDue name values)) Normal = call
+kind (Begins (f.CallDue name values)) (Value a) = other (λ p n w. tt)
+kind (Begins (f.CallDue name values)) (Truth b) = other (λ p n w. tt)
+kind (Begins (f.CallDue name values)) (Returns a) = other (λ p n w. tt)
+kind (Begins (f.CallDue name values)) Breaks = other (λ p n w. tt)
+kind (Begins (f.CallDue name values)) Continues = other (λ p n w. tt)
+kind (Begins (f.CallDue name values)) (Halts halt) = other (λ p n w. tt)
+kind (Begins (f.CallDue name values)) (Waits lack fs) = other (λ p n w. tt)
+kind (Begins (f.Evals x)) e = other (λ p n w. next-keeps p n w (Begins (f.Evals x)) e tt)
+kind (Begins (f.DrawDue m)) e = other (λ p n w. next-keeps p n w (Begins (f.DrawDue m)) e tt)
+kind (Begins (f.Tests x)) e = other (λ p n w. next-keeps p n w (Begins (f.Tests x)) e tt)
+kind (Begins (f.Alters x)) e = other (λ p n w. next-keeps p n w (Begins (f.Alters x)) e tt)
+kind (Begins (f.Due x)) e = other (λ p n w. next-keeps p n w (Begins (f.Due x)) e tt)
+kind (Begins (f.Blocks xs)) e = other (λ p n w. next-keeps p n w (Begins (f.Blocks xs)) e tt)
+kind (Begins (f.Prints xs)) e = other (λ p n w. next-keeps p n w (Begins (f.Prints xs)) e tt)
+kind (Begins (f.LineDue name)) e = other (λ p n w. next-keeps p n w (Begins (f.LineDue name)) e tt)
+kind (Begins (f.TurnDue l)) e = other (λ p n w. next-keeps p n w (Begins (f.TurnDue l)) e tt)
+kind (Wants w) e = other (λ p n v. next-keeps p n v (Wants w) e tt)
+kind (Decides d) e = other (λ p n w. next-keeps p n w (Decides d) e tt)
+kind (Looping l) e = other (λ p n w. next-keeps p n w (Looping l) e tt)
+kind (Calling scope) e = other (λ p n w. next-keeps p n w (Calling scope) e tt)
+kind Main e = other (λ p n w. next-keeps p n w Main e tt)
+kind (Over halt) e = other (λ p n w. next-keeps p n w (Over halt) e tt)
+
+pub moves_fit : MovesFit
+moves_fit p n w x e fs shallow fits = by x e (kind x e) fits where
+  by : (x : Frame) (e : Outcome) → Kind x e → Fits (x ∷ fs) → FitsAfter fs (next p n w x e)
+  by _ _ (call {name} {values}) fits = calling-fits p n w name values fs shallow fits.0 fits.1
+  by x e (other keeps) fits =
+      keeping-fits (height x) (next p n w x e) fs (keeps p n w) fits.0 fits.1
+
+pub moves_open : MovesOpen
+moves_open p n w x e = by x e (kind x e) where
+  by : (x : Frame) (e : Outcome) → Kind x e → OpensAtMost n (next p n w x e)
+  by _ _ (call {name} {values}) = calling-opens p n w name values
+  by x e (other keeps) = keeping-opens (height x) n (next p n w x e) (keeps p n w)
+
+-- ---- how many frames there are
+
+expression-high : (x : Expression) → 1 ≤ expression_depth x
+expression-high (v.Number n) = omega arith
+expression-high (v.Char byte) = omega arith
+expression-high (v.Name name) = omega arith
+expression-high (v.Entry name words index) = omega arith
+expression-high (v.Call name xs) = omega arith
+expression-high (v.Random x) = omega arith
+expression-high (v.Neg x) = omega arith
+expression-high (v.Sum x xs) = omega arith
+expression-high (v.Product x xs) = omega arith
+
+condition-high : (x : Condition) → 1 ≤ condition_depth x
+condition-high (d.Compare relation x y) = omega arith
+condition-high (d.Nonzero x) = omega arith
+condition-high (d.All xs) = omega arith
+condition-high (d.Any xs) = omega arith
+condition-high (d.Not x) = omega arith
+
+statement-high : (x : Statement) → 1 ≤ statement_depth x
+statement-high s.Empty = omega arith
+statement-high (s.Block body) = omega arith
+statement-high (s.Assign x) = omega arith
+statement-high (s.Call name xs) = omega arith
+statement-high (s.If x body rest) = omega arith
+statement-high (s.While x body) = omega arith
+statement-high (s.Do body x) = omega arith
+statement-high (s.For first x change body) = omega arith
+statement-high (s.Switch x xs rest) = omega arith
+statement-high s.Break = omega arith
+statement-high s.Continue = omega arith
+statement-high s.Quit = omega arith
+statement-high s.Rtrue = omega arith
+statement-high s.Rfalse = omega arith
+statement-high (s.Return x) = omega arith
+statement-high s.NewLine = omega arith
+statement-high (s.Print xs) = omega arith
+statement-high (s.Read line words) = omega arith
+
+begin-high : (x : Begin) → 1 ≤ begin_height x
+begin-high (f.Evals x) = expression-high x
+begin-high (f.CallDue name values) = omega arith
+begin-high (f.DrawDue n) = omega arith
+begin-high (f.Tests x) = condition-high x
+begin-high (f.Alters x) = omega arith
+begin-high (f.Due x) = omega (arith, statement-high x)
+begin-high (f.Blocks xs) = omega arith
+begin-high (f.Prints xs) = omega arith
+begin-high (f.LineDue name) = omega arith
+begin-high (f.TurnDue l) = omega arith
+
+want-high : (w : Want) → 1 ≤ want_height w
+want-high (f.IndexOf name) = omega arith
+want-high (f.Args name values xs) = omega arith
+want-high f.RangeOf = omega arith
+want-high f.Negates = omega arith
+want-high (f.SumFrom xs) = omega arith
+want-high (f.SumOnto op a xs) = omega arith
+want-high (f.ProductFrom xs) = omega arith
+want-high (f.ProductOnto op a xs) = omega arith
+want-high (f.LeftOf relation y) = omega arith
+want-high (f.RightOf relation a) = omega arith
+want-high f.IsNonzero = omega arith
+want-high (f.Sets name) = omega arith
+want-high (f.PlaceOf name words y) = omega arith
+want-high (f.Stores name words i) = omega arith
+want-high f.Forgets = omega arith
+want-high (f.Picks xs rest) = omega arith
+want-high f.Gives = omega arith
+want-high (f.SaysNumber xs) = omega arith
+want-high (f.SaysChar xs) = omega arith
+
+decide-high : (x : Decide) → 1 ≤ decide_height x
+decide-high (f.AllOf xs) = omega arith
+decide-high (f.AnyOf xs) = omega arith
+decide-high f.Flips = omega arith
+decide-high (f.Branches body rest) = omega arith
+decide-high (f.Testing l) = omega arith
+
+high : (x : Frame) → 1 ≤ height x
+high (Begins x) = begin-high x
+high (Wants x) = want-high x
+high (Decides x) = decide-high x
+high (Looping l) = omega arith
+high (Calling scope) = omega arith
+high Main = omega arith
+high (Over halt) = omega arith
+
+-- the frames of the routines that wait are full at most
+spread : (fs : List Frame) → Fits fs
+    → length fs + ROUTINE_FRAMES ≤ ROUTINE_FRAMES * (calls_open fs + 1) + standing fs
+spread [] fits = omega arith
+spread (Begins x ∷ fs) fits = omega (arith, spread fs fits.1)
+spread (Wants x ∷ fs) fits = omega (arith, spread fs fits.1)
+spread (Decides x ∷ fs) fits = omega (arith, spread fs fits.1)
+spread (Looping x ∷ fs) fits = omega (arith, spread fs fits.1)
+spread (Calling x ∷ fs) fits = omega (arith, spread fs fits.1, fits.0)
+spread (Main ∷ fs) fits = omega (arith, spread fs fits.1)
+spread (Over x ∷ fs) fits = omega (arith, spread fs fits.1)
+
+one-less : (x : Frame) (fs : List Frame) → standing (x ∷ fs) ≤ standing fs + 1
+one-less (Begins x) fs = omega arith
+one-less (Wants x) fs = omega arith
+one-less (Decides x) fs = omega arith
+one-less (Looping x) fs = omega arith
+one-less (Calling x) fs = omega arith
+one-less Main fs = omega arith
+one-less (Over x) fs = omega arith
+
+pub frames_are_few : FramesAreFew
+frames_are_few [] fits = omega arith
+frames_are_few (x ∷ fs) fits = omega (arith, spread (x ∷ fs) fits, fits.0, high x, one-less x fs)
+
+-- ---- the room for calls
+
+less : (n m : ℕ) → pred (n - m) ≡ n - (m + 1)
+less n m = by (n - m) refl where
+  by : (k : ℕ) → n - m ≡ k → pred k ≡ n - (m + 1)
+  by zero is = omega (arith, is)
+  by (suc k) is = omega (arith, is)
+
+pub room_is_left : RoomIsLeft
+room_is_left n [] = omega arith
+room_is_left n (Begins x ∷ fs) = room_is_left n fs
+room_is_left n (Wants x ∷ fs) = room_is_left n fs
+room_is_left n (Decides x ∷ fs) = room_is_left n fs
+room_is_left n (Looping x ∷ fs) = room_is_left n fs
+room_is_left n (Calling x ∷ fs) = ap pred (room_is_left n fs) ∙ less n (calls_open fs)
+room_is_left n (Main ∷ fs) = room_is_left n fs
+room_is_left n (Over x ∷ fs) = room_is_left n fs

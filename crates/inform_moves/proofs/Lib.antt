@@ -1,0 +1,4 @@
+pub mod MovesMean
+pub mod Falling
+pub mod Fitting
+pub mod Running

@@ -1,0 +1,72 @@
+-- The laws of moves.
+use Rattle.std.specs.Prelude.{ℕ, ◌≡◌, ◌+◌, ◌-◌, ◌*◌, ◌<◌, ◌≤◌, List, ◌∷◌, ◌++◌, length, Some, ⊤}
+use Rattle.inform_tree.specs.Depths.{statements_depth}
+use Rattle.inform_meaning.specs.Worlds.{Routine, Program, World, Config}
+use Rattle.inform_meaning.specs.Frames.{Frame, Outcome, Waits}
+use Rattle.inform_meaning.specs.Runs.{CALL_LIMIT, room_in, resume_at}
+use Rattle.inform_moves.specs.Moves.{Move, Goes, Ticks, Reads, Draws, next}
+use Rattle.inform_moves.specs.Done.{move_run}
+use Rattle.inform_moves.specs.Works.{work, works}
+use Rattle.inform_moves.specs.Heights.{ROUTINE_FRAMES, Fits, calls_open}
+
+-- not that of a part that waits
+abbrev pub IsSettled : Outcome → Type 0
+IsSettled (Waits lack frames) = ⊥
+IsSettled e = ⊤
+
+-- A run does what the move of its innermost frame does.
+abbrev pub MovesMean : Type 0
+MovesMean = (p : Program) (x : Frame) (rest : List Frame) (e : Outcome) (c : Config) → IsSettled e
+    → resume_at p CALL_LIMIT (x ∷ rest) e c
+    ≡ move_run p x rest (next p (room_in CALL_LIMIT rest) c.world x e) c
+
+-- the frames of a move without a step have less than so much to do
+abbrev pub FallsBelow : ℕ → Move → Type 0
+FallsBelow most (Goes frames e effect) = works frames < most
+FallsBelow most (Ticks frames e effect) = ⊤
+FallsBelow most (Reads name) = 0 < most
+FallsBelow most (Draws n) = 0 < most
+
+-- A move without a step leaves less work.
+abbrev pub MovesFall : Type 0
+MovesFall =
+    (p : Program) (n : ℕ) (w : World) (x : Frame) (e : Outcome) → FallsBelow (work x) (next p n w x e)
+
+-- no routine is deeper than 64
+abbrev pub IsShallow : Program → Type 0
+IsShallow p =
+    (name : List ℕ) (r : Routine) → p.routines name ≡ Some r → statements_depth r.body ≤ 64
+
+-- the frames that stand after a move
+abbrev pub FitsAfter : List Frame → Move → Type 0
+FitsAfter rest (Goes frames e effect) = Fits (frames ++ rest)
+FitsAfter rest (Ticks frames e effect) = Fits (frames ++ rest)
+FitsAfter rest (Reads name) = Fits rest
+FitsAfter rest (Draws n) = Fits rest
+
+-- After a move each routine keeps within its frames.
+abbrev pub MovesFit : Type 0
+MovesFit =
+    (p : Program) (n : ℕ) (w : World) (x : Frame) (e : Outcome) (rest : List Frame) → IsShallow p
+    → Fits (x ∷ rest) → FitsAfter rest (next p n w x e)
+
+-- how many calls a move opens
+abbrev pub OpensAtMost : ℕ → Move → Type 0
+OpensAtMost n (Goes frames e effect) = calls_open frames ≤ n
+OpensAtMost n (Ticks frames e effect) = calls_open frames ≤ n
+OpensAtMost n (Reads name) = ⊤
+OpensAtMost n (Draws m) = ⊤
+
+-- No move opens more calls than may be open.
+abbrev pub MovesOpen : Type 0
+MovesOpen =
+    (p : Program) (n : ℕ) (w : World) (x : Frame) (e : Outcome) → OpensAtMost n (next p n w x e)
+
+-- Frames that keep within their routines are few.
+abbrev pub FramesAreFew : Type 0
+FramesAreFew =
+    (frames : List Frame) → Fits frames → length frames ≤ ROUTINE_FRAMES * (calls_open frames + 1)
+
+-- The room for calls is what is left of the limit.
+abbrev pub RoomIsLeft : Type 0
+RoomIsLeft = (n : ℕ) (frames : List Frame) → room_in n frames ≡ n - calls_open frames

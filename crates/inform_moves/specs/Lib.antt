@@ -1,0 +1,5 @@
+pub mod Moves
+pub mod Done
+pub mod Works
+pub mod Heights
+pub mod Laws

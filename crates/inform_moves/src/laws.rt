@@ -1,0 +1,38 @@
+//! The laws of moves. Each is the contract of a function that does nothing.
+ghost use Rattle.inform_moves.specs.Laws.{MovesMean, MovesFall, MovesFit, MovesOpen, FramesAreFew, RoomIsLeft};
+
+/// A run does what the move of its innermost frame does.
+#[tactic(auto, using(crate::proofs::Running::moves_mean))]
+pub fn moves_mean()
+    ensures { MovesMean }
+{}
+
+/// A move without a step leaves less work.
+#[tactic(auto, using(crate::proofs::Falling::moves_fall))]
+pub fn moves_fall()
+    ensures { MovesFall }
+{}
+
+/// After a move each routine keeps within its frames.
+#[tactic(auto, using(crate::proofs::Fitting::moves_fit))]
+pub fn moves_fit()
+    ensures { MovesFit }
+{}
+
+/// No move opens more calls than may be open.
+#[tactic(auto, using(crate::proofs::Fitting::moves_open))]
+pub fn moves_open()
+    ensures { MovesOpen }
+{}
+
+/// Frames that keep within their routines are few.
+#[tactic(auto, using(crate::proofs::Fitting::frames_are_few))]
+pub fn frames_are_few()
+    ensures { FramesAreFew }
+{}
+
+/// The room for calls is what is left of the limit.
+#[tactic(auto, using(crate::proofs::Fitting::room_is_left))]
+pub fn room_is_left()
+    ensures { RoomIsLeft }
+{}
