@@ -2,6 +2,7 @@
 ghost use Rattle.std.specs.Prelude.{◌≡◌, ◌+◌, ◌≤◌, IfOk, map};
 ghost use Rattle.std.specs.Option.{option_or};
 ghost use Rattle.inform_tree.specs.Programs.{directive_of, program_of, routine_of};
+ghost use Rattle.inform_names.specs.declared.limits.TheConstants.{ENTRY_LIMIT};
 ghost use Rattle.inform_names.specs.Demands.{constant_demands};
 ghost use Rattle.inform_names.specs.Meanings.{earlier, entry_count, directive_entries};
 ghost use Rattle.inform_names.specs.Faults.{first_of};
@@ -23,8 +24,8 @@ fn earlier(at: usize, meaning: Option<Meaning>) -> Option<Meaning>
     ensures { result ≡ earlier at meaning }
 {
     match meaning {
-        None => None,
-        Some(meaning) => { if meaning.at < at { Some(meaning) } else { None } }
+        Some(meaning) if meaning.at < at => Some(meaning),
+        _ => None,
     }
 }
 
@@ -52,10 +53,10 @@ fn test_constant_directive<'a>(
 
 // The length of an array, after so many entries of the arrays before. Gives the entries with it.
 fn test_size<'a>(total: u32, name: &'a Name, length: Option<i64>) -> Result<u32, Refusal<'a>>
-    requires { total ≤ 4000000 }
+    requires { total ≤ ENTRY_LIMIT }
     ensures found { found result ≡ size_fault total name.now length }
     ensures total { IfOk result (λ n. n ≡ total + entry_count length) }
-    ensures few { IfOk result (λ n. n ≤ 4000000) }
+    ensures few { IfOk result (λ n. n ≤ ENTRY_LIMIT) }
 {
     let Some(length) = length else {
         return Ok(total);
@@ -134,12 +135,12 @@ fn test_directive<'a>(
     total: u32,
     directive: &'a Directive,
 ) -> Result<u32, Refusal<'a>>
-    requires { total ≤ 4000000 }
+    requires { total ≤ ENTRY_LIMIT }
     ensures found { found result ≡ directive_fault width (found_in table.now) at total
         (directive_of directive.now) }
     ensures total { IfOk result (λ n. n ≡ total
         + directive_entries width (found_in table.now) (directive_of directive.now)) }
-    ensures few { IfOk result (λ n. n ≤ 4000000) }
+    ensures few { IfOk result (λ n. n ≤ ENTRY_LIMIT) }
 {
     let name = name_of(directive);
     test_twice(table, at, name)?;

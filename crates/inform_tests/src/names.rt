@@ -5,6 +5,7 @@ use inform_tree::{
 };
 use itoa::Buffer;
 use std::alloc::{AllocError, Global};
+use std::process::Abort;
 use std::test::Fail;
 
 // ---- pieces of programs
@@ -601,8 +602,7 @@ fn value_of(names: &Names<'_>, word: &Name) -> Option<Value> {
 }
 
 // What the look-ups of the accepted sample give.
-fn look_up(rt: &HostRuntime, accepted: &Accepted) -> Result<(), Fail> {
-    let alloc = rt.alloc();
+fn look_up(rt: &impl Abort, alloc: Global, accepted: &Accepted) -> Result<(), Fail> {
     let names = Names::of(alloc, accepted)?;
     assert_eq!(rt; names.accepted().program().directives.len(), 5);
     assert_eq!(rt; names.word(&Const::Minus(2)), -2);
@@ -636,7 +636,7 @@ fn names_are_looked_up(rt: HostRuntime) -> Result<(), Fail> {
         match accept(rt.alloc(), sample(rt.alloc())?, width) {
             Ok(accepted) => {
                 assert_eq!(rt; accepted.width(), width);
-                look_up(&rt, &accepted)?;
+                look_up(&rt, rt.alloc(), &accepted)?;
             }
             Err((_program, _fault)) => assert!(rt; false),
         }
