@@ -243,14 +243,14 @@ fn put_cases(out: &mut Vec<u8>, cases: &Vec<Case>) -> Result<(), Memory>
 
 // Prints the `default` of a `switch`, up to its closing brace.
 #[cycle(statements)]
-fn put_default(out: &mut Vec<u8>, body: &Vec<Stmt>) -> Result<(), Memory>
+fn put_default(out: &mut Vec<u8>, rest: &Vec<Stmt>) -> Result<(), Memory>
     ensures { OnOk result (Prints
-        (λ rest. default_lexemes (SomeDefault (statements_of body.now.items))
-        (Sign RightBrace ∷ rest))
+        (λ after. default_lexemes (SomeDefault (statements_of rest.now.items))
+        (Sign RightBrace ∷ after))
         out.old.items out.new.items) }
 {
     put_default_label(out)?;
-    put_statements(out, body)?;
+    put_statements(out, rest)?;
     put_sign(out, Symbol::RightBrace)?;
     Ok(())
 }

@@ -1,7 +1,6 @@
 -- The laws of texts, from those of tokens and of the grammar.
-use Rattle.std.proofs.Common.{◌≡◌, ℕ, List, Result, Ok, Err, ◌⊎◌, inl, inr, sym, ap, subst, ◌∙◌, refl}
+use Rattle.std.proofs.Common.{◌≡◌, ℕ, List, Ok, Err, ◌⊎◌, inl, inr, sym, ap, subst, ◌∙◌, refl}
 use Rattle.inform_tree.specs.Programs.{DirectiveTree}
-use Rattle.inform_lexemes.specs.Lexemes.{Lexeme}
 use Rattle.inform_lexer.specs.declared.kinds.Token.{Token}
 use Rattle.inform_lexer.specs.declared.faults.LexFault.{LexFault}
 use Rattle.inform_lexer.specs.Tokens.{Spelled}
