@@ -7,7 +7,8 @@ use Rattle.inform_tree.specs.declared.values.ProdOp.{ProdOp}
 use Rattle.inform_tree.specs.declared.values.Expr.{Expr}
 use Rattle.inform_tree.specs.declared.statements.Item.{Item}
 use Rattle.inform_tree.specs.Values.{Expression, expression_of}
-use Rattle.inform_tree.specs.Statements.{PrintItem, print_item_of}
+use Rattle.inform_tree.specs.Statements.{Statement, PrintItem, print_item_of, statement_of}
+use Rattle.inform_tree.specs.declared.statements.Stmt.{Stmt}
 
 -- a constant is its own tree
 abbrev pub same_tree : Const → Const
@@ -30,3 +31,6 @@ terms_of xs = map term_of xs.items
 
 abbrev pub items_in : Vec Item → List PrintItem
 items_in xs = map print_item_of xs.items
+
+abbrev pub statements_in : Vec Stmt → List Statement
+statements_in xs = map statement_of xs.items

@@ -1,11 +1,14 @@
 //! The parser of the Inform profile: the tree of the program that a list of tokens is, or the first fault.
 #![tactic(auto)]
 
+mod begins;
+mod bodies;
 mod changes;
 mod choices;
 mod conditions;
 mod cursor;
 mod guards;
+mod heads;
 mod parts;
 mod printing;
 mod simple;
