@@ -10,4 +10,6 @@ pub mod ChoiceSteps
 pub mod BeginSteps
 pub mod CaseSteps
 pub mod BodySteps
+pub mod DirectiveSteps
+pub mod Answered
 pub mod TreesMade

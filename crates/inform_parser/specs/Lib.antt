@@ -3,6 +3,8 @@ pub mod Reading
 pub mod Nexts
 pub mod Views
 pub mod Begins
+pub mod FaultTexts
+pub mod Programs
 pub mod Guards
 pub mod Parts
 pub mod Plans
