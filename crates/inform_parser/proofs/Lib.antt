@@ -7,4 +7,9 @@ pub mod ValueSteps
 pub mod ConditionSteps
 pub mod StatementSteps
 pub mod ChoiceSteps
+pub mod BeginSteps
+pub mod CaseSteps
+pub mod BodySteps
+pub mod DirectiveSteps
+pub mod Answered
 pub mod TreesMade

@@ -18,14 +18,15 @@ use Rattle.inform_tree.specs.Conditions.{Condition, condition_step, condition_of
 use Rattle.inform_parser.specs.Guards.{conditions_in}
 use Rattle.inform_tree.specs.declared.statements.Change.{Change}
 use Rattle.inform_tree.specs.declared.statements.Item.{Item}
+use Rattle.inform_tree.specs.declared.statements.Case.{Case}
 use Rattle.inform_tree.specs.declared.statements.Stmt.{Stmt}
 use Rattle.inform_tree.specs.declared.statements.Stmt.TheVariants as sv
 use Rattle.inform_tree.specs.declared.statements.Stmt.TheOpen as so
 use Rattle.inform_tree.specs.declared.statements.Stmt.TheFolds.{fold-roll-Stmt}
 use Rattle.inform_tree.specs.Statements as s
-use Rattle.inform_tree.specs.Statements.{Statement, Statements, Choice, statement_step, case_step, statement_of, statements_of, assignment_of}
+use Rattle.inform_tree.specs.Statements.{Statement, Statements, Choice, statement_step, case_step, statement_of, statements_of, assignment_of, cases_of}
 use Rattle.inform_tree.specs.Values as v
-use Rattle.inform_tree.proofs.Views.{expression_of_sum, expression_of_product}
+use Rattle.inform_tree.proofs.Views.{expression_of_sum, expression_of_product, statement_of_if, statement_of_while, statement_of_do, statement_of_for, statement_of_switch, statement_of_switch_with_default}
 use Rattle.inform_grammar.specs.Trees.{product_of, sum_of}
 use Rattle.inform_parser.specs.Views.{factor_of, term_of, factors_of, terms_of, expressions_of, items_in}
 
@@ -164,3 +165,8 @@ pub statement_of_read : (x y : List ℕ) → statement_of (sv.Read x y) ≡ s.Re
 statement_of_read x y = ap statement_of (sym (sv.rolls-Read x y)) ∙ fold-roll-Stmt Statement (List Choice × Statements) statement_step case_step (so.Read x y)
 
 pub ruleset statements = (statement_of_empty, statement_of_break, statement_of_continue, statement_of_quit, statement_of_rtrue, statement_of_rfalse, statement_of_newline, statement_of_block, statement_of_change, statement_of_call, statement_of_no_value, statement_of_return, statement_of_print, statement_of_read)
+
+pub no_cases : (xs : List Case) → xs ≡ [] → cases_of xs ≡ s.NoCases
+no_cases xs e = rw e refl
+
+pub ruleset bodies = (statement_of_if, statement_of_while, statement_of_do, statement_of_for, statement_of_switch, statement_of_switch_with_default, condition_of_nonzero)

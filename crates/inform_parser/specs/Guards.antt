@@ -1,5 +1,5 @@
 -- The trees of what stands where a condition is expected.
-use Rattle.std.specs.Prelude.{List, map}
+use Rattle.std.specs.Prelude.{List, map, Option, option_map}
 use Rattle.std.specs.Global.{Vec}
 use Rattle.inform_tree.specs.declared.conditions.Cond.{Cond}
 use Rattle.inform_tree.specs.Values.{expression_of}
@@ -21,3 +21,6 @@ join_of j.Any = AnyOf
 
 abbrev pub conditions_in : Vec Cond → List Condition
 conditions_in xs = map condition_of xs.items
+
+abbrev pub guard_if_any : Option Guard → Option t.Guard
+guard_if_any = option_map guard_of

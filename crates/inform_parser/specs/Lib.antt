@@ -2,6 +2,9 @@ pub mod Glances
 pub mod Reading
 pub mod Nexts
 pub mod Views
+pub mod Begins
+pub mod FaultTexts
+pub mod Programs
 pub mod Guards
 pub mod Parts
 pub mod Plans

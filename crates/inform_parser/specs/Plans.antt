@@ -1,18 +1,18 @@
 -- Plans that have a method of their own.
-use Rattle.std.specs.Prelude.{Bool, List, Option}
+use Rattle.std.specs.Prelude.{Bool, List, Option, Some, None}
 use Rattle.inform_tree.specs.Conditions.{Condition}
 use Rattle.inform_tree.specs.Statements as s
-use Rattle.inform_tree.specs.Statements.{Statement, Assignment, PrintItem}
+use Rattle.inform_tree.specs.Statements.{Statement, Assignment, PrintItem, Cases}
 use Rattle.inform_tree.specs.Values as v
 use Rattle.inform_tree.specs.Values.{Expression}
-use Rattle.inform_lexemes.specs.declared.symbols.Symbol.TheVariants.{Semicolon, LeftRound, RightRound}
+use Rattle.inform_lexemes.specs.declared.symbols.Symbol.TheVariants.{Semicolon, Colon, LeftRound, RightRound, RightBrace}
 use Rattle.inform_lexemes.specs.declared.keywords.Keyword.TheVariants as w
 use Rattle.inform_lexemes.specs.Lexemes.{Lexeme, is_sign, is_word}
 use Rattle.inform_grammar.specs.Rules as r
 use Rattle.inform_grammar.specs.Lexemes.{heads, connective, other_connective}
-use Rattle.inform_grammar.specs.Trees.{Join}
+use Rattle.inform_grammar.specs.Trees.{Guard, Join}
 use Rattle.inform_grammar.specs.ConditionRules.{value_after}
-use Rattle.inform_grammar.specs.StatementRules.{return_after, print_after, read_after}
+use Rattle.inform_grammar.specs.StatementRules.{statements_to_brace, in_brackets, return_after, print_after, read_after}
 use Rattle.inform_grammar.specs.Plan.{Plan, done, refuse, next, maybe, chain, ◌>>=◌, take, one, optional}
 
 -- a draw, with its word
@@ -67,3 +67,18 @@ simple_statement =
     (next (is_word w.Return) (λ _. return_after)
     (next (is_word w.Read) (λ _. read_after)
     plain_statement))
+
+-- a condition between brackets
+unfoldable pub guard_in_brackets : Plan Guard
+guard_in_brackets = in_brackets done
+
+-- the test in the head of a `for`, if there is one, and its colon
+unfoldable pub test_to_colon : Plan (Option Guard)
+test_to_colon = optional r.Condition (λ x. take (is_sign Colon) (done x))
+
+-- what ends a `switch`, after the tree of its cases
+unfoldable pub default_read : Expression → Cases → Plan Statement
+default_read x cases =
+    next (is_word w.Default)
+    (λ _. take (is_sign Colon) (statements_to_brace (λ xs. done (s.Switch x cases (s.default (Some xs))))))
+    (take (is_sign RightBrace) (done (s.Switch x cases (s.default None))))

@@ -1,13 +1,16 @@
 -- The trees of what the methods give.
-use Rattle.std.specs.Prelude.{List, map}
+use Rattle.std.specs.Prelude.{ℕ, List, map}
 use Rattle.std.specs.Global.{Vec}
 use Rattle.inform_tree.specs.declared.values.Const.{Const}
 use Rattle.inform_tree.specs.declared.values.SumOp.{SumOp}
 use Rattle.inform_tree.specs.declared.values.ProdOp.{ProdOp}
 use Rattle.inform_tree.specs.declared.values.Expr.{Expr}
 use Rattle.inform_tree.specs.declared.statements.Item.{Item}
+use Rattle.inform_tree.specs.declared.programs.Directive.{Directive}
+use Rattle.inform_tree.specs.Programs.{DirectiveTree, directive_of}
 use Rattle.inform_tree.specs.Values.{Expression, expression_of}
-use Rattle.inform_tree.specs.Statements.{PrintItem, print_item_of}
+use Rattle.inform_tree.specs.Statements.{Statement, PrintItem, print_item_of, statement_of}
+use Rattle.inform_tree.specs.declared.statements.Stmt.{Stmt}
 
 -- a constant is its own tree
 abbrev pub same_tree : Const → Const
@@ -30,3 +33,20 @@ terms_of xs = map term_of xs.items
 
 abbrev pub items_in : Vec Item → List PrintItem
 items_in xs = map print_item_of xs.items
+
+abbrev pub statements_in : Vec Stmt → List Statement
+statements_in xs = map statement_of xs.items
+
+-- ---- directives
+
+abbrev pub name_of : List ℕ → List ℕ
+name_of name = name
+
+abbrev pub names_in : Vec (List ℕ) → List (List ℕ)
+names_in xs = xs.items
+
+abbrev pub constants_in : Vec Const → List Const
+constants_in xs = xs.items
+
+abbrev pub directives_in : Vec Directive → List DirectiveTree
+directives_in xs = map directive_of xs.items

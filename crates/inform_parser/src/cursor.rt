@@ -119,6 +119,13 @@ impl<'a> Cursor<'a> {
         }
     }
 
+    /// How many tokens are left.
+    pub fn left(&self) -> usize
+        ensures { result ≡ length self.now.rest }
+    {
+        self.rest.len()
+    }
+
     /// What is seen of the next token.
     pub fn seen(&self) -> Option<Glance>
         ensures { result ≡ first_glance self.now.rest }

@@ -1,13 +1,30 @@
-//! The parser of the Inform profile: the tree of the program that a list of tokens is, or the first fault.
+//! The parser of the Inform profile: the tree of the program that tokens are, or the first fault.
 #![tactic(auto)]
 
+// What it answers.
+mod fault_texts;
+pub mod faults;
+
+// The tokens that are left.
+mod begins;
+mod cursor;
+mod stops;
+
+// The rules of the grammar, from constants up.
+mod bodies;
 mod changes;
 mod choices;
 mod conditions;
-mod cursor;
+mod directives;
 mod guards;
+mod heads;
 mod parts;
 mod printing;
 mod simple;
-mod stops;
 mod values;
+
+// The whole.
+mod parsing;
+
+pub use faults::ParseFault;
+pub use parsing::parse;

@@ -1,0 +1,309 @@
+//! Statements, with their bodies.
+ghost use Rattle.std.specs.Prelude.{◌≡◌, ◌≤◌, ◌<◌, List, [], ◌∷◌, option_map, OnOk, length};
+ghost use Rattle.inform_tree.specs.Values.{expression_of};
+ghost use Rattle.inform_tree.specs.Conditions.{condition_of};
+ghost use Rattle.inform_tree.specs.Statements.{statement_of, assignment_if_any, cases_of};
+ghost use Rattle.inform_grammar.specs.Rules as r;
+ghost use Rattle.inform_grammar.specs.Trees.{condition};
+ghost use Rattle.inform_grammar.specs.StatementRules.{else_after, if_after, while_after, do_after, for_body, for_last, for_test, for_after, switch, cases_after};
+ghost use Rattle.inform_grammar.specs.Plan.{done, one, many};
+ghost use Rattle.inform_parser.specs.Reading.{Gives};
+ghost use Rattle.inform_parser.specs.Guards.{guard_of, guard_if_any};
+ghost use Rattle.inform_parser.specs.Parts.{part_of, parts_in};
+ghost use Rattle.inform_parser.specs.Views.{statements_in};
+ghost use Rattle.inform_parser.specs.Plans.{default_read};
+
+use crate::cursor::Cursor;
+use crate::guards::Guard;
+use crate::parts::{Part, cases};
+use crate::stops::Stop;
+use inform_lexemes::{Keyword, Symbol};
+use inform_tree::{Case, Change, Cond, Expr, Stmt};
+use std::alloc::Global;
+
+// The condition, if there is one.
+fn condition_if_any(guard: Option<Guard>) -> Option<Cond>
+    ensures { option_map condition_of result ≡ option_map condition (guard_if_any guard) }
+{
+    match guard {
+        Some(guard) => Some(guard.into_condition()),
+        None => None,
+    }
+}
+
+impl<'a> Cursor<'a> {
+    // A statement.
+    #[cycle(statements)]
+    #[tactic(auto, using(crate::proofs::Steps::steps, crate::proofs::TreesMade::statements, crate::proofs::BodySteps::statement_as))]
+    fn statement(&mut self, alloc: Global) -> Result<Stmt, Stop>
+        ensures gives { Gives statement_of (one r.Statement done) self.old result self.new }
+        ensures ahead { length self.new.rest ≤ length self.old.rest }
+        ensures taken { OnOk result (length self.new.rest < length self.old.rest) }
+    {
+        if self.at(Symbol::Semicolon) {
+            self.expect(Symbol::Semicolon)?;
+            return Ok(Stmt::Empty);
+        }
+        if self.at(Symbol::LeftBrace) {
+            self.expect(Symbol::LeftBrace)?;
+            let body = self.statements(alloc)?;
+            self.expect(Symbol::RightBrace)?;
+            return Ok(Stmt::Block(body));
+        }
+        if self.at_name() {
+            let name = self.name(alloc)?;
+            return self.statement_after(alloc, name);
+        }
+        if self.at_word(Keyword::If) {
+            self.expect_word(Keyword::If)?;
+            return self.if_after(alloc);
+        }
+        if self.at_word(Keyword::While) {
+            self.expect_word(Keyword::While)?;
+            return self.while_after(alloc);
+        }
+        if self.at_word(Keyword::Do) {
+            self.expect_word(Keyword::Do)?;
+            return self.do_after(alloc);
+        }
+        if self.at_word(Keyword::For) {
+            self.expect_word(Keyword::For)?;
+            return self.for_after(alloc);
+        }
+        if self.at_word(Keyword::Switch) {
+            self.expect_word(Keyword::Switch)?;
+            return self.switch_after(alloc);
+        }
+        self.simple_statement(alloc)
+    }
+
+    /// Statements, as long as one begins with what stands next.
+    #[cycle(statements)]
+    #[tactic(auto, using(crate::proofs::Steps::steps, crate::proofs::BodySteps::statement_loop))]
+    pub fn statements(&mut self, alloc: Global) -> Result<Vec<Stmt>, Stop>
+        ensures gives { Gives statements_in (many r.Statement [] done) self.old result self.new }
+        ensures ahead { length self.new.rest ≤ length self.old.rest }
+    {
+        let mut statements = Vec::new(alloc);
+        while self.at_statement() {
+            let statement = self.statement(alloc)?;
+            statements.push(statement)?;
+        }
+        Ok(statements)
+    }
+
+    // A body: statements in braces, or one other statement.
+    #[cycle(statements)]
+    #[tactic(auto, using(crate::proofs::Steps::steps, crate::proofs::BodySteps::body_as))]
+    fn body(&mut self, alloc: Global) -> Result<Vec<Stmt>, Stop>
+        ensures gives { Gives statements_in (one r.Body done) self.old result self.new }
+        ensures ahead { length self.new.rest ≤ length self.old.rest }
+        ensures taken { OnOk result (length self.new.rest < length self.old.rest) }
+    {
+        if self.at(Symbol::LeftBrace) {
+            self.expect(Symbol::LeftBrace)?;
+            let body = self.statements(alloc)?;
+            self.expect(Symbol::RightBrace)?;
+            return Ok(body);
+        }
+        let statement = self.statement(alloc)?;
+        let mut body = Vec::new(alloc);
+        body.push(statement)?;
+        Ok(body)
+    }
+
+    // What follows the body of an `if`.
+    #[cycle(statements)]
+    #[tactic(auto, using(crate::proofs::Steps::steps, crate::proofs::TreesMade::bodies), unfolding(inform_grammar::specs::StatementRules::else_after))]
+    fn else_after(&mut self, alloc: Global, test: Guard, body: Vec<Stmt>) -> Result<Stmt, Stop>
+        ensures gives { Gives statement_of
+            (else_after (guard_of test) (statements_in body)) self.old result self.new }
+        ensures ahead { length self.new.rest ≤ length self.old.rest }
+    {
+        if self.at_word(Keyword::Else) {
+            self.expect_word(Keyword::Else)?;
+            let other = self.body(alloc)?;
+            self.shut();
+            return Ok(Stmt::If(test.into_condition(), body, other));
+        }
+        self.shut();
+        Ok(Stmt::If(test.into_condition(), body, Vec::new(alloc)))
+    }
+
+    // What follows `if`.
+    #[cycle(statements)]
+    #[tactic(auto, using(crate::proofs::Steps::steps, crate::proofs::BodySteps::if_after_as))]
+    fn if_after(&mut self, alloc: Global) -> Result<Stmt, Stop>
+        ensures gives { Gives statement_of if_after self.old result self.new }
+        ensures ahead { length self.new.rest ≤ length self.old.rest }
+    {
+        let test = self.guard_in_brackets(alloc)?;
+        let body = self.body(alloc)?;
+        self.else_after(alloc, test, body)
+    }
+
+    // What follows `while`.
+    #[cycle(statements)]
+    #[tactic(auto, using(crate::proofs::Steps::steps, crate::proofs::TreesMade::bodies, crate::proofs::BodySteps::while_after_as))]
+    fn while_after(&mut self, alloc: Global) -> Result<Stmt, Stop>
+        ensures gives { Gives statement_of while_after self.old result self.new }
+        ensures ahead { length self.new.rest ≤ length self.old.rest }
+    {
+        let test = self.guard_in_brackets(alloc)?;
+        let body = self.body(alloc)?;
+        self.shut();
+        Ok(Stmt::While(test.into_condition(), body))
+    }
+
+    // What follows `do`.
+    #[cycle(statements)]
+    #[tactic(auto, using(crate::proofs::Steps::steps, crate::proofs::TreesMade::bodies, crate::proofs::BodySteps::do_after_as))]
+    fn do_after(&mut self, alloc: Global) -> Result<Stmt, Stop>
+        ensures gives { Gives statement_of do_after self.old result self.new }
+        ensures ahead { length self.new.rest ≤ length self.old.rest }
+    {
+        let body = self.body(alloc)?;
+        self.expect_word(Keyword::Until)?;
+        let test = self.guard_in_brackets(alloc)?;
+        self.expect(Symbol::Semicolon)?;
+        self.shut();
+        Ok(Stmt::Do(body, test.into_condition()))
+    }
+
+    // The body of a `for`, after its head.
+    #[cycle(statements)]
+    #[tactic(auto, using(crate::proofs::Steps::steps, crate::proofs::TreesMade::bodies), unfolding(inform_grammar::specs::StatementRules::for_body))]
+    fn for_body(&mut self, alloc: Global, first: Option<Change>, test: Option<Guard>, last: Option<Change>) -> Result<Stmt, Stop>
+        ensures gives { Gives statement_of
+            (for_body (assignment_if_any first) (guard_if_any test) (assignment_if_any last)) self.old result self.new }
+        ensures ahead { length self.new.rest ≤ length self.old.rest }
+    {
+        let body = self.body(alloc)?;
+        self.shut();
+        Ok(Stmt::For(first, condition_if_any(test), last, body))
+    }
+
+    // The head of a `for` after its second colon.
+    #[cycle(statements)]
+    #[tactic(auto, using(crate::proofs::Steps::steps, crate::proofs::BodySteps::for_last_as))]
+    fn for_last(&mut self, alloc: Global, first: Option<Change>, test: Option<Guard>) -> Result<Stmt, Stop>
+        ensures gives { Gives statement_of
+            (for_last (assignment_if_any first) (guard_if_any test)) self.old result self.new }
+        ensures ahead { length self.new.rest ≤ length self.old.rest }
+    {
+        let last = self.change_if_any(alloc)?;
+        self.expect(Symbol::RightRound)?;
+        self.for_body(alloc, first, test, last)
+    }
+
+    // The head of a `for` after its first colon.
+    #[cycle(statements)]
+    #[tactic(auto, using(crate::proofs::Steps::steps, crate::proofs::BodySteps::for_test_as))]
+    fn for_test(&mut self, alloc: Global, first: Option<Change>) -> Result<Stmt, Stop>
+        ensures gives { Gives statement_of
+            (for_test (assignment_if_any first)) self.old result self.new }
+        ensures ahead { length self.new.rest ≤ length self.old.rest }
+    {
+        let test = self.test_to_colon(alloc)?;
+        self.for_last(alloc, first, test)
+    }
+
+    // What follows `for`.
+    #[cycle(statements)]
+    #[tactic(auto, using(crate::proofs::Steps::steps, crate::proofs::BodySteps::for_after_as))]
+    fn for_after(&mut self, alloc: Global) -> Result<Stmt, Stop>
+        ensures gives { Gives statement_of for_after self.old result self.new }
+        ensures ahead { length self.new.rest ≤ length self.old.rest }
+    {
+        self.expect(Symbol::LeftRound)?;
+        let first = self.change_if_any(alloc)?;
+        self.expect(Symbol::Colon)?;
+        self.for_test(alloc, first)
+    }
+
+    // What follows `switch`.
+    #[cycle(statements)]
+    #[tactic(auto, using(crate::proofs::Steps::steps), unfolding(inform_grammar::specs::StatementRules::switch))]
+    fn switch_after(&mut self, alloc: Global) -> Result<Stmt, Stop>
+        ensures gives { Gives statement_of switch self.old result self.new }
+        ensures ahead { length self.new.rest ≤ length self.old.rest }
+    {
+        self.expect(Symbol::LeftRound)?;
+        let value = self.value(alloc)?;
+        self.expect(Symbol::RightRound)?;
+        self.expect(Symbol::LeftBrace)?;
+        self.cases_after(alloc, value)
+    }
+
+    // What stands in the braces of a `switch`.
+    #[cycle(statements)]
+    #[tactic(auto, using(crate::proofs::Steps::steps, crate::proofs::BodySteps::cases_steps))]
+    fn cases_after(&mut self, alloc: Global, value: Expr) -> Result<Stmt, Stop>
+        ensures gives { Gives statement_of
+            (cases_after (expression_of value)) self.old result self.new }
+        ensures ahead { length self.new.rest ≤ length self.old.rest }
+    {
+        if !self.at_bare_constant() && !self.at_name() {
+            return self.default_after(alloc, value, Vec::new(alloc));
+        }
+        let first = self.choice(alloc)?;
+        let choices = self.choices_after(alloc, first)?;
+        let parts = self.parts(alloc)?;
+        let cases = cases(alloc, choices, parts)?;
+        self.default_after(alloc, value, cases)
+    }
+
+    // What ends a `switch`.
+    #[cycle(statements)]
+    #[tactic(auto, using(crate::proofs::Steps::steps, crate::proofs::TreesMade::bodies), unfolding(crate::specs::Plans::default_read))]
+    fn default_after(&mut self, alloc: Global, value: Expr, cases: Vec<Case>) -> Result<Stmt, Stop>
+        ensures gives { Gives statement_of
+            (default_read (expression_of value) (cases_of cases.items)) self.old result self.new }
+        ensures ahead { length self.new.rest ≤ length self.old.rest }
+    {
+        if self.at_word(Keyword::Default) {
+            self.expect_word(Keyword::Default)?;
+            self.expect(Symbol::Colon)?;
+            let body = self.statements(alloc)?;
+            self.expect(Symbol::RightBrace)?;
+            return Ok(Stmt::Switch(value, cases, Some(body)));
+        }
+        self.expect(Symbol::RightBrace)?;
+        Ok(Stmt::Switch(value, cases, None))
+    }
+
+    // What stands in the braces of a `switch`: the choices of a case, or a statement.
+    #[cycle(statements)]
+    #[tactic(auto, using(crate::proofs::Steps::steps, crate::proofs::BodySteps::part_steps))]
+    fn part(&mut self, alloc: Global) -> Result<Part, Stop>
+        ensures gives { Gives part_of (one r.Part done) self.old result self.new }
+        ensures ahead { length self.new.rest ≤ length self.old.rest }
+        ensures taken { OnOk result (length self.new.rest < length self.old.rest) }
+    {
+        if self.at_name() {
+            let name = self.name(alloc)?;
+            return self.part_after(alloc, name);
+        }
+        if self.at_bare_constant() {
+            let first = self.constant(alloc)?;
+            return self.head_after(alloc, first);
+        }
+        let statement = self.statement(alloc)?;
+        Ok(Part::Said(statement))
+    }
+
+    // What stands in the braces of a `switch` after the choices of its first case.
+    #[cycle(statements)]
+    #[tactic(auto, using(crate::proofs::Steps::steps, crate::proofs::BodySteps::part_loop))]
+    fn parts(&mut self, alloc: Global) -> Result<Vec<Part>, Stop>
+        ensures gives { Gives parts_in (many r.Part [] done) self.old result self.new }
+        ensures ahead { length self.new.rest ≤ length self.old.rest }
+    {
+        let mut parts = Vec::new(alloc);
+        while self.at_part() {
+            let part = self.part(alloc)?;
+            parts.push(part)?;
+        }
+        Ok(parts)
+    }
+}

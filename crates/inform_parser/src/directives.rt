@@ -1,0 +1,169 @@
+//! Directives, and the program that they are.
+ghost use Rattle.std.specs.Prelude.{◌≡◌, ◌≤◌, ◌<◌, List, [], ◌∷◌, OnOk, length};
+ghost use Rattle.inform_tree.specs.Programs.{directive_of, program_of};
+ghost use Rattle.inform_grammar.specs.Rules as r;
+ghost use Rattle.inform_grammar.specs.Rule.{constant_after, global_after, array_after, routine_after, program};
+ghost use Rattle.inform_grammar.specs.Plan.{done, one, many};
+ghost use Rattle.inform_parser.specs.Reading.{Gives};
+ghost use Rattle.inform_parser.specs.Views.{name_of, names_in, constants_in, directives_in};
+
+use crate::cursor::Cursor;
+use crate::stops::Stop;
+use inform_lexemes::{Keyword, Symbol};
+use inform_tree::{Const, Directive, Name, Program, Routine};
+use std::alloc::Global;
+
+impl<'a> Cursor<'a> {
+    // The further entries of an array, of which one is read.
+    #[tactic(auto, using(crate::proofs::Steps::steps, crate::proofs::DirectiveSteps::entry_loop))]
+    fn entries(&mut self, alloc: Global, first: Const) -> Result<Vec<Const>, Stop>
+        ensures gives { Gives constants_in
+            (many r.Entry (first ∷ []) done) self.old result self.new }
+        ensures ahead { length self.new.rest ≤ length self.old.rest }
+    {
+        let mut entries = Vec::new(alloc);
+        entries.push(first)?;
+        while self.at_entry() {
+            let entry = self.entry(alloc)?;
+            entries.push(entry)?;
+        }
+        Ok(entries)
+    }
+
+    // A local of a routine.
+    #[tactic(auto, using(crate::proofs::Steps::steps, crate::proofs::DirectiveSteps::local_as))]
+    fn local(&mut self, alloc: Global) -> Result<Name, Stop>
+        ensures gives { Gives name_of (one r.Local done) self.old result self.new }
+        ensures ahead { length self.new.rest ≤ length self.old.rest }
+        ensures taken { OnOk result (length self.new.rest < length self.old.rest) }
+    {
+        self.name(alloc)
+    }
+
+    // The locals of a routine.
+    #[tactic(auto, using(crate::proofs::Steps::steps, crate::proofs::DirectiveSteps::local_loop))]
+    fn locals(&mut self, alloc: Global) -> Result<Vec<Name>, Stop>
+        ensures gives { Gives names_in (many r.Local [] done) self.old result self.new }
+        ensures ahead { length self.new.rest ≤ length self.old.rest }
+    {
+        let mut locals = Vec::new(alloc);
+        while self.at_name() {
+            let local = self.local(alloc)?;
+            locals.push(local)?;
+        }
+        Ok(locals)
+    }
+
+    // What follows `constant`.
+    #[tactic(auto, using(crate::proofs::Steps::steps), unfolding(inform_grammar::specs::Rule::constant_after))]
+    fn constant_after(&mut self, alloc: Global) -> Result<Directive, Stop>
+        ensures gives { Gives directive_of constant_after self.old result self.new }
+        ensures ahead { length self.new.rest ≤ length self.old.rest }
+        ensures taken { OnOk result (length self.new.rest < length self.old.rest) }
+    {
+        let name = self.name(alloc)?;
+        self.expect(Symbol::Assign)?;
+        let value = self.constant(alloc)?;
+        self.expect(Symbol::Semicolon)?;
+        Ok(Directive::Constant(name, value))
+    }
+
+    // What follows `global`.
+    #[tactic(auto, using(crate::proofs::Steps::steps), unfolding(inform_grammar::specs::Rule::global_after))]
+    fn global_after(&mut self, alloc: Global) -> Result<Directive, Stop>
+        ensures gives { Gives directive_of global_after self.old result self.new }
+        ensures ahead { length self.new.rest ≤ length self.old.rest }
+        ensures taken { OnOk result (length self.new.rest < length self.old.rest) }
+    {
+        let name = self.name(alloc)?;
+        if self.at(Symbol::Assign) {
+            self.expect(Symbol::Assign)?;
+            let value = self.constant(alloc)?;
+            self.expect(Symbol::Semicolon)?;
+            return Ok(Directive::Global(name, Some(value)));
+        }
+        self.expect(Symbol::Semicolon)?;
+        Ok(Directive::Global(name, None))
+    }
+
+    // What follows `array`.
+    #[tactic(auto, using(crate::proofs::Steps::steps, crate::proofs::DirectiveSteps::array_after_as))]
+    fn array_after(&mut self, alloc: Global) -> Result<Directive, Stop>
+        ensures gives { Gives directive_of array_after self.old result self.new }
+        ensures ahead { length self.new.rest ≤ length self.old.rest }
+        ensures taken { OnOk result (length self.new.rest < length self.old.rest) }
+    {
+        let name = self.name(alloc)?;
+        let words = self.arrow()?;
+        let first = self.entry(alloc)?;
+        let entries = self.entries(alloc, first)?;
+        self.expect(Symbol::Semicolon)?;
+        Ok(Directive::Array(name, words, entries))
+    }
+
+    // What follows the opening bracket of a routine.
+    #[tactic(auto, using(crate::proofs::Steps::steps), unfolding(inform_grammar::specs::Rule::routine_after))]
+    fn routine_after(&mut self, alloc: Global) -> Result<Directive, Stop>
+        ensures gives { Gives directive_of routine_after self.old result self.new }
+        ensures ahead { length self.new.rest ≤ length self.old.rest }
+        ensures taken { OnOk result (length self.new.rest < length self.old.rest) }
+    {
+        let name = self.name(alloc)?;
+        let locals = self.locals(alloc)?;
+        self.expect(Symbol::Semicolon)?;
+        let body = self.statements(alloc)?;
+        self.expect(Symbol::RightSquare)?;
+        self.expect(Symbol::Semicolon)?;
+        Ok(Directive::Routine(Routine { name, locals, body }))
+    }
+
+    // A directive.
+    #[tactic(auto, using(crate::proofs::Steps::steps, crate::proofs::DirectiveSteps::directive_as))]
+    fn directive(&mut self, alloc: Global) -> Result<Directive, Stop>
+        ensures gives { Gives directive_of (one r.Directive done) self.old result self.new }
+        ensures ahead { length self.new.rest ≤ length self.old.rest }
+        ensures taken { OnOk result (length self.new.rest < length self.old.rest) }
+    {
+        if self.at_word(Keyword::Constant) {
+            self.expect_word(Keyword::Constant)?;
+            return self.constant_after(alloc);
+        }
+        if self.at_word(Keyword::Global) {
+            self.expect_word(Keyword::Global)?;
+            return self.global_after(alloc);
+        }
+        if self.at_word(Keyword::Array) {
+            self.expect_word(Keyword::Array)?;
+            return self.array_after(alloc);
+        }
+        self.expect(Symbol::LeftSquare)?;
+        self.routine_after(alloc)
+    }
+
+    // The directives of a program.
+    #[tactic(auto, using(crate::proofs::Steps::steps, crate::proofs::DirectiveSteps::directive_loop))]
+    fn directives(&mut self, alloc: Global) -> Result<Vec<Directive>, Stop>
+        ensures gives { Gives directives_in (many r.Directive [] done) self.old result self.new }
+        ensures ahead { length self.new.rest ≤ length self.old.rest }
+    {
+        let mut directives = Vec::new(alloc);
+        while self.at_directive() {
+            let directive = self.directive(alloc)?;
+            directives.push(directive)?;
+        }
+        Ok(directives)
+    }
+
+    /// A program, and nothing after it.
+    #[tactic(auto, using(crate::proofs::Steps::steps, crate::proofs::DirectiveSteps::program_steps), unfolding(inform_grammar::specs::Rule::program))]
+    pub fn program(&mut self, alloc: Global) -> Result<Program, Stop>
+        ensures gives { Gives program_of program self.old result self.new }
+        ensures ahead { length self.new.rest ≤ length self.old.rest }
+    {
+        let directives = self.directives(alloc)?;
+        if self.seen().is_some() {
+            return Err(Stop::Unexpected);
+        }
+        Ok(Program { directives })
+    }
+}
