@@ -1,0 +1,8 @@
+//! The world of a run of an Inform program: its globals, its arrays and the locals of the routine that runs.
+#![tactic(auto)]
+
+mod arguments;
+mod scopes;
+
+pub use arguments::Arguments;
+pub use scopes::Scope;
