@@ -11,7 +11,8 @@ use Rattle.inform_names.specs.Meanings.{meanings}
 use Rattle.inform_names.specs.Laws.{IsMeaningOf}
 use Rattle.inform_names.proofs.Meant.{of_directives}
 
-inside : {A B : Type 0} (f : A → B) (xs : List A) (i : ℕ) (y : B) (o : Option A) → slice_get xs i ≡ o → option_map f o ≡ Some y → i < length xs
+inside : {A B : Type 0} (f : A → B) (xs : List A) (i : ℕ) (y : B) (o : Option A)
+    → slice_get xs i ≡ o → option_map f o ≡ Some y → i < length xs
 inside f xs i y None is e = absurd (cc)
 inside f xs i y (Some x) is e = slice_get_within xs i x is
 
@@ -20,16 +21,21 @@ pub within : (width : Width) (directives : List Directive) (name : List ℕ) (m 
     → meanings width (map directive_of directives) name ≡ Some m → m.at < length directives
 within width directives name m e =
     let f = of_directives width (map directive_of directives) name m e in
-    inside directive_of directives m.at f.0 (slice_get directives m.at) refl (sym (slice_get-map directive_of directives m.at) ∙ f.1.0)
+    inside directive_of directives m.at f.0 (slice_get directives m.at) refl
+    (sym (slice_get-map directive_of directives m.at) ∙ f.1.0)
 
 -- the directive of a number
-pub at_number : (directives : List Directive) (n at : ℕ) (x : Directive) → n ≡ length directives → at < n → x ≡ get_or directives at x
+pub at_number : (directives : List Directive) (n at : ℕ) (x : Directive) → n ≡ length directives
+    → at < n → x ≡ get_or directives at x
     → slice_get (map directive_of directives) at ≡ Some (directive_of x)
-at_number directives n at x size low e = slice_get-map directive_of directives at ∙ ap (option_map directive_of) (slice_get_read directives n at x size low e)
+at_number directives n at x size low e = slice_get-map directive_of directives at
+    ∙ ap (option_map directive_of) (slice_get_read directives n at x size low e)
 
 -- the directive with the number of a meaning is the one that is meant
-pub meant : (width : Width) (program : List DirectiveTree) (name : List ℕ) (m : Meaning) (x : DirectiveTree)
-    → meanings width program name ≡ Some m → slice_get program m.at ≡ Some x → IsMeaningOf width program name m x
+pub meant : (width : Width) (program : List DirectiveTree) (name : List ℕ) (m : Meaning)
+    (x : DirectiveTree)
+    → meanings width program name ≡ Some m → slice_get program m.at ≡ Some x
+    → IsMeaningOf width program name m x
 meant width program name m x e here =
     let f = of_directives width program name m e in
     let same : f.0 ≡ x = cc (f.1.0, here) in

@@ -8,4 +8,5 @@ use Rattle.inform_names.specs.Acceptance.{name_fault}
 
 -- the fault that was answered is the first of the program, unless memory ran out
 abbrev pub IsFirstFault : Width → List DirectiveTree → NameFault → Type 0
-IsFirstFault width program answer = IfSome (fault_of answer) (λ fault. name_fault width program ≡ Some fault)
+IsFirstFault width program answer =
+    IfSome (fault_of answer) (λ fault. name_fault width program ≡ Some fault)

@@ -1,4 +1,5 @@
--- What each place of a program demands of what stands there, in the order of its text. It takes no names to know.
+-- What each place of a program demands of what stands there, in the order of its text. It takes no
+-- names to know.
 use Rattle.std.specs.Prelude.{ℕ, ◌+◌, Bool, true, false, List, [], ◌∷◌, Option, Some, None}
 use Rattle.inform_tree.specs.declared.values.Const.{Const}
 use Rattle.inform_tree.specs.declared.values.Const.TheVariants as k
@@ -63,8 +64,10 @@ abbrev mutual
   expression_demands (v.Number n) = One (Number n)
   expression_demands (v.Char byte) = Nothing
   expression_demands (v.Name name) = One (Value name)
-  expression_demands (v.Entry name words index) = Both (One (Array name words)) (expression_demands index)
-  expression_demands (v.Call name xs) = Both (One (Call name (argument_count xs))) (arguments_demands xs)
+  expression_demands (v.Entry name words index) =
+      Both (One (Array name words)) (expression_demands index)
+  expression_demands (v.Call name xs) =
+      Both (One (Call name (argument_count xs))) (arguments_demands xs)
   expression_demands (v.Random limit) = expression_demands limit
   expression_demands (v.Neg operand) = expression_demands operand
   expression_demands (v.Sum first xs) = Both (expression_demands first) (terms_demands xs)
@@ -86,7 +89,8 @@ abbrev mutual
 
 abbrev mutual
   pub condition_demands : Condition → Demands
-  condition_demands (c.Compare relation left right) = Both (expression_demands left) (expression_demands right)
+  condition_demands (c.Compare relation left right) =
+      Both (expression_demands left) (expression_demands right)
   condition_demands (c.Nonzero x) = expression_demands x
   condition_demands (c.All xs) = conditions_demands xs
   condition_demands (c.Any xs) = conditions_demands xs
@@ -100,7 +104,8 @@ abbrev mutual
 
 abbrev pub assignment_demands : Assignment → Demands
 assignment_demands (s.Set name x) = Both (One (Variable name)) (expression_demands x)
-assignment_demands (s.SetEntry name words index x) = Both (One (Array name words)) (Both (expression_demands index) (expression_demands x))
+assignment_demands (s.SetEntry name words index x) =
+    Both (One (Array name words)) (Both (expression_demands index) (expression_demands x))
 assignment_demands (s.Inc name) = One (Variable name)
 assignment_demands (s.Dec name) = One (Variable name)
 
@@ -122,11 +127,13 @@ choices_demands (x ∷ xs) = Both (choice_demands x) (choices_demands xs)
 
 -- what stands in the brackets of a `for`
 abbrev pub head_demands : Option Assignment → Option Condition → Option Assignment → Demands
-head_demands first test next = Both (optional_demands assignment_demands first) (Both (optional_demands condition_demands test) (optional_demands assignment_demands next))
+head_demands first test next = Both (optional_demands assignment_demands first)
+    (Both (optional_demands condition_demands test) (optional_demands assignment_demands next))
 
 -- the same of a head of the program
 abbrev pub head_demands_of : Option Change → Option Cond → Option Change → Demands
-head_demands_of first test next = head_demands (assignment_if_any first) (condition_if_any test) (assignment_if_any next)
+head_demands_of first test next =
+    head_demands (assignment_if_any first) (condition_if_any test) (assignment_if_any next)
 
 -- ---- statements, each with the loops and `switch`es round it
 
@@ -147,12 +154,18 @@ abbrev mutual
   statement_demands e s.Empty = Nothing
   statement_demands e (s.Block body) = statements_demands e body
   statement_demands e (s.Assign change) = assignment_demands change
-  statement_demands e (s.Call name xs) = Both (One (Call name (argument_count xs))) (arguments_demands xs)
-  statement_demands e (s.If test body other) = Both (condition_demands test) (Both (statements_demands e body) (statements_demands e other))
-  statement_demands e (s.While test body) = Both (condition_demands test) (statements_demands a_loop body)
-  statement_demands e (s.Do body test) = Both (statements_demands a_loop body) (condition_demands test)
-  statement_demands e (s.For first test next body) = Both (head_demands first test next) (statements_demands a_loop body)
-  statement_demands e (s.Switch x xs rest) = Both (expression_demands x) (Both (cases_demands (switch_in e) xs) (default_demands (switch_in e) rest))
+  statement_demands e (s.Call name xs) =
+      Both (One (Call name (argument_count xs))) (arguments_demands xs)
+  statement_demands e (s.If test body other) =
+      Both (condition_demands test) (Both (statements_demands e body) (statements_demands e other))
+  statement_demands e (s.While test body) =
+      Both (condition_demands test) (statements_demands a_loop body)
+  statement_demands e (s.Do body test) =
+      Both (statements_demands a_loop body) (condition_demands test)
+  statement_demands e (s.For first test next body) =
+      Both (head_demands first test next) (statements_demands a_loop body)
+  statement_demands e (s.Switch x xs rest) = Both (expression_demands x)
+      (Both (cases_demands (switch_in e) xs) (default_demands (switch_in e) rest))
   statement_demands e s.Break = One (Leave e.nearest_is_loop)
   statement_demands e s.Continue = One (Leave e.in_loop)
   statement_demands e s.Quit = Nothing
@@ -165,11 +178,13 @@ abbrev mutual
 
   pub statements_demands : Enclosure → Statements → Demands
   statements_demands e s.NoStatements = Nothing
-  statements_demands e (s.MoreStatements x xs) = Both (statement_demands e x) (statements_demands e xs)
+  statements_demands e (s.MoreStatements x xs) =
+      Both (statement_demands e x) (statements_demands e xs)
 
   pub cases_demands : Enclosure → Cases → Demands
   cases_demands e s.NoCases = Nothing
-  cases_demands e (s.MoreCases choices body xs) = Both (choices_demands choices) (Both (statements_demands e body) (cases_demands e xs))
+  cases_demands e (s.MoreCases choices body xs) =
+      Both (choices_demands choices) (Both (statements_demands e body) (cases_demands e xs))
 
   pub default_demands : Enclosure → Default → Demands
   default_demands e s.NoDefault = Nothing

@@ -1,4 +1,5 @@
--- What is said of a fault, in three pieces: what stands before the name or number, that, and what stands after it.
+-- What is said of a fault, in three pieces: what stands before the name or number, that, and what
+-- stands after it.
 use Rattle.std.specs.Prelude.{ℕ, List, [], ◌∷◌, codes, decimal}
 use Rattle.inform_names.specs.declared.faults.NameFault.{NameFault}
 use Rattle.inform_names.specs.declared.faults.NameFault.TheVariants.{Twice, Missing, Kind, TooManyLocals, TooManyArguments, WideNumber, Size, Outside, TooDeep, MainLocals, NoMain, Memory}

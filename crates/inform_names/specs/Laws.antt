@@ -28,16 +28,19 @@ IsMeaningOf width program name m directive = (slice_get program m.at ≡ Some di
 
 -- each meaning is that of a directive of the program
 abbrev pub MeaningsAreOfDirectives : Type 0
-MeaningsAreOfDirectives = (width : Width) (program : List DirectiveTree) (name : List ℕ) (m : Meaning)
+MeaningsAreOfDirectives =
+    (width : Width) (program : List DirectiveTree) (name : List ℕ) (m : Meaning)
     → meanings width program name ≡ Some m
     → (directive : DirectiveTree) × IsMeaningOf width program name m directive
 
 -- the directive is the first with the name, and a name that no directive has means nothing
 abbrev pub MeaningsAreFirst : Type 0
 MeaningsAreFirst = (width : Width) (program : List DirectiveTree) (name : List ℕ)
-    → option_map (λ m. m.at) (meanings width program name) ≡ position_from (λ directive. bytes_eq name (name_of directive)) 0 program
+    → option_map (λ m. m.at) (meanings width program name)
+    ≡ position_from (λ directive. bytes_eq name (name_of directive)) 0 program
 
--- what the directives before number `at` say of a name is what the whole program says of it, if that stands before
+-- what the directives before number `at` say of a name is what the whole program says of it, if
+-- that stands before
 abbrev pub EarlierMeaningsStay : Type 0
 EarlierMeaningsStay = (width : Width) (program : List DirectiveTree) (at : ℕ) (name : List ℕ)
     → earlier at (meanings width program name) ≡ meanings width (take at program) name
@@ -47,32 +50,39 @@ EarlierMeaningsStay = (width : Width) (program : List DirectiveTree) (at : ℕ) 
 -- how many entries these directives have together
 abbrev pub total_entries : Width → Known → List DirectiveTree → ℕ
 total_entries width known [] = 0
-total_entries width known (directive ∷ directives) = directive_entries width known directive + total_entries width known directives
+total_entries width known (directive ∷ directives) =
+    directive_entries width known directive + total_entries width known directives
 
 -- no directive of such a program has a fault
 abbrev pub DirectivesAreFaultless : Type 0
-DirectivesAreFaultless = (width : Width) (program : List DirectiveTree) (at : ℕ) (directive : DirectiveTree)
+DirectivesAreFaultless =
+    (width : Width) (program : List DirectiveTree) (at : ℕ) (directive : DirectiveTree)
     → name_fault width program ≡ None
     → slice_get program at ≡ Some directive
-    → directive_fault width (meanings width program) at (total_entries width (meanings width program) (take at program)) directive ≡ None
+    → directive_fault width (meanings width program) at
+    (total_entries width (meanings width program) (take at program)) directive ≡ None
 
 -- the name of each directive means that directive
 abbrev pub NamesMeanTheirDirectives : Type 0
-NamesMeanTheirDirectives = (width : Width) (program : List DirectiveTree) (at : ℕ) (directive : DirectiveTree)
+NamesMeanTheirDirectives =
+    (width : Width) (program : List DirectiveTree) (at : ℕ) (directive : DirectiveTree)
     → name_fault width program ≡ None
     → slice_get program at ≡ Some directive
-    → meanings width program (name_of directive) ≡ Some (record { at = at; kind = kind_of width (meanings width (take at program)) directive })
+    → meanings width program (name_of directive)
+    ≡ Some (record { at = at; kind = kind_of width (meanings width (take at program)) directive })
 
 -- each constant has a word
 abbrev pub ConstantsHaveWords : Type 0
-ConstantsHaveWords = (width : Width) (program : List DirectiveTree) (name : List ℕ) (at : ℕ) (value : Option ℤ)
+ConstantsHaveWords =
+    (width : Width) (program : List DirectiveTree) (name : List ℕ) (at : ℕ) (value : Option ℤ)
     → name_fault width program ≡ None
     → meanings width program name ≡ Some (record { at = at; kind = k.Constant value })
     → IsSome value
 
 -- so does what stands where a constant is demanded
 abbrev pub FineConstantsHaveWords : Type 0
-FineConstantsHaveWords = (width : Width) (program : List DirectiveTree) (scope : Scope) (constant : Const)
+FineConstantsHaveWords =
+    (width : Width) (program : List DirectiveTree) (scope : Scope) (constant : Const)
     → name_fault width program ≡ None
     → scope.known ≡ meanings width program
     → IsFine scope (constant_demands constant)
@@ -80,7 +90,8 @@ FineConstantsHaveWords = (width : Width) (program : List DirectiveTree) (scope :
 
 -- each array has a length in 1..32767
 abbrev pub ArraysHaveLengths : Type 0
-ArraysHaveLengths = (width : Width) (program : List DirectiveTree) (at : ℕ) (name : List ℕ) (words : Bool) (entries : List Const)
+ArraysHaveLengths = (width : Width) (program : List DirectiveTree) (at : ℕ) (name : List ℕ)
+    (words : Bool) (entries : List Const)
     → name_fault width program ≡ None
     → slice_get program at ≡ Some (d.Array name words entries)
     → IsLength (array_length width (meanings width program) entries)
@@ -94,19 +105,23 @@ RoutinesAreShallow = (width : Width) (program : List DirectiveTree) (at : ℕ) (
 
 -- the names of arrays, and what stands in globals, arrays and routines, are as they are demanded
 abbrev pub ArraysMeanThemselves : Type 0
-ArraysMeanThemselves = (width : Width) (program : List DirectiveTree) (at : ℕ) (name : List ℕ) (words : Bool) (entries : List Const)
+ArraysMeanThemselves = (width : Width) (program : List DirectiveTree) (at : ℕ) (name : List ℕ)
+    (words : Bool) (entries : List Const)
     → name_fault width program ≡ None
     → slice_get program at ≡ Some (d.Array name words entries)
     → kind_fault (is_array words) name (meanings width program name) ≡ None
 
 abbrev pub GlobalsAreFine : Type 0
-GlobalsAreFine = (width : Width) (program : List DirectiveTree) (at : ℕ) (name : List ℕ) (value : Option Const)
+GlobalsAreFine =
+    (width : Width) (program : List DirectiveTree) (at : ℕ) (name : List ℕ) (value : Option Const)
     → name_fault width program ≡ None
     → slice_get program at ≡ Some (d.Global name value)
-    → IsFine (outer_scope width (meanings width program) name) (optional_demands constant_demands value)
+    → IsFine (outer_scope width (meanings width program) name)
+    (optional_demands constant_demands value)
 
 abbrev pub EntriesAreFine : Type 0
-EntriesAreFine = (width : Width) (program : List DirectiveTree) (at : ℕ) (name : List ℕ) (words : Bool) (entries : List Const)
+EntriesAreFine = (width : Width) (program : List DirectiveTree) (at : ℕ) (name : List ℕ)
+    (words : Bool) (entries : List Const)
     → name_fault width program ≡ None
     → slice_get program at ≡ Some (d.Array name words entries)
     → IsFine (outer_scope width (meanings width program) name) (constants_demands entries)
@@ -115,7 +130,8 @@ abbrev pub BodiesAreFine : Type 0
 BodiesAreFine = (width : Width) (program : List DirectiveTree) (at : ℕ) (routine : RoutineTree)
     → name_fault width program ≡ None
     → slice_get program at ≡ Some (d.Routine routine)
-    → IsFine (routine_scope width (meanings width program) routine) (statements_demands no_loop routine.body)
+    → IsFine (routine_scope width (meanings width program) routine)
+    (statements_demands no_loop routine.body)
 
 -- `main` is a routine without locals
 abbrev pub MainIsARoutine : Type 0
@@ -129,7 +145,8 @@ MainIsARoutine = (width : Width) (program : List DirectiveTree)
 
 -- where no place has a fault, each is fine
 abbrev pub FaultlessPlacesAreFine : Type 0
-FaultlessPlacesAreFine = (scope : Scope) (demands : Demands) → first_fault scope demands ≡ None → IsFine scope demands
+FaultlessPlacesAreFine =
+    (scope : Scope) (demands : Demands) → first_fault scope demands ≡ None → IsFine scope demands
 
 -- a called name is no local, and a routine that takes the arguments
 abbrev pub CallsAreKnown : Type 0

@@ -12,7 +12,8 @@ use Rattle.inform_names.specs.Meanings.{word_of_meaning}
 
 -- directive number `at` is a global of this name
 abbrev pub IsGlobalAt : List DirectiveTree → ℕ → List ℕ → Type 0
-IsGlobalAt program at name = (value : Option Const) × (slice_get program at ≡ Some (d.Global name value))
+IsGlobalAt program at name =
+    (value : Option Const) × (slice_get program at ≡ Some (d.Global name value))
 
 -- what a name that means this stands for as a value: the word of a constant, or a global
 abbrev pub IsValueOf : Option Meaning → Value → Type 0

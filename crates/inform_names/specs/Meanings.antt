@@ -54,14 +54,20 @@ kind_of width known (d.Global name value) = k.Global
 kind_of width known (d.Array name words entries) = k.Array words
 kind_of width known (d.Routine r) = k.Routine (length r.locals)
 
--- what is known after directive number `at`: a name keeps the meaning that it had
+-- what directive number `at` means, where these names are known before it
+abbrev pub own : Width → Known → ℕ → DirectiveTree → Meaning
+own width known at directive = record { at = at; kind = kind_of width known directive }
+
+-- what is known after that directive: a name keeps the meaning that it had
 abbrev pub with_directive : Width → Known → ℕ → DirectiveTree → Known
-with_directive width known at directive name = option_or (known name) (if bytes_eq name (name_of directive) then Some (record { at = at; kind = kind_of width known directive }) else None)
+with_directive width known at directive name = option_or (known name)
+    (if bytes_eq name (name_of directive) then Some (own width known at directive) else None)
 
 -- what is known after these directives, of which the first has number `at`
 abbrev pub meanings_from : Width → Known → ℕ → List DirectiveTree → Known
 meanings_from width known at [] = known
-meanings_from width known at (directive ∷ directives) = meanings_from width (with_directive width known at directive) (at + 1) directives
+meanings_from width known at (directive ∷ directives) =
+    meanings_from width (with_directive width known at directive) (at + 1) directives
 
 -- what the names of a program mean
 abbrev pub meanings : Width → List DirectiveTree → Known
@@ -74,7 +80,8 @@ earlier at (Some m) = if nat_lt m.at at then Some m else None
 
 -- the first directive of a name
 abbrev pub first_directive : Width → List DirectiveTree → List ℕ → Option DirectiveTree
-first_directive width program name = option_and_then (λ m. slice_get program m.at) (meanings width program name)
+first_directive width program name =
+    option_and_then (λ m. slice_get program m.at) (meanings width program name)
 
 -- ---- arrays
 
@@ -93,5 +100,6 @@ entry_count other = 0
 abbrev pub directive_entries : Width → Known → DirectiveTree → ℕ
 directive_entries width known (d.Constant name value) = 0
 directive_entries width known (d.Global name value) = 0
-directive_entries width known (d.Array name words entries) = entry_count (array_length width known entries)
+directive_entries width known (d.Array name words entries) =
+    entry_count (array_length width known entries)
 directive_entries width known (d.Routine r) = 0

@@ -16,7 +16,8 @@ use Rattle.inform_names.specs.Faults.{Fault, missing, wrong_kind, too_many_argum
 
 -- ---- scopes
 
--- where a place stands: the width, the names that are known there, and the directive with its locals
+-- where a place stands: the width, the names that are known there, and the directive with its
+-- locals
 pub record Scope : Type 0 where
   pub width : Width
   pub known : Known
@@ -71,7 +72,8 @@ abbrev pub arguments_fault : List ℕ → ℕ → Kind → Option Fault
 arguments_fault name count (k.Constant value) = Some (wrong_kind name)
 arguments_fault name count k.Global = Some (wrong_kind name)
 arguments_fault name count (k.Array words) = Some (wrong_kind name)
-arguments_fault name count (k.Routine locals) = fault_if (nat_lt ARGUMENT_LIMIT count || nat_lt locals count) (too_many_arguments name)
+arguments_fault name count (k.Routine locals) =
+    fault_if (nat_lt ARGUMENT_LIMIT count || nat_lt locals count) (too_many_arguments name)
 
 -- a call of this name
 abbrev pub call_fault : List ℕ → ℕ → Option Meaning → Option Fault
@@ -80,11 +82,16 @@ call_fault name count (Some m) = arguments_fault name count m.kind
 
 abbrev pub fault_at : Scope → Demand → Option Fault
 fault_at scope (d.Number n) = fault_if (is_wide scope.width n) (wide_number n)
-fault_at scope (d.Constant name) = if is_local scope name then Some (wrong_kind name) else kind_fault is_constant name (scope.known name)
-fault_at scope (d.Value name) = if is_local scope name then None else kind_fault has_value name (scope.known name)
-fault_at scope (d.Variable name) = if is_local scope name then None else kind_fault is_global name (scope.known name)
-fault_at scope (d.Array name words) = if is_local scope name then Some (wrong_kind name) else kind_fault (is_array words) name (scope.known name)
-fault_at scope (d.Call name count) = if is_local scope name then Some (wrong_kind name) else call_fault name count (scope.known name)
+fault_at scope (d.Constant name) = if is_local scope name then Some (wrong_kind name)
+    else kind_fault is_constant name (scope.known name)
+fault_at scope (d.Value name) =
+    if is_local scope name then None else kind_fault has_value name (scope.known name)
+fault_at scope (d.Variable name) =
+    if is_local scope name then None else kind_fault is_global name (scope.known name)
+fault_at scope (d.Array name words) = if is_local scope name then Some (wrong_kind name)
+    else kind_fault (is_array words) name (scope.known name)
+fault_at scope (d.Call name count) =
+    if is_local scope name then Some (wrong_kind name) else call_fault name count (scope.known name)
 fault_at scope (d.Leave has_loop) = fault_if (not has_loop) (outside scope.directive)
 
 -- ---- the first fault
@@ -109,4 +116,5 @@ listed (d.Both first rest) = listed first ++ listed rest
 
 -- the first fault is that of the first place in the list that has one
 abbrev pub FirstOfTheList : Type 0
-FirstOfTheList = (scope : Scope) (demands : Demands) → first_fault scope demands ≡ first_of (map (fault_at scope) (listed demands))
+FirstOfTheList = (scope : Scope) (demands : Demands)
+    → first_fault scope demands ≡ first_of (map (fault_at scope) (listed demands))

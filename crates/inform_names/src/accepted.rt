@@ -15,7 +15,7 @@ pub struct Accepted {
 
 impl Accepted {
     /// A program whose names were tested.
-    pub fn of(program: Program, width: Width) -> Accepted
+    pub(crate) fn of(program: Program, width: Width) -> Accepted
         requires { name_fault width (program_of program) ≡ None }
         ensures program { result.program ≡ program }
         ensures width { result.width ≡ width }

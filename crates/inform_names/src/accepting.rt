@@ -65,8 +65,8 @@ fn test_names(alloc: Global, program: &Program, width: Width) -> Result<(), Name
     }
 }
 
-/// Accepts a program without a fault, where words have this width; else hands it back with its first
-/// fault. docs/INFORM.md has the rules, and the order of the faults.
+/// Accepts a program without a fault, where words have this width; else hands it back with its
+/// first fault. docs/INFORM.md has the rules, and the order of the faults.
 pub fn accept(
     alloc: Global,
     program: Program,

@@ -1,8 +1,8 @@
 //! Why a program isn't accepted.
 use inform_tree::Name;
 
-/// The first fault of a program: directive by directive, and in each from left to right. docs/INFORM.md
-/// says for each where it stands.
+/// The first fault of a program: directive by directive, and in each from left to right.
+/// docs/INFORM.md says for each where it stands.
 #[derive(Drop)]
 pub enum NameFault {
     /// A second directive, or a second local, of this name.
@@ -19,8 +19,8 @@ pub enum NameFault {
     WideNumber(u32),
     /// The length of this array isn't in 1..32767, or all entries are more than 4,000,000 with it.
     Size(Name),
-    /// This routine has a `continue` in no loop, or a `break` whose nearest loop or `switch` is none
-    /// or a `switch`.
+    /// This routine has a `continue` in no loop, or a `break` whose nearest loop or `switch` is
+    /// none or a `switch`.
     Outside(Name),
     /// This routine is deeper than 64.
     TooDeep(Name),

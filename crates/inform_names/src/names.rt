@@ -56,6 +56,13 @@ impl<'a> Names<'a> {
         self.accepted
     }
 
+    /// What the name with these bytes means, if anything.
+    pub fn find(&self, name: &[u8]) -> Option<Meaning>
+        ensures { result ≡ names_of self.now.accepted.now name.now }
+    {
+        self.table.find_bytes(name)
+    }
+
     /// The directive of this number.
     pub fn directive(&self, number: usize) -> &'a Directive
         requires { number < length (directives_of self.now.accepted.now) }

@@ -11,7 +11,8 @@ use crate::refusals::{Refusal, refuse_if};
 use crate::tables::Table;
 use inform_tree::{Name, Width};
 
-/// Where a place stands: the width, the names that are known there, and the directive with its locals.
+/// Where a place stands: the width, the names that are known there, and the directive with its
+/// locals.
 #[derive(Clone, Copy)]
 pub struct Scope<'t, 'a> {
     pub width: Width,

@@ -1,6 +1,6 @@
-//! Worked examples of words and programs. Each is the contract of a function that does nothing, and is proved by
-//! computing.
-ghost use Rattle.inform_names.specs.Worked.{WordsJudged, ConstantsUseEarlierOnes, GlobalsUseConstants, SecondIsTwice, ArgumentsCounted, LocalsHide, ArraysInTheirPlaces, LoopsLeft, LengthsJudged, WidthsJudged, MainsJudged, LocalsCounted, LeftmostFirst};
+//! Worked examples of words and programs. Each is the contract of a function that does nothing, and
+//! is proved by computing.
+ghost use Rattle.inform_names.specs.Worked.{WordsJudged, ConstantsUseEarlierOnes, GlobalsUseConstants, SecondIsTwice, LengthsJudged, EntriesCounted, ArraysInTheirPlaces, LocalsCounted, ArgumentsCounted, LocalsHide, MainsJudged, DepthsJudged, LoopsLeft, WidthsJudged, LeftmostFirst};
 
 /// A number stands for the word of its lowest bits.
 pub fn words_judged()
@@ -65,4 +65,14 @@ pub fn locals_counted()
 /// The leftmost fault is the first.
 pub fn leftmost_first()
     ensures { LeftmostFirst }
+{}
+
+/// All arrays together have at most 4,000,000 entries.
+pub fn entries_counted()
+    ensures { EntriesCounted }
+{}
+
+/// No routine is deeper than 64.
+pub fn depths_judged()
+    ensures { DepthsJudged }
 {}

@@ -1,4 +1,5 @@
--- What a depth leaves of the openers: an expression or a condition of depth d opens d at most, and a statement twice as many.
+-- What a depth leaves of the openers: an expression or a condition of depth d opens d at most, and
+-- a statement twice as many.
 use Rattle.std.proofs.Common.{◌≡◌, ℕ, suc, ◌+◌, ◌*◌, ◌≤◌, ◌<◌, true, arith}
 use Rattle.std.specs.Prelude.{max}
 use Rattle.std.proofs.lemmas.Bool.{lt-ltb}

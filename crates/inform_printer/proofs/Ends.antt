@@ -40,14 +40,21 @@ pub record ConditionEnds (rest : List Lexeme) : Type 0 where
 
 -- ---- what stands there
 
-abbrev ends : {rest : List Lexeme} → No (is_sign LeftRound) rest → No is_arrow rest → No is_factor_sign rest → No is_term_sign rest → ValueEnds rest
-ends b a f t = record { product = record { operand = record { bracket = b; arrow = a }; factor = f }; term = t }
+abbrev ends : {rest : List Lexeme} → No (is_sign LeftRound) rest → No is_arrow rest
+    → No is_factor_sign rest → No is_term_sign rest → ValueEnds rest
+ends b a f t =
+    let operand : OperandEnds _ = record { bracket = b; arrow = a } in
+    record { product = record { operand = operand; factor = f }; term = t }
 
 pub at_bracket : (rest : List Lexeme) → ConditionEnds (Sign RightRound ∷ rest)
-at_bracket rest = record { test = record { value = ends refl refl refl refl; relation = refl }; connective = refl }
+at_bracket rest =
+    let test : TestEnds _ = record { value = ends refl refl refl refl; relation = refl } in
+    record { test = test; connective = refl }
 
 pub at_colon : (rest : List Lexeme) → ConditionEnds (Sign Colon ∷ rest)
-at_colon rest = record { test = record { value = ends refl refl refl refl; relation = refl }; connective = refl }
+at_colon rest =
+    let test : TestEnds _ = record { value = ends refl refl refl refl; relation = refl } in
+    record { test = test; connective = refl }
 
 pub at_comma : (rest : List Lexeme) → ValueEnds (Sign Comma ∷ rest)
 at_comma rest = ends refl refl refl refl
@@ -58,7 +65,8 @@ at_semicolon rest = ends refl refl refl refl
 pub at_assign : (rest : List Lexeme) → ValueEnds (Sign Assign ∷ rest)
 at_assign rest = ends refl refl refl refl
 
-pub at_relation : (relation : Relation) (rest : List Lexeme) → ValueEnds (Sign (relation_sign relation) ∷ rest)
+pub at_relation : (relation : Relation) (rest : List Lexeme)
+    → ValueEnds (Sign (relation_sign relation) ∷ rest)
 at_relation Eq rest = ends refl refl refl refl
 at_relation Ne rest = ends refl refl refl refl
 at_relation Lt rest = ends refl refl refl refl
@@ -71,12 +79,16 @@ at_connective AllOf rest = record { value = ends refl refl refl refl; relation =
 at_connective AnyOf rest = record { value = ends refl refl refl refl; relation = refl }
 
 -- further parts of a chain, or what follows them
-pub at_terms : (xs : Terms) (rest : List Lexeme) → ValueEnds rest → ProductEnds (term_lexemes xs rest)
+pub at_terms : (xs : Terms) (rest : List Lexeme) → ValueEnds rest
+    → ProductEnds (term_lexemes xs rest)
 at_terms v.NoTerms rest e = e.product
-at_terms (v.MoreTerms Add x xs) rest e = record { operand = record { bracket = refl; arrow = refl }; factor = refl }
-at_terms (v.MoreTerms Sub x xs) rest e = record { operand = record { bracket = refl; arrow = refl }; factor = refl }
+at_terms (v.MoreTerms Add x xs) rest e =
+    record { operand = record { bracket = refl; arrow = refl }; factor = refl }
+at_terms (v.MoreTerms Sub x xs) rest e =
+    record { operand = record { bracket = refl; arrow = refl }; factor = refl }
 
-pub at_factors : (xs : Factors) (rest : List Lexeme) → ProductEnds rest → OperandEnds (factor_lexemes xs rest)
+pub at_factors : (xs : Factors) (rest : List Lexeme) → ProductEnds rest
+    → OperandEnds (factor_lexemes xs rest)
 at_factors v.NoFactors rest e = e.operand
 at_factors (v.MoreFactors Mul x xs) rest e = record { bracket = refl; arrow = refl }
 at_factors (v.MoreFactors Div x xs) rest e = record { bracket = refl; arrow = refl }
@@ -84,7 +96,8 @@ at_factors (v.MoreFactors Rem x xs) rest e = record { bracket = refl; arrow = re
 
 -- ---- parts begin no entry
 
-name_is_no_entry : (name : List ℕ) (rest : List Lexeme) → No is_arrow rest → begins_entry (Name name ∷ rest) ≡ false
+name_is_no_entry : (name : List ℕ) (rest : List Lexeme) → No is_arrow rest
+    → begins_entry (Name name ∷ rest) ≡ false
 name_is_no_entry name [] h = refl
 name_is_no_entry name (Word x ∷ rest) h = refl
 name_is_no_entry name (Reserved ∷ rest) h = refl
@@ -94,7 +107,8 @@ name_is_no_entry name (Character x ∷ rest) h = refl
 name_is_no_entry name (Quoted x ∷ rest) h = refl
 name_is_no_entry name (Sign x ∷ rest) h = h
 
-pub part_is_no_entry : (x : Expression) (rest : List Lexeme) → No is_arrow rest → begins_entry (value_lexemes true x rest) ≡ false
+pub part_is_no_entry : (x : Expression) (rest : List Lexeme) → No is_arrow rest
+    → begins_entry (value_lexemes true x rest) ≡ false
 part_is_no_entry (v.Number n) rest h = refl
 part_is_no_entry (v.Char byte) rest h = refl
 part_is_no_entry (v.Name name) rest h = name_is_no_entry name rest h

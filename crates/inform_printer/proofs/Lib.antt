@@ -10,3 +10,4 @@ pub mod ReadBack
 pub mod Written
 pub mod Loops
 pub mod Trees
+pub mod Examples

@@ -28,7 +28,8 @@ factor_list (v.MoreFactors op x xs) = (op, x) ∷ factor_list xs
 
 pub arguments_back : (xs : Arguments) → v.arguments (argument_list xs) ≡ xs
 arguments_back v.NoArguments = refl
-arguments_back (v.MoreArguments x xs) = ap (λ (ys : Arguments). v.MoreArguments x ys) (arguments_back xs)
+arguments_back (v.MoreArguments x xs) =
+    ap (λ (ys : Arguments). v.MoreArguments x ys) (arguments_back xs)
 
 terms_back : (xs : Terms) → v.terms (term_list xs) ≡ xs
 terms_back v.NoTerms = refl
@@ -36,16 +37,21 @@ terms_back (v.MoreTerms op x xs) = ap (λ (ys : Terms). v.MoreTerms op x ys) (te
 
 factors_back : (xs : Factors) → v.factors (factor_list xs) ≡ xs
 factors_back v.NoFactors = refl
-factors_back (v.MoreFactors op x xs) = ap (λ (ys : Factors). v.MoreFactors op x ys) (factors_back xs)
+factors_back (v.MoreFactors op x xs) =
+    ap (λ (ys : Factors). v.MoreFactors op x ys) (factors_back xs)
 
 -- a chain that has a further part is its sum, or its product
-pub sum_back : (first : Expression) (xs : Terms) → has_terms xs ≡ true → sum_of first (term_list xs) ≡ v.Sum first xs
+pub sum_back : (first : Expression) (xs : Terms) → has_terms xs ≡ true
+    → sum_of first (term_list xs) ≡ v.Sum first xs
 sum_back first v.NoTerms e = absurd (cc)
-sum_back first (v.MoreTerms op x xs) e = ap (λ (ys : Terms). v.Sum first (v.MoreTerms op x ys)) (terms_back xs)
+sum_back first (v.MoreTerms op x xs) e =
+    ap (λ (ys : Terms). v.Sum first (v.MoreTerms op x ys)) (terms_back xs)
 
-pub product_back : (first : Expression) (xs : Factors) → has_factors xs ≡ true → product_of first (factor_list xs) ≡ v.Product first xs
+pub product_back : (first : Expression) (xs : Factors) → has_factors xs ≡ true
+    → product_of first (factor_list xs) ≡ v.Product first xs
 product_back first v.NoFactors e = absurd (cc)
-product_back first (v.MoreFactors op x xs) e = ap (λ (ys : Factors). v.Product first (v.MoreFactors op x ys)) (factors_back xs)
+product_back first (v.MoreFactors op x xs) e =
+    ap (λ (ys : Factors). v.Product first (v.MoreFactors op x ys)) (factors_back xs)
 
 -- ---- conditions
 
@@ -93,7 +99,8 @@ statement_list (s.MoreStatements x xs) = x ∷ statement_list xs
 
 pub statements_back : (xs : Statements) → s.statements (statement_list xs) ≡ xs
 statements_back s.NoStatements = refl
-statements_back (s.MoreStatements x xs) = ap (λ (ys : Statements). s.MoreStatements x ys) (statements_back xs)
+statements_back (s.MoreStatements x xs) =
+    ap (λ (ys : Statements). s.MoreStatements x ys) (statements_back xs)
 
 abbrev pub case_list : Cases → List (List Choice × List Statement)
 case_list s.NoCases = []
@@ -102,7 +109,8 @@ case_list (s.MoreCases choices body xs) = (choices, statement_list body) ∷ cas
 pub cases_back : (xs : Cases) → cases_tree (case_list xs) ≡ xs
 cases_back s.NoCases = refl
 cases_back (s.MoreCases choices body xs) =
-    ap (λ (b : Statements). s.MoreCases choices b (cases_tree (case_list xs))) (statements_back body)
+    ap (λ (b : Statements). s.MoreCases choices b (cases_tree (case_list xs)))
+    (statements_back body)
     ∙ ap (λ (ys : Cases). s.MoreCases choices body ys) (cases_back xs)
 
 abbrev pub default_list : Default → Option (List Statement)

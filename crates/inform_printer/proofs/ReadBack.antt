@@ -17,5 +17,7 @@ printed_reads_back back p f =
     record {
       tokens = read.0;
       spelled = read.1;
-      says = subst (λ (ts : List Lexeme). Sentence within_limit p ts) (sym read.2) (printed_is_sentence p f);
+      says =
+          subst (λ (ts : List Lexeme). Sentence within_limit p ts) (sym read.2)
+          (printed_is_sentence p f);
     }

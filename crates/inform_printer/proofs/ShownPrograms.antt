@@ -20,11 +20,14 @@ use Rattle.inform_printer.proofs.Lists.{statements_back}
 use Rattle.inform_printer.proofs.ShownValues.{constant_shown, entry_shown}
 use Rattle.inform_printer.proofs.ShownStatements.{statements_shown}
 
-entries_shown : (xs : List Const) (rest : List Lexeme) → Entries within_limit 0 xs (entries_lexemes xs rest) rest
+entries_shown : (xs : List Const) (rest : List Lexeme)
+    → Entries within_limit 0 xs (entries_lexemes xs rest) rest
 entries_shown [] rest = last_entry
-entries_shown (x ∷ xs) rest = one_more_entry (entry_shown x (entries_lexemes xs rest)) (entries_shown xs rest)
+entries_shown (x ∷ xs) rest =
+    one_more_entry (entry_shown x (entries_lexemes xs rest)) (entries_shown xs rest)
 
-names_shown : (names : List (List ℕ)) (rest : List Lexeme) → Names names (names_lexemes names rest) rest
+names_shown : (names : List (List ℕ)) (rest : List Lexeme)
+    → Names names (names_lexemes names rest) rest
 names_shown [] rest = last_name
 names_shown (name ∷ names) rest = one_more_name (names_shown names rest)
 
@@ -32,21 +35,29 @@ names_shown (name ∷ names) rest = one_more_name (names_shown names rest)
 shallow : (n : ℕ) → leb n DEPTH_LIMIT ≡ true → 0 + 2 * n ≤ 200
 shallow n h = let bound : n ≤ 64 = leb-true n DEPTH_LIMIT h in omega arith
 
-routine_shown : (r : RoutineTree) → is_formed_routine r ≡ true → (rest : List Lexeme) → Directive within_limit (d.Routine r) (routine_lexemes r rest) rest
+routine_shown : (r : RoutineTree) → is_formed_routine r ≡ true → (rest : List Lexeme)
+    → Directive within_limit (d.Routine r) (routine_lexemes r rest) rest
 routine_shown r f rest =
-    let fs = and_parts (is_name r.name) (list_all is_name r.locals && (leb (routine_depth r) DEPTH_LIMIT && are_formed_statements r.body)) f in
-    let gs = and_parts (list_all is_name r.locals) (leb (routine_depth r) DEPTH_LIMIT && are_formed_statements r.body) fs.1 in
+    let fs = and_parts (is_name r.name) (list_all is_name r.locals &&
+    (leb (routine_depth r) DEPTH_LIMIT && are_formed_statements r.body)) f in
+    let gs = and_parts (list_all is_name r.locals)
+    (leb (routine_depth r) DEPTH_LIMIT && are_formed_statements r.body) fs.1 in
     let hs = and_parts (leb (routine_depth r) DEPTH_LIMIT) (are_formed_statements r.body) gs.1 in
-    subst (λ (body : Statements). Directive within_limit (d.Routine (record { name = r.name; locals = r.locals; body = body })) (routine_lexemes r rest) rest)
+    subst (λ (body : Statements). Directive within_limit
+    (d.Routine (record { name = r.name; locals = r.locals; body = body }))
+    (routine_lexemes r rest) rest)
     (statements_back r.body)
     (routine (names_shown r.locals _)
-    (statements_shown r.body hs.1 0 (shallow (statements_depth r.body) hs.0) (Sign RightSquare ∷ Sign Semicolon ∷ rest) refl))
+    (statements_shown r.body hs.1 0 (shallow (statements_depth r.body) hs.0)
+    (Sign RightSquare ∷ Sign Semicolon ∷ rest) refl))
 
-directive_shown : (x : DirectiveTree) → is_formed_directive x ≡ true → (rest : List Lexeme) → Directive within_limit x (directive_lexemes x rest) rest
+directive_shown : (x : DirectiveTree) → is_formed_directive x ≡ true → (rest : List Lexeme)
+    → Directive within_limit x (directive_lexemes x rest) rest
 directive_shown (d.Constant name x) f rest = constant (constant_shown x _)
 directive_shown (d.Global name None) f rest = global
 directive_shown (d.Global name (Some x)) f rest = global_with (constant_shown x _)
-directive_shown (d.Array name words []) f rest = let e : false ≡ true = (and_parts (is_name name) (are_formed_entries []) f).1 in absurd (cc)
+directive_shown (d.Array name words []) f rest =
+    let e : false ≡ true = (and_parts (is_name name) (are_formed_entries []) f).1 in absurd (cc)
 directive_shown (d.Array name words (x ∷ xs)) f rest = array (entry_shown x _) (entries_shown xs _)
 directive_shown (d.Routine r) f rest = routine_shown r f rest
 

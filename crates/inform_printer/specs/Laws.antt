@@ -10,7 +10,8 @@ use Rattle.inform_printer.specs.Printing.{printed}
 
 -- the lexemes of a well-formed program are a sentence of it, with no more openers than the limit
 abbrev pub PrintedIsSentence : Type 0
-PrintedIsSentence = (p : List DirectiveTree) → is_well_formed p ≡ true → Sentence within_limit p (program_lexemes p)
+PrintedIsSentence =
+    (p : List DirectiveTree) → is_well_formed p ≡ true → Sentence within_limit p (program_lexemes p)
 
 -- the printed text of a well-formed program is a text of that program
 abbrev pub PrintedReadsBack : Type 0

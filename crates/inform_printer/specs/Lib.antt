@@ -4,3 +4,4 @@ pub mod StatementLexemes
 pub mod ProgramLexemes
 pub mod Printing
 pub mod Laws
+pub mod Worked

@@ -24,12 +24,16 @@ first_value_lexemes x rest = Sign Assign ∷ constant_lexemes x rest
 
 abbrev pub routine_lexemes : RoutineTree → List Lexeme → List Lexeme
 routine_lexemes r rest =
-    Sign LeftSquare ∷ Name r.name ∷ names_lexemes r.locals (Sign Semicolon ∷ statements_lexemes r.body (Sign RightSquare ∷ Sign Semicolon ∷ rest))
+    Sign LeftSquare ∷ Name r.name ∷ names_lexemes r.locals
+    (Sign Semicolon ∷ statements_lexemes r.body (Sign RightSquare ∷ Sign Semicolon ∷ rest))
 
 abbrev pub directive_lexemes : DirectiveTree → List Lexeme → List Lexeme
-directive_lexemes (d.Constant name x) rest = Word w.Constant ∷ Name name ∷ Sign Assign ∷ constant_lexemes x (Sign Semicolon ∷ rest)
-directive_lexemes (d.Global name x) rest = Word w.Global ∷ Name name ∷ optional_lexemes first_value_lexemes x (Sign Semicolon ∷ rest)
-directive_lexemes (d.Array name words entries) rest = Word w.Array ∷ Name name ∷ Sign (arrow words) ∷ entries_lexemes entries (Sign Semicolon ∷ rest)
+directive_lexemes (d.Constant name x) rest =
+    Word w.Constant ∷ Name name ∷ Sign Assign ∷ constant_lexemes x (Sign Semicolon ∷ rest)
+directive_lexemes (d.Global name x) rest =
+    Word w.Global ∷ Name name ∷ optional_lexemes first_value_lexemes x (Sign Semicolon ∷ rest)
+directive_lexemes (d.Array name words entries) rest =
+    Word w.Array ∷ Name name ∷ Sign (arrow words) ∷ entries_lexemes entries (Sign Semicolon ∷ rest)
 directive_lexemes (d.Routine r) rest = routine_lexemes r rest
 
 abbrev pub program_lexemes : List DirectiveTree → List Lexeme

@@ -51,32 +51,42 @@ entry_lexemes x rest = bracketed (is_minus x) (constant_lexemes x) rest
 
 -- ---- expressions
 
--- The truth value tells whether it is a part of a chain, an index or the operand of a minus sign. Such a part stands in
--- brackets, unless it is a number, a character, a name, a call or `random`. Of arguments it tells whether one stands before them.
+-- The truth value tells whether it is a part of a chain, an index or the operand of a minus sign.
+-- Such a part stands in brackets, unless it is a number, a character, a name, a call or `random`.
+-- Of arguments it tells whether one stands before them.
 abbrev mutual
   pub value_lexemes : Bool → Expression → List Lexeme → List Lexeme
   value_lexemes part (v.Number n) rest = Number n ∷ rest
   value_lexemes part (v.Char byte) rest = Character byte ∷ rest
   value_lexemes part (v.Name name) rest = Name name ∷ rest
-  value_lexemes part (v.Entry name words index) rest = bracketed part (λ after. Name name ∷ Sign (arrow words) ∷ value_lexemes true index after) rest
-  value_lexemes part (v.Call name xs) rest = Name name ∷ Sign LeftRound ∷ argument_lexemes false xs rest
-  value_lexemes part (v.Random limit) rest = Word w.Random ∷ Sign LeftRound ∷ value_lexemes false limit (Sign RightRound ∷ rest)
-  value_lexemes part (v.Neg operand) rest = bracketed part (λ after. Sign Minus ∷ value_lexemes true operand after) rest
-  value_lexemes part (v.Sum first xs) rest = bracketed part (λ after. value_lexemes true first (term_lexemes xs after)) rest
-  value_lexemes part (v.Product first xs) rest = bracketed part (λ after. value_lexemes true first (factor_lexemes xs after)) rest
+  value_lexemes part (v.Entry name words index) rest =
+      bracketed part (λ after. Name name ∷ Sign (arrow words) ∷ value_lexemes true index after) rest
+  value_lexemes part (v.Call name xs) rest =
+      Name name ∷ Sign LeftRound ∷ argument_lexemes false xs rest
+  value_lexemes part (v.Random limit) rest =
+      Word w.Random ∷ Sign LeftRound ∷ value_lexemes false limit (Sign RightRound ∷ rest)
+  value_lexemes part (v.Neg operand) rest =
+      bracketed part (λ after. Sign Minus ∷ value_lexemes true operand after) rest
+  value_lexemes part (v.Sum first xs) rest =
+      bracketed part (λ after. value_lexemes true first (term_lexemes xs after)) rest
+  value_lexemes part (v.Product first xs) rest =
+      bracketed part (λ after. value_lexemes true first (factor_lexemes xs after)) rest
 
   -- with the closing bracket
   pub argument_lexemes : Bool → Arguments → List Lexeme → List Lexeme
   argument_lexemes later v.NoArguments rest = Sign RightRound ∷ rest
-  argument_lexemes later (v.MoreArguments x xs) rest = separated later Comma (value_lexemes false x (argument_lexemes true xs rest))
+  argument_lexemes later (v.MoreArguments x xs) rest =
+      separated later Comma (value_lexemes false x (argument_lexemes true xs rest))
 
   pub term_lexemes : Terms → List Lexeme → List Lexeme
   term_lexemes v.NoTerms rest = rest
-  term_lexemes (v.MoreTerms op x xs) rest = Sign (term_sign op) ∷ value_lexemes true x (term_lexemes xs rest)
+  term_lexemes (v.MoreTerms op x xs) rest =
+      Sign (term_sign op) ∷ value_lexemes true x (term_lexemes xs rest)
 
   pub factor_lexemes : Factors → List Lexeme → List Lexeme
   factor_lexemes v.NoFactors rest = rest
-  factor_lexemes (v.MoreFactors op x xs) rest = Sign (factor_sign op) ∷ value_lexemes true x (factor_lexemes xs rest)
+  factor_lexemes (v.MoreFactors op x xs) rest =
+      Sign (factor_sign op) ∷ value_lexemes true x (factor_lexemes xs rest)
 
 -- ---- parts of expressions
 
@@ -86,7 +96,8 @@ first_lexemes part first rest = opening part (value_lexemes true first rest)
 
 -- an entry of an array that is read
 abbrev pub element_lexemes : List ℕ → Bool → Expression → List Lexeme → List Lexeme
-element_lexemes name words index rest = Name name ∷ Sign (arrow words) ∷ value_lexemes true index rest
+element_lexemes name words index rest =
+    Name name ∷ Sign (arrow words) ∷ value_lexemes true index rest
 
 -- an operand after a minus sign
 abbrev pub negative_lexemes : Expression → List Lexeme → List Lexeme

@@ -106,7 +106,8 @@ fn put_locals(out: &mut Vec<u8>, locals: &[Name]) -> Result<(), Memory>
 // Prints the statements of a routine, up to its end.
 fn put_routine_body(out: &mut Vec<u8>, body: &Vec<Stmt>) -> Result<(), Memory>
     ensures { OnOk result (Prints
-        (λ rest. statements_lexemes (statements_of body.now.items) (Sign RightSquare ∷ Sign Semicolon ∷ rest))
+        (λ rest. statements_lexemes (statements_of body.now.items)
+        (Sign RightSquare ∷ Sign Semicolon ∷ rest))
         out.old.items out.new.items) }
 {
     put_statements(out, body)?;
@@ -116,7 +117,8 @@ fn put_routine_body(out: &mut Vec<u8>, body: &Vec<Stmt>) -> Result<(), Memory>
 }
 
 fn put_routine(out: &mut Vec<u8>, routine: &Routine) -> Result<(), Memory>
-    ensures { OnOk result (Prints (routine_lexemes (routine_of routine.now)) out.old.items out.new.items) }
+    ensures { OnOk result (Prints (routine_lexemes (routine_of routine.now))
+        out.old.items out.new.items) }
 {
     put_title(out, &routine.name)?;
     put_locals(out, &routine.locals)?;

@@ -52,7 +52,8 @@ pub fn put_change(out: &mut Vec<u8>, change: &Change) -> Result<(), Memory>
 
 // Prints a change where there is one.
 fn put_change_if_any(out: &mut Vec<u8>, change: &Option<Change>) -> Result<(), Memory>
-    ensures { OnOk result (Prints (optional_lexemes assignment_lexemes (assignment_if_any change.now))
+    ensures { OnOk result (Prints
+        (optional_lexemes assignment_lexemes (assignment_if_any change.now))
         out.old.items out.new.items) }
 {
     match change {
@@ -65,7 +66,8 @@ fn put_change_if_any(out: &mut Vec<u8>, change: &Option<Change>) -> Result<(), M
 
 /// Prints a condition in brackets, after a word of the grammar.
 pub fn put_tested(out: &mut Vec<u8>, keyword: Keyword, test: &Cond) -> Result<(), Memory>
-    ensures { OnOk result (Prints (λ rest. Word keyword ∷ round (condition_lexemes false (condition_of test.now)) rest)
+    ensures { OnOk result (Prints
+        (λ rest. Word keyword ∷ round (condition_lexemes false (condition_of test.now)) rest)
         out.old.items out.new.items) }
 {
     put_word(out, keyword)?;
@@ -75,7 +77,8 @@ pub fn put_tested(out: &mut Vec<u8>, keyword: Keyword, test: &Cond) -> Result<()
 
 // Prints a condition where there is one.
 fn put_condition_if_any(out: &mut Vec<u8>, test: &Option<Cond>) -> Result<(), Memory>
-    ensures { OnOk result (Prints (optional_lexemes (condition_lexemes false) (condition_if_any test.now))
+    ensures { OnOk result (Prints
+        (optional_lexemes (condition_lexemes false) (condition_if_any test.now))
         out.old.items out.new.items) }
 {
     match test {
@@ -89,7 +92,8 @@ fn put_condition_if_any(out: &mut Vec<u8>, test: &Option<Cond>) -> Result<(), Me
 // Prints what is done first, up to its colon.
 fn put_first_change(out: &mut Vec<u8>, first: &Option<Change>) -> Result<(), Memory>
     ensures { OnOk result (Prints
-        (λ rest. Sign LeftRound ∷ optional_lexemes assignment_lexemes (assignment_if_any first.now) (Sign Colon ∷ rest))
+        (λ rest. Sign LeftRound ∷ optional_lexemes assignment_lexemes
+        (assignment_if_any first.now) (Sign Colon ∷ rest))
         out.old.items out.new.items) }
 {
     put_sign(out, Symbol::LeftRound)?;
@@ -101,7 +105,8 @@ fn put_first_change(out: &mut Vec<u8>, first: &Option<Change>) -> Result<(), Mem
 // Prints the test of each turn, up to its colon.
 fn put_turn_test(out: &mut Vec<u8>, test: &Option<Cond>) -> Result<(), Memory>
     ensures { OnOk result (Prints
-        (λ rest. optional_lexemes (condition_lexemes false) (condition_if_any test.now) (Sign Colon ∷ rest))
+        (λ rest. optional_lexemes (condition_lexemes false)
+        (condition_if_any test.now) (Sign Colon ∷ rest))
         out.old.items out.new.items) }
 {
     put_condition_if_any(out, test)?;
@@ -112,7 +117,8 @@ fn put_turn_test(out: &mut Vec<u8>, test: &Option<Cond>) -> Result<(), Memory>
 // Prints what is done after each turn, up to the closing bracket.
 fn put_last_change(out: &mut Vec<u8>, next: &Option<Change>) -> Result<(), Memory>
     ensures { OnOk result (Prints
-        (λ rest. optional_lexemes assignment_lexemes (assignment_if_any next.now) (Sign RightRound ∷ rest))
+        (λ rest. optional_lexemes assignment_lexemes
+        (assignment_if_any next.now) (Sign RightRound ∷ rest))
         out.old.items out.new.items) }
 {
     put_change_if_any(out, next)?;
@@ -150,7 +156,8 @@ fn put_char_mark(out: &mut Vec<u8>) -> Result<(), Memory>
 }
 
 fn put_item(out: &mut Vec<u8>, item: &Item) -> Result<(), Memory>
-    ensures { OnOk result (Prints (item_lexemes (print_item_of item.now)) out.old.items out.new.items) }
+    ensures { OnOk result (Prints (item_lexemes (print_item_of item.now))
+        out.old.items out.new.items) }
 {
     match item {
         Item::Text(text) => put_text(out, text),
@@ -181,7 +188,8 @@ pub fn put_items(out: &mut Vec<u8>, items: &[Item]) -> Result<(), Memory>
 
 // Prints the last value of a range, where it is one.
 fn put_upper_if_any(out: &mut Vec<u8>, upper: &Option<Const>) -> Result<(), Memory>
-    ensures { OnOk result (Prints (optional_lexemes upper_lexemes upper.now) out.old.items out.new.items) }
+    ensures { OnOk result (Prints (optional_lexemes upper_lexemes upper.now)
+        out.old.items out.new.items) }
 {
     match upper {
         Some(upper) => {

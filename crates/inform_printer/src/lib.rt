@@ -18,7 +18,8 @@ mod statements;
 // Directives, and whole programs.
 mod directives;
 mod programs;
-// The laws of all of it.
+// The laws of all of it, and worked examples.
 pub mod laws;
+pub mod worked;
 
 pub use programs::print;

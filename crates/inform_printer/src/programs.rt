@@ -25,7 +25,7 @@ fn put_program(alloc: Global, program: &Program) -> Result<Vec<u8>, Memory>
 
 /// The printed text of a well-formed program. It reads back as that program.
 ///
-/// docs/INFORM.md says how each part is printed ("Printed text"). A program is refused only for want of memory.
+/// docs/INFORM.md says how each part is printed ("Printed text"). Only want of memory is a fault.
 pub fn print(alloc: Global, program: &Program) -> Result<Vec<u8>, Memory>
     // `Program::well_formed` tells whether a program is.
     requires { IsTrue (is_well_formed (program_of program.now)) }

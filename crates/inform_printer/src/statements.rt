@@ -33,7 +33,8 @@ fn put_order(out: &mut Vec<u8>, keyword: Keyword) -> Result<(), Memory>
 // Prints the condition at which a `do` ends.
 fn put_until(out: &mut Vec<u8>, test: &Cond) -> Result<(), Memory>
     ensures { OnOk result (Prints
-        (λ rest. Word w.Until ∷ round (condition_lexemes false (condition_of test.now)) (Sign Semicolon ∷ rest))
+        (λ rest. Word w.Until ∷ round (condition_lexemes false (condition_of test.now))
+        (Sign Semicolon ∷ rest))
         out.old.items out.new.items) }
 {
     put_tested(out, Keyword::Until, test)?;
@@ -44,7 +45,8 @@ fn put_until(out: &mut Vec<u8>, test: &Cond) -> Result<(), Memory>
 // Prints a `switch` up to its opening brace.
 fn put_switch(out: &mut Vec<u8>, value: &Expr) -> Result<(), Memory>
     ensures { OnOk result (Prints
-        (λ rest. Word w.Switch ∷ round (value_lexemes false (expression_of value.now)) (Sign LeftBrace ∷ rest))
+        (λ rest. Word w.Switch ∷ round (value_lexemes false (expression_of value.now))
+        (Sign LeftBrace ∷ rest))
         out.old.items out.new.items) }
 {
     put_word(out, Keyword::Switch)?;
@@ -243,7 +245,8 @@ fn put_cases(out: &mut Vec<u8>, cases: &Vec<Case>) -> Result<(), Memory>
 #[cycle(statements)]
 fn put_default(out: &mut Vec<u8>, body: &Vec<Stmt>) -> Result<(), Memory>
     ensures { OnOk result (Prints
-        (λ rest. default_lexemes (SomeDefault (statements_of body.now.items)) (Sign RightBrace ∷ rest))
+        (λ rest. default_lexemes (SomeDefault (statements_of body.now.items))
+        (Sign RightBrace ∷ rest))
         out.old.items out.new.items) }
 {
     put_default_label(out)?;

@@ -26,7 +26,8 @@ fn put_escape(out: &mut Vec<u8>, byte: u8) -> Result<(), Memory>
 #[tactic(auto, unfolding(inform_lexer::specs::Written::string_text))]
 fn put_byte(out: &mut Vec<u8>, escaped: bool, byte: u8) -> Result<bool, Memory>
     ensures { IfOk result (λ next. (text : List ℕ)
-        → out.new.items ++ string_text next text ≡ out.old.items ++ string_text escaped (byte ∷ text)) }
+        → out.new.items ++ string_text next text
+        ≡ out.old.items ++ string_text escaped (byte ∷ text)) }
 {
     if byte == b'\n' {
         out.push(b'^')?;

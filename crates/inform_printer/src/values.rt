@@ -196,7 +196,8 @@ fn put_arguments(out: &mut Vec<u8>, arguments: &Vec<Expr>) -> Result<(), Memory>
 // Prints the further parts of a sum.
 #[cycle(values)]
 fn put_terms(out: &mut Vec<u8>, terms: &Vec<(SumOp, Expr)>) -> Result<(), Memory>
-    ensures { OnOk result (Prints (term_lexemes (terms_of terms.now.items)) out.old.items out.new.items) }
+    ensures { OnOk result (Prints (term_lexemes (terms_of terms.now.items))
+        out.old.items out.new.items) }
 {
     for (op, term) in terms {
         put_sign(out, term_sign(*op))?;
@@ -208,7 +209,8 @@ fn put_terms(out: &mut Vec<u8>, terms: &Vec<(SumOp, Expr)>) -> Result<(), Memory
 // Prints the further parts of a product.
 #[cycle(values)]
 fn put_factors(out: &mut Vec<u8>, factors: &Vec<(ProdOp, Expr)>) -> Result<(), Memory>
-    ensures { OnOk result (Prints (factor_lexemes (factors_of factors.now.items)) out.old.items out.new.items) }
+    ensures { OnOk result (Prints (factor_lexemes (factors_of factors.now.items))
+        out.old.items out.new.items) }
 {
     for (op, factor) in factors {
         put_sign(out, factor_sign(*op))?;

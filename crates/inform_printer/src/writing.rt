@@ -72,7 +72,8 @@ pub fn put_sign(out: &mut Vec<u8>, symbol: Symbol) -> Result<(), Memory>
 /// Writes a name.
 #[tactic(auto, using(crate::proofs::Written::prints_lexeme), unfolding(inform_lexer::specs::Written::written))]
 pub fn put_name(out: &mut Vec<u8>, name: &Name) -> Result<(), Memory>
-    ensures { OnOk result (Prints (λ rest. NameLexeme name.now ∷ rest) out.old.items out.new.items) }
+    ensures { OnOk result (Prints (λ rest. NameLexeme name.now ∷ rest)
+        out.old.items out.new.items) }
 {
     put_spelled(out, name.bytes(), b' ')
 }

@@ -5,6 +5,10 @@
 #[cfg(test)]
 mod lexemes;
 #[cfg(test)]
+mod names;
+#[cfg(test)]
+mod printer;
+#[cfg(test)]
 mod tokens;
 #[cfg(test)]
 mod trees;

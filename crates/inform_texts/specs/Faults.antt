@@ -11,7 +11,8 @@ use Rattle.inform_grammar.specs.Reading.{reads, within_limit}
 
 pub data TextFault : Type 0 where
   NoTokens : LexFault → TextFault  -- the bytes have no tokens
-  NoSentence : FaultKind → ℕ → TextFault  -- the tokens are no sentence: what is wrong, and its place
+  NoSentence : FaultKind → ℕ
+      → TextFault  -- the tokens are no sentence: what is wrong, and its place
 
 -- the place of the first of these tokens, and the end of the text where there is none
 abbrev pub place_of : List ℕ → List Token → ℕ

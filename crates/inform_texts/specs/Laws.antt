@@ -10,21 +10,27 @@ use Rattle.inform_texts.specs.Faults.{TextFault, FaultyText, Refused}
 
 -- a text has one program at most
 abbrev pub OneProgramAText : Type 0
-OneProgramAText = (bytes : List ℕ) (p q : List DirectiveTree) → ProgramText bytes p → ProgramText bytes q → p ≡ q
+OneProgramAText =
+    (bytes : List ℕ) (p q : List DirectiveTree) → ProgramText bytes p → ProgramText bytes q → p ≡ q
 
 -- a text has a program, or a first fault
 abbrev pub ProgramOrFault : Type 0
-ProgramOrFault = (bytes : List ℕ) → ((p : List DirectiveTree) × ProgramText bytes p) ⊎ ((f : TextFault) × FaultyText bytes f)
+ProgramOrFault =
+    (bytes : List ℕ) → ((p : List DirectiveTree) × ProgramText bytes p) ⊎
+    ((f : TextFault) × FaultyText bytes f)
 
 -- and never both
 abbrev pub NeverBoth : Type 0
-NeverBoth = (bytes : List ℕ) (p : List DirectiveTree) (f : TextFault) → ProgramText bytes p → FaultyText bytes f → ⊥
+NeverBoth =
+    (bytes : List ℕ) (p : List DirectiveTree) (f : TextFault) → ProgramText bytes p
+    → FaultyText bytes f → ⊥
 
 -- a text has one first fault at most
 abbrev pub OneFaultAText : Type 0
 OneFaultAText = (bytes : List ℕ) (f g : TextFault) → FaultyText bytes f → FaultyText bytes g → f ≡ g
 
--- a fault of the grammar stands where no sentence goes on: the lexemes before it are a prefix of a sentence
+-- a fault of the grammar stands where no sentence goes on: the lexemes before it are a prefix of a
+-- sentence
 abbrev pub FaultIsFirst : Type 0
 FaultIsFirst = (bytes : List ℕ) (kind : FaultKind) (place : ℕ) → (r : Refused bytes kind place)
     → FirstFault within_limit (lexemes bytes r.tokens) (fault kind r.rest)

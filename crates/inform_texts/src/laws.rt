@@ -38,7 +38,8 @@ pub fn one_fault_a_text()
     tokens::one_fault();
 }
 
-/// A fault of the grammar stands where no sentence goes on: the tokens before it are a prefix of a sentence.
+/// A fault of the grammar stands where no sentence goes on: the tokens before it are a prefix of a
+/// sentence.
 pub fn fault_is_first()
     ensures { FaultIsFirst }
 {

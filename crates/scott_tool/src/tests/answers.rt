@@ -8,19 +8,24 @@ use crate::program::scott;
 use crate::status_without_words;
 use adv_io::MemoryShelf;
 use std::io::ErrorKind;
+use std::process::Abort;
 use std::test::Fail;
+
+// Each case of these tables.
+fn expect_all<R: Abort + AllocGlobal>(rt: &R, tables: &[&[Case<'_>]]) -> Result<(), Fail> {
+    for cases in tables {
+        for case in cases.iter() {
+            expect(rt, case)?;
+        }
+    }
+    Ok(())
+}
 
 #[test]
 fn commands_are_answered(rt: HostRuntime) -> Result<(), Fail> {
-    for cases in plays::ALL
-        .iter()
-        .chain(refusals::ALL.iter())
-        .chain(sources::ALL.iter())
-    {
-        for case in cases.iter() {
-            expect(&rt, case)?;
-        }
-    }
+    expect_all(&rt, &plays::ALL)?;
+    expect_all(&rt, &refusals::ALL)?;
+    expect_all(&rt, &sources::ALL)?;
     Ok(())
 }
 

@@ -7,5 +7,7 @@ use Rattle.inform_names.proofs.directives.test_directives.Given as goal
 abbrev pub invariant-loop-at : goal.invariant-loop-at
 invariant-loop-at l = record {
   few : l.total ≤ 4000000;
-  rest : directives_fault l.width (found_in l.table) 0 0 (map directive_of l.directive-items) ≡ directives_fault l.width (found_in l.table) l.at l.total (map directive_of (drop l.at l.directive-items));
+  rest : directives_fault l.width (found_in l.table) 0 0 (map directive_of l.directive-items)
+      ≡ directives_fault l.width (found_in l.table) l.at l.total
+      (map directive_of (drop l.at l.directive-items));
 }

@@ -8,6 +8,11 @@ use Rattle.inform_printer.proofs.conditions.+conditions.Goals as goal
 
 pub put_members-returns : goal.put_members-returns
 put_members-returns t c =
-    let later : List Cond → List Lexeme → List Lexeme = λ xs. member_lexemes c.args.symbol c.loop-member.later (conditions_of xs) in
-    let whole : List Cond → List Lexeme → List Lexeme = λ xs. member_lexemes c.args.symbol false (conditions_of xs) in
-    ended later whole _ _ c.loop-member.member-index _ _ c.loop-member-test.false c.deref-member-items.ensures.value c.loop-member.invariant
+    let symbol = c.args.symbol in
+    let l = c.loop-member in
+    let later : List Cond → List Lexeme → List Lexeme =
+    λ xs. member_lexemes symbol l.later (conditions_of xs) in
+    let whole : List Cond → List Lexeme → List Lexeme =
+    λ xs. member_lexemes symbol false (conditions_of xs) in
+    ended later whole _ _ l.member-index _ _ c.loop-member-test.false
+    c.deref-member-items.ensures.value l.invariant

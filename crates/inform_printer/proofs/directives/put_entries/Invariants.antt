@@ -5,5 +5,7 @@ use Rattle.inform_printer.specs.ProgramLexemes.{entries_lexemes}
 use Rattle.inform_printer.proofs.directives.put_entries.Given as goal
 
 abbrev pub invariant-loop-entry : goal.invariant-loop-entry
-invariant-loop-entry l = (rest : List Lexeme) → l.out.items ++ text_of (entries_lexemes (drop l.entry-index l.entries) rest)
+invariant-loop-entry l =
+    (rest : List Lexeme) → l.out.items ++ text_of
+    (entries_lexemes (drop l.entry-index l.entries) rest)
     ≡ l.fn.out.items ++ text_of (entries_lexemes l.entries rest)

@@ -5,5 +5,7 @@ use Rattle.inform_printer.specs.StatementLexemes.{choices_lexemes}
 use Rattle.inform_printer.proofs.items.put_choices.Given as goal
 
 abbrev pub invariant-loop-choice : goal.invariant-loop-choice
-invariant-loop-choice l = (rest : List Lexeme) → l.out.items ++ text_of (choices_lexemes l.later (drop l.choice-index l.choices) rest)
+invariant-loop-choice l =
+    (rest : List Lexeme) → l.out.items ++ text_of
+    (choices_lexemes l.later (drop l.choice-index l.choices) rest)
     ≡ l.fn.out.items ++ text_of (choices_lexemes false l.choices rest)

@@ -6,5 +6,7 @@ use Rattle.inform_printer.specs.StatementLexemes.{items_lexemes}
 use Rattle.inform_printer.proofs.items.put_items.Given as goal
 
 abbrev pub invariant-loop-item : goal.invariant-loop-item
-invariant-loop-item l = (rest : List Lexeme) → l.out.items ++ text_of (items_lexemes l.later (map print_item_of (drop l.item-index l.items)) rest)
+invariant-loop-item l =
+    (rest : List Lexeme) → l.out.items ++ text_of
+    (items_lexemes l.later (map print_item_of (drop l.item-index l.items)) rest)
     ≡ l.fn.out.items ++ text_of (items_lexemes false (map print_item_of l.items) rest)

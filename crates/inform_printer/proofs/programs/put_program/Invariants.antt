@@ -5,5 +5,7 @@ use Rattle.inform_printer.specs.ProgramLexemes.{program_lexemes}
 use Rattle.inform_printer.proofs.programs.put_program.Given as goal
 
 abbrev pub invariant-loop-directive : goal.invariant-loop-directive
-invariant-loop-directive l = l.out.items ++ text_of (program_lexemes (map directive_of (drop l.directive-index l.directive-items)))
+invariant-loop-directive l =
+    l.out.items ++ text_of (program_lexemes (map directive_of
+    (drop l.directive-index l.directive-items)))
     ≡ text_of (program_lexemes (map directive_of l.directive-items))

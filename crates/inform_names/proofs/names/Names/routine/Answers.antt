@@ -8,6 +8,9 @@ use Rattle.inform_names.proofs.names.Names.routine.Goals as goal
 
 pub returns-clause-fine : goal.returns-clause-fine
 returns-clause-fine c =
-    let here : slice_get (directives_of c.args.self.now.accepted.now) c.in-Some.meaning.at ≡ Some (d.Routine (routine_of c.in-Routine.routine)) =
+    let here : slice_get (directives_of c.args.self.now.accepted.now) c.in-Some.meaning.at
+    ≡ Some (d.Routine (routine_of c.in-Routine.routine)) =
     search rules in
-    bodies_are_fine c.args.self.now.accepted.now.width (directives_of c.args.self.now.accepted.now) c.in-Some.meaning.at (routine_of c.in-Routine.routine) c.args.self.now.accepted.now.accepted here
+    bodies_are_fine c.args.self.now.accepted.now.width
+    (directives_of c.args.self.now.accepted.now) c.in-Some.meaning.at
+    (routine_of c.in-Routine.routine) c.args.self.now.accepted.now.accepted here

@@ -5,4 +5,5 @@ use Rattle.inform_names.specs.Scopes.{scope_of}
 use Rattle.inform_names.proofs.places.Scope.test_constants.Given as goal
 
 abbrev pub invariant-loop-constant : goal.invariant-loop-constant
-invariant-loop-constant l = first_fault (scope_of l.self) (constants_demands l.constants) ≡ first_fault (scope_of l.self) (constants_demands (drop l.constant-index l.constants))
+invariant-loop-constant l = first_fault (scope_of l.self) (constants_demands l.constants)
+    ≡ first_fault (scope_of l.self) (constants_demands (drop l.constant-index l.constants))

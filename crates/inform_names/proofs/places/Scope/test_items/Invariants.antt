@@ -6,4 +6,5 @@ use Rattle.inform_names.specs.Scopes.{scope_of}
 use Rattle.inform_names.proofs.places.Scope.test_items.Given as goal
 
 abbrev pub invariant-loop-item : goal.invariant-loop-item
-invariant-loop-item l = first_fault (scope_of l.self) (items_demands (map print_item_of l.items)) ≡ first_fault (scope_of l.self) (items_demands (map print_item_of (drop l.item-index l.items)))
+invariant-loop-item l = first_fault (scope_of l.self) (items_demands (map print_item_of l.items))
+    ≡ first_fault (scope_of l.self) (items_demands (map print_item_of (drop l.item-index l.items)))

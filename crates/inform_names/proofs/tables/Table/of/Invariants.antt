@@ -5,4 +5,6 @@ use Rattle.inform_names.specs.Tables.{found_in}
 use Rattle.inform_names.proofs.tables.Table.of.Given as goal
 
 abbrev pub invariant-loop-at : goal.invariant-loop-at
-invariant-loop-at l = meanings_from l.width (found_in l.table) l.at (map directive_of (drop l.at l.directive-items)) ≡ meanings l.width (map directive_of l.directive-items)
+invariant-loop-at l = meanings_from l.width (found_in l.table) l.at
+    (map directive_of (drop l.at l.directive-items))
+    ≡ meanings l.width (map directive_of l.directive-items)

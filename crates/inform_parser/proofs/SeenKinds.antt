@@ -1,0 +1,158 @@
+-- What is seen to be of a kind.
+use Rattle.std.proofs.Common.{◌≡◌, ℕ, Bool, true, false, List, [], ◌∷◌, drop, Option, Some, None, Ok, Err, refl, sym, ap, subst, ◌∙◌, ◌||◌}
+use Rattle.inform_tree.specs.declared.conditions.Relation.{Relation}
+use Rattle.inform_tree.specs.declared.conditions.Relation.TheVariants.{Eq}
+use Rattle.inform_lexemes.specs.declared.symbols.Symbol.{Symbol}
+use Rattle.inform_lexemes.specs.declared.symbols.Symbol.TheVariants.{Equal, NotEqual, Less, Greater, LessEqual, GreaterEqual, ByteArrow, WordArrow, Plus, Minus, Times, Divide, Remainder}
+use Rattle.inform_lexemes.specs.Lexemes.{Lexeme, Word, Name, Number, Character, Quoted, Sign, is_sign, is_name, is_number, is_character, is_quoted}
+use Rattle.inform_lexer.specs.declared.glances.Glance.{Glance}
+use Rattle.inform_lexer.specs.declared.glances.Glance.TheVariants as g
+use Rattle.inform_grammar.specs.Lexemes.{heads, is_arrow, is_factor_sign, is_term_sign, is_relation, relation_of}
+use Rattle.inform_grammar.specs.Faults.{Unexpected, fault}
+use Rattle.inform_grammar.specs.Plan.{done, refuse, next}
+use Rattle.inform_grammar.specs.Reading.{Spot, spot, Answer, step, reads}
+use Rattle.inform_grammar.proofs.Binding.{and_then}
+use Rattle.inform_parser.specs.Glances.{first_glance}
+use Rattle.inform_lexer.specs.declared.kinds.Token.{Token}
+use Rattle.inform_lexer.specs.Spans.{lexeme_at, lexemes}
+use Rattle.inform_parser.specs.declared.stops.Stop.{Stop}
+use Rattle.inform_parser.specs.Reading.{read, StandsNext, StopsAt}
+use Rattle.inform_parser.specs.Nexts.{next_of, any_next, arrow_next, relation_next, relation_lexeme}
+use Rattle.inform_parser.proofs.Steps.{read-done, read-then, stops-then}
+use Rattle.inform_parser.proofs.Taking.{fails, first_taken, first_stops}
+
+pub number_first : (xs : List Lexeme) (m : ℕ) → first_glance xs ≡ Some (g.Number m) → xs ≡ Number m ∷ drop 1 xs
+number_first (Number x ∷ xs) m e = let same : x ≡ m = cc in ap (λ n. Number n ∷ xs) same
+number_first _ m e = absurd (cc)
+
+pub number_none : (xs : List Lexeme) → ((m : ℕ) → first_glance xs ≡ Some (g.Number m) → ⊥) → heads is_number xs ≡ false
+number_none (Number x ∷ xs) e = absurd (e x refl)
+number_none [] e = refl
+number_none (_ ∷ xs) e = refl
+
+pub number_seen : (xs : List Lexeme) (m : ℕ) → first_glance xs ≡ Some (g.Number m) → heads is_number xs ≡ true
+number_seen (Number x ∷ xs) m e = refl
+number_seen _ m e = absurd (cc)
+
+pub ruleset numbers = (number_first, number_none, number_seen)
+
+pub character_first : (xs : List Lexeme) (m : ℕ) → first_glance xs ≡ Some (g.Character m) → xs ≡ Character m ∷ drop 1 xs
+character_first (Character x ∷ xs) m e = let same : x ≡ m = cc in ap (λ n. Character n ∷ xs) same
+character_first _ m e = absurd (cc)
+
+pub character_none : (xs : List Lexeme) → ((m : ℕ) → first_glance xs ≡ Some (g.Character m) → ⊥) → heads is_character xs ≡ false
+character_none (Character x ∷ xs) e = absurd (e x refl)
+character_none [] e = refl
+character_none (_ ∷ xs) e = refl
+
+pub character_seen : (xs : List Lexeme) (m : ℕ) → first_glance xs ≡ Some (g.Character m) → heads is_character xs ≡ true
+character_seen (Character x ∷ xs) m e = refl
+character_seen _ m e = absurd (cc)
+
+pub ruleset characters = (character_first, character_none, character_seen)
+
+pub name_seen : (xs : List Lexeme) → first_glance xs ≡ Some g.Name → heads is_name xs ≡ true
+name_seen (Name x ∷ xs) e = refl
+name_seen _ e = absurd (cc)
+
+pub name_none : (xs : List Lexeme) → (first_glance xs ≡ Some g.Name → ⊥) → heads is_name xs ≡ false
+name_none (Name x ∷ xs) e = absurd (e refl)
+name_none [] e = refl
+name_none (_ ∷ xs) e = refl
+
+pub ruleset names = (name_seen, name_none)
+
+pub text_seen : (xs : List Lexeme) → first_glance xs ≡ Some g.Quoted → heads is_quoted xs ≡ true
+text_seen (Quoted x ∷ xs) e = refl
+text_seen _ e = absurd (cc)
+
+pub text_none : (xs : List Lexeme) → (first_glance xs ≡ Some g.Quoted → ⊥) → heads is_quoted xs ≡ false
+text_none (Quoted x ∷ xs) e = absurd (e refl)
+text_none [] e = refl
+text_none (_ ∷ xs) e = refl
+
+pub ruleset texts = (text_seen, text_none)
+
+name_said : (x : Lexeme) (found : List ℕ) → is_name x ≡ true → ((name : List ℕ) → x ≡ Name name → found ≡ name) → x ≡ Name found
+name_said (Name y) found e told = ap Name (sym (told y refl))
+name_said _ found e told = absurd (cc)
+
+text_said : (x : Lexeme) (found : List ℕ) → is_quoted x ≡ true → ((text : List ℕ) → x ≡ Quoted text → found ≡ text) → x ≡ Quoted found
+text_said (Quoted y) found e told = ap Quoted (sym (told y refl))
+text_said _ found e told = absurd (cc)
+
+module _ (bytes : List ℕ) (found : List ℕ) where
+  pub name_first : (t : Token) (ts : List Token) (s : Spot) → s.rest ≡ lexemes bytes (t ∷ ts) → heads is_name s.rest ≡ true
+      → ((name : List ℕ) → lexeme_at bytes t ≡ Name name → found ≡ name) → StandsNext (Name found) s
+  name_first t ts s e h told = rw e (ap (λ x. x ∷ lexemes bytes ts) (name_said (lexeme_at bytes t) found (rw e at h) told))
+
+  pub text_first : (t : Token) (ts : List Token) (s : Spot) → s.rest ≡ lexemes bytes (t ∷ ts) → heads is_quoted s.rest ≡ true
+      → ((text : List ℕ) → lexeme_at bytes t ≡ Quoted text → found ≡ text) → StandsNext (Quoted found) s
+  text_first t ts s e h told = rw e (ap (λ x. x ∷ lexemes bytes ts) (text_said (lexeme_at bytes t) found (rw e at h) told))
+
+-- ---- symbols
+
+pub relation_kind : (op : Relation) → is_relation (relation_lexeme op) ≡ true
+relation_kind Eq = refl
+relation_kind _ = refl
+
+-- ---- symbols that compare values
+
+relation_known : (op : Relation) → relation_of (relation_lexeme op) ≡ op
+relation_known Eq = refl
+relation_known _ = refl
+
+relation_by : (s : Spot) → read relation_next s ≡ and_then (read (next_of is_relation) s) (λ x s. Ok (relation_of x, s))
+unfolding relation_next
+relation_by s = read-then (λ x. done (relation_of x)) (next_of is_relation) s ∙ ended (read (next_of is_relation) s)
+  where
+    ended : (a : Answer Lexeme) → and_then a (λ x s. read (done (relation_of x)) s) ≡ and_then a (λ x s. Ok (relation_of x, s))
+    ended (Ok y) = read-done (relation_of y.0) y.1
+    ended (Err fault) = refl
+
+pub relation_fails : (s : Spot) → heads is_relation s.rest ≡ false → read relation_next s ≡ Err (fault Unexpected s.rest)
+relation_fails s e = relation_by s ∙ ap (λ a. and_then a (λ x s. Ok (relation_of x, s))) (fails s is_relation done e)
+
+module _ (s : Spot) (op : Relation) (first : StandsNext (relation_lexeme op) s) where
+  pub relation_taken : (mid : Spot) → read any_next s ≡ Ok (tt, mid) → read relation_next s ≡ Ok (op, mid)
+  relation_taken mid e =
+      relation_by s
+      ∙ ap (λ a. and_then a (λ x s. Ok (relation_of x, s))) (first_taken s is_relation (relation_lexeme op) first (relation_kind op) mid e)
+      ∙ ap (λ op. Ok (op, mid)) (relation_known op)
+
+  pub relation_stops : (after : Spot) (stop : Stop) → StopsAt after stop (read any_next s) → StopsAt after stop (read relation_next s)
+  relation_stops after stop e =
+      subst (λ a. StopsAt after stop a) (sym (relation_by s))
+      (stops-then after stop (λ x s. Ok (relation_of x, s)) (read (next_of is_relation) s)
+      (first_stops s is_relation (relation_lexeme op) first (relation_kind op) after stop e))
+
+pub at_relation : (xs : List Lexeme) (op : Relation) → xs ≡ relation_lexeme op ∷ drop 1 xs → heads is_relation xs ≡ true
+at_relation xs op e = rw e (relation_kind op)
+
+-- ---- arrows and signs
+
+arrow_at : (xs : List Lexeme) (n : ℕ) → read arrow_next (spot n xs) ≡ read (next (is_sign WordArrow) (λ _. done true) (next (is_sign ByteArrow) (λ _. done false) refuse)) (spot n xs)
+unfolding read reads step arrow_next
+arrow_at [] n = refl
+arrow_at (Sign WordArrow ∷ xs) n = refl
+arrow_at (_ ∷ xs) n = refl
+
+pub arrow_as : (s : Spot) → read arrow_next s ≡ read (next (is_sign WordArrow) (λ _. done true) (next (is_sign ByteArrow) (λ _. done false) refuse)) s
+arrow_as s = arrow_at s.rest s.opened
+
+pub ruleset arrows = (arrow_as)
+
+pub at_arrow : (xs : List Lexeme) → heads is_arrow xs ≡ (heads (is_sign ByteArrow) xs || heads (is_sign WordArrow) xs)
+at_arrow [] = refl
+at_arrow (Sign WordArrow ∷ xs) = refl
+at_arrow (_ ∷ xs) = refl
+
+pub at_factor : (xs : List Lexeme) → heads is_factor_sign xs ≡ (heads (is_sign Times) xs || heads (is_sign Divide) xs || heads (is_sign Remainder) xs)
+at_factor [] = refl
+at_factor (Sign WordArrow ∷ xs) = refl
+at_factor (_ ∷ xs) = refl
+
+pub at_term : (xs : List Lexeme) → heads is_term_sign xs ≡ (heads (is_sign Plus) xs || heads (is_sign Minus) xs)
+at_term [] = refl
+at_term (Sign WordArrow ∷ xs) = refl
+at_term (_ ∷ xs) = refl

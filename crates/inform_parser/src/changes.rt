@@ -1,0 +1,85 @@
+//! Changes, and the statements that begin with a name.
+ghost use Rattle.std.specs.Prelude.{◌≡◌, ◌≤◌, ◌<◌, List, [], ◌∷◌, OnOk, length};
+ghost use Rattle.inform_tree.specs.Statements.{assignment_of, assignment_if_any, statement_of};
+ghost use Rattle.inform_grammar.specs.Rules as r;
+ghost use Rattle.inform_grammar.specs.StatementRules.{change_after, statement_after};
+ghost use Rattle.inform_grammar.specs.Plan.{done, one};
+ghost use Rattle.inform_parser.specs.Reading.{Gives};
+ghost use Rattle.inform_parser.specs.Plans.{change_if_any};
+
+use crate::cursor::Cursor;
+use crate::stops::Stop;
+use inform_lexemes::Symbol;
+use inform_tree::{Change, Name, Stmt};
+use std::alloc::Global;
+
+impl<'a> Cursor<'a> {
+    // What follows a name that is changed.
+    #[tactic(auto, using(crate::proofs::Steps::steps, crate::proofs::StatementSteps::changes))]
+    fn change_after(&mut self, alloc: Global, name: Name) -> Result<Change, Stop>
+        ensures gives { Gives assignment_of (change_after name) self.old result self.new }
+        ensures ahead { length self.new.rest ≤ length self.old.rest }
+        ensures taken { OnOk result (length self.new.rest < length self.old.rest) }
+    {
+        if self.at(Symbol::Assign) {
+            self.expect(Symbol::Assign)?;
+            let value = self.value(alloc)?;
+            return Ok(Change::Set(name, value));
+        }
+        if self.at_arrow() {
+            let words = self.arrow()?;
+            let index = self.primary(alloc)?;
+            self.expect(Symbol::Assign)?;
+            let value = self.value(alloc)?;
+            return Ok(Change::SetEntry(name, words, index, value));
+        }
+        if self.at(Symbol::Increment) {
+            self.expect(Symbol::Increment)?;
+            return Ok(Change::Inc(name));
+        }
+        self.expect(Symbol::Decrement)?;
+        Ok(Change::Dec(name))
+    }
+
+    // A change.
+    #[tactic(auto, using(crate::proofs::Steps::steps, crate::proofs::StatementSteps::change_as))]
+    fn change(&mut self, alloc: Global) -> Result<Change, Stop>
+        ensures gives { Gives assignment_of (one r.Change done) self.old result self.new }
+        ensures ahead { length self.new.rest ≤ length self.old.rest }
+        ensures taken { OnOk result (length self.new.rest < length self.old.rest) }
+    {
+        let name = self.name(alloc)?;
+        self.change_after(alloc, name)
+    }
+
+    /// A change, if one stands next.
+    #[tactic(auto, using(crate::proofs::Steps::steps, crate::proofs::StatementSteps::change_if))]
+    pub fn change_if_any(&mut self, alloc: Global) -> Result<Option<Change>, Stop>
+        ensures gives { Gives assignment_if_any change_if_any self.old result self.new }
+        ensures ahead { length self.new.rest ≤ length self.old.rest }
+    {
+        if !self.at_name() {
+            return Ok(None);
+        }
+        let change = self.change(alloc)?;
+        Ok(Some(change))
+    }
+
+    /// A call or a change with its semicolon, after its name.
+    #[tactic(auto, using(crate::proofs::Steps::steps, crate::proofs::TreesMade::statements), unfolding(inform_grammar::specs::StatementRules::statement_after))]
+    pub fn statement_after(&mut self, alloc: Global, name: Name) -> Result<Stmt, Stop>
+        ensures gives { Gives statement_of (statement_after name) self.old result self.new }
+        ensures ahead { length self.new.rest ≤ length self.old.rest }
+        ensures taken { OnOk result (length self.new.rest < length self.old.rest) }
+    {
+        if self.at(Symbol::LeftRound) {
+            self.expect(Symbol::LeftRound)?;
+            let arguments = self.arguments(alloc)?;
+            self.expect(Symbol::Semicolon)?;
+            return Ok(Stmt::Call(name, arguments));
+        }
+        let change = self.change_after(alloc, name)?;
+        self.expect(Symbol::Semicolon)?;
+        Ok(Stmt::Change(change))
+    }
+}

@@ -1,0 +1,93 @@
+//! The heads of the cases of a `switch`.
+ghost use Rattle.std.specs.Prelude.{◌≡◌, ◌≤◌, ◌<◌, List, [], ◌∷◌, OnOk, IfOk, IfErr, length};
+ghost use Rattle.inform_grammar.specs.Rules as r;
+ghost use Rattle.inform_grammar.specs.StatementRules.{range_after, choices_after, head_after};
+ghost use Rattle.inform_grammar.specs.Plan.{done, one, many};
+ghost use Rattle.inform_parser.specs.Reading.{Gives};
+ghost use Rattle.inform_parser.specs.Parts.{choice_of, choices_in, part_of};
+
+use crate::cursor::Cursor;
+use crate::parts::Part;
+use crate::stops::Stop;
+use inform_lexemes::{Keyword, Symbol};
+use inform_tree::Const;
+use std::alloc::Global;
+
+impl<'a> Cursor<'a> {
+    // What follows a constant that begins a choice: the last one of a range, or nothing.
+    #[tactic(auto, using(crate::proofs::Steps::steps, crate::proofs::ChoiceSteps::ranges))]
+    fn range_after(&mut self, alloc: Global, first: Const) -> Result<(Const, Option<Const>), Stop>
+        ensures gives { Gives choice_of (range_after first) self.old result self.new }
+        ensures ahead { length self.new.rest ≤ length self.old.rest }
+    {
+        if self.at_word(Keyword::To) {
+            self.expect_word(Keyword::To)?;
+            let last = self.constant(alloc)?;
+            return Ok((first, Some(last)));
+        }
+        Ok((first, None))
+    }
+
+    /// A choice of a case.
+    #[tactic(auto, using(crate::proofs::Steps::steps, crate::proofs::ChoiceSteps::choice_as))]
+    pub fn choice(&mut self, alloc: Global) -> Result<(Const, Option<Const>), Stop>
+        ensures gives { Gives choice_of (one r.Choice done) self.old result self.new }
+        ensures ahead { length self.new.rest ≤ length self.old.rest }
+        ensures taken { OnOk result (length self.new.rest < length self.old.rest) }
+    {
+        let first = self.constant(alloc)?;
+        self.range_after(alloc, first)
+    }
+
+    // A further choice, after its comma.
+    #[tactic(auto, using(crate::proofs::Steps::steps, crate::proofs::ChoiceSteps::further_choice_as))]
+    fn further_choice(&mut self, alloc: Global) -> Result<(Const, Option<Const>), Stop>
+        ensures gives { Gives choice_of (one r.FurtherChoice done) self.old result self.new }
+        ensures ahead { length self.new.rest ≤ length self.old.rest }
+        ensures taken { OnOk result (length self.new.rest < length self.old.rest) }
+    {
+        self.expect(Symbol::Comma)?;
+        self.choice(alloc)
+    }
+
+    // The choices of a case, of which one is read.
+    #[tactic(auto, using(crate::proofs::Steps::steps, crate::proofs::ChoiceSteps::choice_loop))]
+    fn choices(&mut self, alloc: Global, first: (Const, Option<Const>)) -> Result<Vec<(Const, Option<Const>)>, Stop>
+        ensures gives { Gives choices_in
+            (many r.FurtherChoice (choice_of first ∷ []) done) self.old result self.new }
+        ensures ahead { length self.new.rest ≤ length self.old.rest }
+    {
+        let mut choices = Vec::new(alloc);
+        choices.push(first)?;
+        while self.at(Symbol::Comma) {
+            let choice = self.further_choice(alloc)?;
+            choices.push(choice)?;
+        }
+        Ok(choices)
+    }
+
+    /// The choices of a case, of which one is read, and its colon.
+    #[tactic(auto, using(crate::proofs::Steps::steps, crate::proofs::ChoiceSteps::choices_after_as))]
+    pub fn choices_after(&mut self, alloc: Global, first: (Const, Option<Const>)) -> Result<Vec<(Const, Option<Const>)>, Stop>
+        ensures gives { Gives choices_in
+            (choices_after (choice_of first)) self.old result self.new }
+        ensures ahead { length self.new.rest ≤ length self.old.rest }
+        ensures taken { OnOk result (length self.new.rest < length self.old.rest) }
+    {
+        let choices = self.choices(alloc, first)?;
+        self.expect(Symbol::Colon)?;
+        Ok(choices)
+    }
+
+    /// The head of a case, with its first constant read.
+    #[tactic(auto, using(crate::proofs::Steps::steps, crate::proofs::ChoiceSteps::head_after_as))]
+    pub fn head_after(&mut self, alloc: Global, first: Const) -> Result<Part, Stop>
+        ensures gives { Gives part_of (head_after first) self.old result self.new }
+        ensures ahead { length self.new.rest ≤ length self.old.rest }
+        ensures taken { OnOk result (length self.new.rest < length self.old.rest) }
+    {
+        let first = self.range_after(alloc, first)?;
+        let choices = self.choices_after(alloc, first)?;
+        Ok(Part::Head(choices))
+    }
+}

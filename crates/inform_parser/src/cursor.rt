@@ -1,0 +1,464 @@
+//! The tokens that are left, and how many brackets and statements are open.
+ghost use Rattle.std.specs.Prelude.{◌≡◌, ◌≤◌, ◌<◌, OnOk, IfOk, MatchOption, length, false};
+ghost use Rattle.inform_lexemes.specs.Lexemes.{Word, Name as NameLexeme, Number, Character, Quoted, Sign, is_sign, is_word, is_name, is_number, is_character, is_quoted};
+ghost use Rattle.inform_lexer.specs.Spans.{lexemes};
+ghost use Rattle.inform_grammar.specs.Lexemes.{heads, is_arrow, is_factor_sign, is_term_sign, is_relation, relation_in};
+ghost use Rattle.inform_grammar.specs.Reading.{spot};
+ghost use Rattle.inform_parser.specs.Glances.{first_glance, opens, closes, opened_within};
+ghost use Rattle.inform_parser.specs.Reading.{Gives, StandsNext, shut_spot};
+ghost use Rattle.inform_parser.specs.Nexts.{next_of, any_next, arrow_next, relation_next, factor_next, term_next, relation_lexeme};
+
+use crate::stops::Stop;
+use adv_io::Memory;
+use inform_grammar::limits::OPENER_LIMIT;
+use inform_lexemes::{Keyword, Symbol};
+use inform_lexer::{Glance, Token, glance, name, text};
+use inform_tree::{Name, ProdOp, Relation, SumOp, Text};
+use std::alloc::Global;
+use std::marker::Model;
+
+/// The tokens that are left, with the first of them at a glance.
+///
+/// A clause sees how many brackets and statements are open, and the lexemes of the tokens.
+#[derive(Drop)]
+pub struct Cursor<'a> {
+    bytes: &'a [u8],
+    rest: &'a [Token],
+    seen: Option<Glance>,
+    opened: usize,
+}
+
+impl<'a> Model for Cursor<'a> {
+    ghost use Rattle.std.specs.Prelude.{◌≡◌};
+    ghost use Rattle.inform_lexer.specs.Spans.{lexemes};
+    ghost use Rattle.inform_grammar.specs.Reading.{Spot, spot};
+    ghost use Rattle.inform_parser.specs.Glances.{first_glance};
+
+    ghost Value = { Spot };
+
+    ghost view = { λ c. spot c.opened (lexemes c.bytes.now c.rest.now) };
+
+    ghost invariant = { λ c. c.seen ≡ first_glance (lexemes c.bytes.now c.rest.now) };
+}
+
+// What is seen of the first of these tokens.
+fn first_glance(bytes: &[u8], tokens: &[Token]) -> Option<Glance>
+    ensures { result ≡ first_glance (lexemes bytes.now tokens.now) }
+{
+    match tokens {
+        [token, ..] => Some(glance(bytes, *token)),
+        [] => None,
+    }
+}
+
+// Whether such a lexeme opens something.
+fn is_opener(seen: Glance) -> bool
+    ensures { result ≡ opens seen }
+{
+    match seen {
+        Glance::Symbol(symbol) => matches!(symbol, Symbol::LeftRound | Symbol::LeftBrace),
+        Glance::Word(keyword) => matches!(
+            keyword,
+            Keyword::If | Keyword::While | Keyword::Do | Keyword::For
+        ),
+        _ => false,
+    }
+}
+
+// Whether such a lexeme closes something.
+fn is_closer(seen: Glance) -> bool
+    ensures { result ≡ closes seen }
+{
+    match seen {
+        Glance::Symbol(symbol) => matches!(symbol, Symbol::RightRound | Symbol::RightBrace),
+        _ => false,
+    }
+}
+
+// How many are open after such a lexeme, where so many were open before it and there is room for it.
+fn opened_after(seen: Glance, opened: usize) -> Option<usize>
+    ensures { result ≡ opened_within seen opened }
+{
+    if is_opener(seen) {
+        if opened >= OPENER_LIMIT {
+            return None;
+        }
+        return Some(opened + 1);
+    }
+    if is_closer(seen) {
+        return Some(opened.saturating_sub(1));
+    }
+    Some(opened)
+}
+
+// How values are compared by a symbol.
+fn relation_by(symbol: Symbol) -> Option<Relation>
+    ensures { result ≡ relation_in (Sign symbol) }
+{
+    match symbol {
+        Symbol::Equal => Some(Relation::Eq),
+        Symbol::NotEqual => Some(Relation::Ne),
+        Symbol::Less => Some(Relation::Lt),
+        Symbol::Greater => Some(Relation::Gt),
+        Symbol::LessEqual => Some(Relation::Le),
+        Symbol::GreaterEqual => Some(Relation::Ge),
+        _ => None,
+    }
+}
+
+impl<'a> Cursor<'a> {
+    /// The cursor before the first of these tokens, which are those of these bytes.
+    pub fn new(bytes: &'a [u8], tokens: &'a [Token]) -> Cursor<'a>
+        ensures { result ≡ spot 0 (lexemes bytes.now tokens.now) }
+    {
+        Cursor {
+            bytes,
+            rest: tokens,
+            seen: first_glance(bytes, tokens),
+            opened: 0,
+        }
+    }
+
+    /// What is seen of the next token.
+    pub fn seen(&self) -> Option<Glance>
+        ensures { result ≡ first_glance self.now.rest }
+    {
+        self.seen
+    }
+
+    /// Whether this symbol stands next.
+    #[tactic(auto, using(crate::proofs::Glances::symbols))]
+    pub fn at(&self, symbol: Symbol) -> bool
+        ensures { result ≡ heads (is_sign symbol) self.now.rest }
+    {
+        match self.seen() {
+            Some(Glance::Symbol(seen)) => symbol == seen,
+            _ => false,
+        }
+    }
+
+    /// Whether this word of the grammar stands next.
+    #[tactic(auto, using(crate::proofs::Glances::keywords))]
+    pub fn at_word(&self, keyword: Keyword) -> bool
+        ensures { result ≡ heads (is_word keyword) self.now.rest }
+    {
+        match self.seen() {
+            Some(Glance::Word(seen)) => keyword == seen,
+            _ => false,
+        }
+    }
+
+    /// Whether a number stands next.
+    #[tactic(auto, using(crate::proofs::SeenKinds::numbers))]
+    pub fn at_number(&self) -> bool
+        ensures { result ≡ heads is_number self.now.rest }
+    {
+        match self.seen() {
+            Some(Glance::Number(_)) => true,
+            _ => false,
+        }
+    }
+
+    /// Whether a character stands next.
+    #[tactic(auto, using(crate::proofs::SeenKinds::characters))]
+    pub fn at_character(&self) -> bool
+        ensures { result ≡ heads is_character self.now.rest }
+    {
+        match self.seen() {
+            Some(Glance::Character(_)) => true,
+            _ => false,
+        }
+    }
+
+    /// Whether a name stands next.
+    #[tactic(auto, using(crate::proofs::SeenKinds::names))]
+    pub fn at_name(&self) -> bool
+        ensures { result ≡ heads is_name self.now.rest }
+    {
+        match self.seen() {
+            Some(Glance::Name) => true,
+            _ => false,
+        }
+    }
+
+    /// Whether a string stands next.
+    #[tactic(auto, using(crate::proofs::SeenKinds::texts))]
+    pub fn at_text(&self) -> bool
+        ensures { result ≡ heads is_quoted self.now.rest }
+    {
+        match self.seen() {
+            Some(Glance::Quoted) => true,
+            _ => false,
+        }
+    }
+
+    /// Whether `->` or `-->` stands next.
+    #[tactic(auto, using(crate::proofs::SeenKinds::at_arrow))]
+    pub fn at_arrow(&self) -> bool
+        ensures { result ≡ heads is_arrow self.now.rest }
+    {
+        self.at(Symbol::ByteArrow) || self.at(Symbol::WordArrow)
+    }
+
+    /// Whether the sign of a further factor stands next.
+    #[tactic(auto, using(crate::proofs::SeenKinds::at_factor))]
+    pub fn at_factor(&self) -> bool
+        ensures { result ≡ heads is_factor_sign self.now.rest }
+    {
+        self.at(Symbol::Times) || self.at(Symbol::Divide) || self.at(Symbol::Remainder)
+    }
+
+    /// Whether the sign of a further term stands next.
+    #[tactic(auto, using(crate::proofs::SeenKinds::at_term))]
+    pub fn at_term(&self) -> bool
+        ensures { result ≡ heads is_term_sign self.now.rest }
+    {
+        self.at(Symbol::Plus) || self.at(Symbol::Minus)
+    }
+
+    /// Whether a symbol that compares values stands next.
+    #[tactic(auto, using(crate::proofs::SeenKinds::at_relation))]
+    pub fn at_relation(&self) -> bool
+        ensures { result ≡ heads is_relation self.now.rest }
+    {
+        self.next_relation().is_some()
+    }
+
+    /// Takes whatever stands next.
+    pub fn advance(&mut self) -> Result<(), Stop>
+        ensures gives { Gives (λ _. tt) any_next self.old result self.new }
+        ensures ahead { length self.new.rest ≤ length self.old.rest }
+        ensures taken { OnOk result (length self.new.rest < length self.old.rest) }
+    {
+        let Some(seen) = self.seen else {
+            return Err(Stop::Unexpected);
+        };
+        let Some(opened) = opened_after(seen, self.opened) else {
+            return Err(Stop::TooDeep);
+        };
+        self.opened = opened;
+        self.rest = &self.rest[1..];
+        self.seen = first_glance(self.bytes, self.rest);
+        Ok(())
+    }
+
+    /// Takes this symbol, which must stand next.
+    #[tactic(auto, using(crate::proofs::Taking::sign_taken, crate::proofs::Taking::sign_stops, crate::proofs::Taking::fails))]
+    pub fn expect(&mut self, symbol: Symbol) -> Result<(), Stop>
+        ensures gives { Gives (λ _. Sign symbol) (next_of (is_sign symbol)) self.old result self.new }
+        ensures ahead { length self.new.rest ≤ length self.old.rest }
+        ensures taken { OnOk result (length self.new.rest < length self.old.rest) }
+    {
+        if !self.at(symbol) {
+            return Err(Stop::Unexpected);
+        }
+        self.advance()?;
+        Ok(())
+    }
+
+    /// Takes this word of the grammar, which must stand next.
+    #[tactic(auto, using(crate::proofs::Taking::fails))]
+    pub fn expect_word(&mut self, keyword: Keyword) -> Result<(), Stop>
+        ensures gives { Gives (λ _. Word keyword) (next_of (is_word keyword)) self.old result self.new }
+        ensures ahead { length self.new.rest ≤ length self.old.rest }
+        ensures taken { OnOk result (length self.new.rest < length self.old.rest) }
+    {
+        if !self.at_word(keyword) {
+            return Err(Stop::Unexpected);
+        }
+        self.advance()?;
+        Ok(())
+    }
+
+    // The number that stands next.
+    #[tactic(auto, using(crate::proofs::SeenKinds::numbers))]
+    fn next_number(&self) -> Option<u32>
+        ensures { MatchOption result (heads is_number self.now.rest ≡ false)
+            (λ x. StandsNext (Number x) self.now) }
+    {
+        match self.seen() {
+            Some(Glance::Number(number)) => Some(number),
+            _ => None,
+        }
+    }
+
+    /// Takes a number, which must stand next.
+    #[tactic(auto, using(crate::proofs::Taking::fails))]
+    pub fn number(&mut self) -> Result<u32, Stop>
+        ensures gives { Gives Number (next_of is_number) self.old result self.new }
+        ensures ahead { length self.new.rest ≤ length self.old.rest }
+        ensures taken { OnOk result (length self.new.rest < length self.old.rest) }
+    {
+        let Some(number) = self.next_number() else {
+            return Err(Stop::Unexpected);
+        };
+        self.advance()?;
+        Ok(number)
+    }
+
+    // The character that stands next.
+    #[tactic(auto, using(crate::proofs::SeenKinds::characters))]
+    fn next_character(&self) -> Option<u8>
+        ensures { MatchOption result (heads is_character self.now.rest ≡ false)
+            (λ x. StandsNext (Character x) self.now) }
+    {
+        match self.seen() {
+            Some(Glance::Character(byte)) => Some(byte),
+            _ => None,
+        }
+    }
+
+    /// Takes a character, which must stand next.
+    #[tactic(auto, using(crate::proofs::Taking::fails))]
+    pub fn character(&mut self) -> Result<u8, Stop>
+        ensures gives { Gives Character (next_of is_character) self.old result self.new }
+        ensures ahead { length self.new.rest ≤ length self.old.rest }
+        ensures taken { OnOk result (length self.new.rest < length self.old.rest) }
+    {
+        let Some(byte) = self.next_character() else {
+            return Err(Stop::Unexpected);
+        };
+        self.advance()?;
+        Ok(byte)
+    }
+
+    // The name that stands next.
+    #[tactic(auto, using(crate::proofs::SeenKinds::names))]
+    fn next_name(&self, alloc: Global) -> Result<Option<Name>, Memory>
+        ensures { IfOk result (λ found. MatchOption found (heads is_name self.now.rest ≡ false)
+            (λ x. StandsNext (NameLexeme x) self.now)) }
+    {
+        if !self.at_name() {
+            return Ok(None);
+        }
+        let [token, ..] = self.rest else {
+            return Ok(None);
+        };
+        Ok(Some(name(alloc, self.bytes, *token)?))
+    }
+
+    /// Takes a name, which must stand next.
+    #[tactic(auto, using(crate::proofs::Taking::fails))]
+    pub fn name(&mut self, alloc: Global) -> Result<Name, Stop>
+        ensures gives { Gives NameLexeme (next_of is_name) self.old result self.new }
+        ensures ahead { length self.new.rest ≤ length self.old.rest }
+        ensures taken { OnOk result (length self.new.rest < length self.old.rest) }
+    {
+        let Some(name) = self.next_name(alloc)? else {
+            return Err(Stop::Unexpected);
+        };
+        self.advance()?;
+        Ok(name)
+    }
+
+    // The text of the string that stands next.
+    #[tactic(auto, using(crate::proofs::SeenKinds::texts))]
+    fn next_text(&self, alloc: Global) -> Result<Option<Text>, Memory>
+        ensures { IfOk result (λ found. MatchOption found (heads is_quoted self.now.rest ≡ false)
+            (λ x. StandsNext (Quoted x) self.now)) }
+    {
+        if !self.at_text() {
+            return Ok(None);
+        }
+        let [token, ..] = self.rest else {
+            return Ok(None);
+        };
+        Ok(Some(text(alloc, self.bytes, *token)?))
+    }
+
+    /// Takes a string, which must stand next.
+    #[tactic(auto, using(crate::proofs::Taking::fails))]
+    pub fn text(&mut self, alloc: Global) -> Result<Text, Stop>
+        ensures gives { Gives Quoted (next_of is_quoted) self.old result self.new }
+        ensures ahead { length self.new.rest ≤ length self.old.rest }
+        ensures taken { OnOk result (length self.new.rest < length self.old.rest) }
+    {
+        let Some(text) = self.next_text(alloc)? else {
+            return Err(Stop::Unexpected);
+        };
+        self.advance()?;
+        Ok(text)
+    }
+
+    // How values are compared by the symbol that stands next.
+    fn next_relation(&self) -> Option<Relation>
+        ensures { MatchOption result (heads is_relation self.now.rest ≡ false)
+            (λ x. StandsNext (relation_lexeme x) self.now) }
+    {
+        match self.seen() {
+            Some(Glance::Symbol(symbol)) => relation_by(symbol),
+            _ => None,
+        }
+    }
+
+    /// Takes a symbol that compares values, which must stand next.
+    #[tactic(auto, using(crate::proofs::SeenKinds::relation_fails))]
+    pub fn relation(&mut self) -> Result<Relation, Stop>
+        ensures gives { Gives (λ op. op) relation_next self.old result self.new }
+        ensures ahead { length self.new.rest ≤ length self.old.rest }
+        ensures taken { OnOk result (length self.new.rest < length self.old.rest) }
+    {
+        let Some(relation) = self.next_relation() else {
+            return Err(Stop::Unexpected);
+        };
+        self.advance()?;
+        Ok(relation)
+    }
+
+    /// Takes `->` or `-->`, which must stand next, and tells whether it is the one of words.
+    #[tactic(auto, using(crate::proofs::Steps::steps, crate::proofs::SeenKinds::arrows))]
+    pub fn arrow(&mut self) -> Result<bool, Stop>
+        ensures gives { Gives (λ words. words) arrow_next self.old result self.new }
+        ensures ahead { length self.new.rest ≤ length self.old.rest }
+        ensures taken { OnOk result (length self.new.rest < length self.old.rest) }
+    {
+        if self.at(Symbol::WordArrow) {
+            self.expect(Symbol::WordArrow)?;
+            return Ok(true);
+        }
+        self.expect(Symbol::ByteArrow)?;
+        Ok(false)
+    }
+
+    /// Takes the sign of a further factor, which must stand next.
+    #[tactic(auto, using(crate::proofs::Steps::steps), unfolding(crate::specs::Nexts::factor_next))]
+    pub fn factor_sign(&mut self) -> Result<ProdOp, Stop>
+        ensures gives { Gives (λ op. op) factor_next self.old result self.new }
+        ensures ahead { length self.new.rest ≤ length self.old.rest }
+        ensures taken { OnOk result (length self.new.rest < length self.old.rest) }
+    {
+        if self.at(Symbol::Times) {
+            self.expect(Symbol::Times)?;
+            return Ok(ProdOp::Mul);
+        }
+        if self.at(Symbol::Divide) {
+            self.expect(Symbol::Divide)?;
+            return Ok(ProdOp::Div);
+        }
+        self.expect(Symbol::Remainder)?;
+        Ok(ProdOp::Rem)
+    }
+
+    /// Takes the sign of a further term, which must stand next.
+    #[tactic(auto, using(crate::proofs::Steps::steps), unfolding(crate::specs::Nexts::term_next))]
+    pub fn term_sign(&mut self) -> Result<SumOp, Stop>
+        ensures gives { Gives (λ op. op) term_next self.old result self.new }
+        ensures ahead { length self.new.rest ≤ length self.old.rest }
+        ensures taken { OnOk result (length self.new.rest < length self.old.rest) }
+    {
+        if self.at(Symbol::Plus) {
+            self.expect(Symbol::Plus)?;
+            return Ok(SumOp::Add);
+        }
+        self.expect(Symbol::Minus)?;
+        Ok(SumOp::Sub)
+    }
+
+    /// A statement that was open has ended.
+    pub fn shut(&mut self)
+        ensures shut { self.new ≡ shut_spot self.old }
+        ensures same { self.new.rest ≡ self.old.rest }
+    {
+        self.opened = self.opened.saturating_sub(1);
+    }
+}

@@ -1,0 +1,59 @@
+//! What stands where a condition is expected.
+ghost use Rattle.std.specs.Prelude.{◌≡◌};
+ghost use Rattle.inform_tree.specs.Conditions.{condition_of};
+ghost use Rattle.inform_grammar.specs.Trees.{condition, joined};
+ghost use Rattle.inform_parser.specs.Guards.{guard_of, join_of, conditions_in};
+
+use inform_tree::{Cond, Expr};
+
+/// What stands where a condition is expected.
+#[derive(Drop)]
+pub enum Guard {
+    /// An expression, which may go on as a part of a greater one.
+    Plain(Expr),
+    /// A condition that is no expression.
+    Tested(Cond),
+}
+
+impl Guard {
+    ghost use Rattle.inform_tree.specs.Conditions.{condition_of};
+    ghost use Rattle.inform_grammar.specs.Trees.{condition};
+    ghost use Rattle.inform_parser.specs.Guards.{guard_of};
+
+    /// The condition that it is: an expression by itself asks whether it isn't 0.
+    #[tactic(auto, using(crate::proofs::TreesMade::conditions))]
+    pub fn into_condition(self) -> Cond
+        ensures { condition_of result ≡ condition (guard_of self) }
+    {
+        match self {
+            Guard::Plain(x) => Cond::Nonzero(x),
+            Guard::Tested(test) => test,
+        }
+    }
+}
+
+/// How conditions are joined.
+#[derive(Clone, Copy, Debug, PartialEq, Eq)]
+pub enum Join {
+    /// By `&&`.
+    All,
+    /// By `||`.
+    Any,
+}
+
+impl Join {
+    ghost use Rattle.inform_tree.specs.Conditions.{condition_of};
+    ghost use Rattle.inform_grammar.specs.Trees.{joined};
+        ghost use Rattle.inform_parser.specs.Guards.{join_of, conditions_in};
+
+    /// The chain of conditions that are joined so.
+    #[tactic(auto, using(crate::proofs::TreesMade::conditions))]
+    pub fn chain(self, members: Vec<Cond>) -> Cond
+        ensures { condition_of result ≡ joined (join_of self) (conditions_in members) }
+    {
+        match self {
+            Join::All => Cond::All(members),
+            Join::Any => Cond::Any(members),
+        }
+    }
+}

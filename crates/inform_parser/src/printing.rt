@@ -1,0 +1,94 @@
+//! `print` and its items.
+ghost use Rattle.std.specs.Prelude.{◌≡◌, ◌≤◌, ◌<◌, List, [], ◌∷◌, OnOk, length};
+ghost use Rattle.inform_tree.specs.Statements.{print_item_of, statement_of};
+ghost use Rattle.inform_grammar.specs.Rules as r;
+ghost use Rattle.inform_grammar.specs.StatementRules.{print_after};
+ghost use Rattle.inform_grammar.specs.Plan.{done, one, many};
+ghost use Rattle.inform_parser.specs.Reading.{Gives};
+ghost use Rattle.inform_parser.specs.Plans.{item_inside};
+ghost use Rattle.inform_parser.specs.Views.{items_in};
+
+use crate::cursor::Cursor;
+use crate::stops::Stop;
+use inform_lexemes::{Keyword, Symbol};
+use inform_tree::{Item, Stmt};
+use std::alloc::Global;
+
+impl<'a> Cursor<'a> {
+    // What follows the opening bracket of an item: `char`, its closing bracket and a value, or a value that goes on.
+    #[tactic(auto, using(crate::proofs::Steps::steps, crate::proofs::StatementSteps::item_inside_as))]
+    fn item_inside(&mut self, alloc: Global) -> Result<Item, Stop>
+        ensures gives { Gives print_item_of item_inside self.old result self.new }
+        ensures ahead { length self.new.rest ≤ length self.old.rest }
+        ensures taken { OnOk result (length self.new.rest < length self.old.rest) }
+    {
+        if self.at_word(Keyword::Char) {
+            self.expect_word(Keyword::Char)?;
+            self.expect(Symbol::RightRound)?;
+            let value = self.value(alloc)?;
+            return Ok(Item::Char(value));
+        }
+        let first = self.value(alloc)?;
+        self.expect(Symbol::RightRound)?;
+        let value = self.value_after(alloc, first)?;
+        Ok(Item::Value(value))
+    }
+
+    // An item of `print`.
+    #[tactic(auto, using(crate::proofs::Steps::steps, crate::proofs::StatementSteps::item_as))]
+    fn item(&mut self, alloc: Global) -> Result<Item, Stop>
+        ensures gives { Gives print_item_of (one r.Item done) self.old result self.new }
+        ensures ahead { length self.new.rest ≤ length self.old.rest }
+        ensures taken { OnOk result (length self.new.rest < length self.old.rest) }
+    {
+        if self.at_text() {
+            return Ok(Item::Text(self.text(alloc)?));
+        }
+        if self.at(Symbol::LeftRound) {
+            self.expect(Symbol::LeftRound)?;
+            return self.item_inside(alloc);
+        }
+        let value = self.value(alloc)?;
+        Ok(Item::Value(value))
+    }
+
+    // A further item, after its comma.
+    #[tactic(auto, using(crate::proofs::Steps::steps, crate::proofs::StatementSteps::further_item_as))]
+    fn further_item(&mut self, alloc: Global) -> Result<Item, Stop>
+        ensures gives { Gives print_item_of (one r.FurtherItem done) self.old result self.new }
+        ensures ahead { length self.new.rest ≤ length self.old.rest }
+        ensures taken { OnOk result (length self.new.rest < length self.old.rest) }
+    {
+        self.expect(Symbol::Comma)?;
+        self.item(alloc)
+    }
+
+    // The items of `print`, of which one is read.
+    #[tactic(auto, using(crate::proofs::Steps::steps, crate::proofs::StatementSteps::item_loop))]
+    fn items(&mut self, alloc: Global, first: Item) -> Result<Vec<Item>, Stop>
+        ensures gives { Gives items_in
+            (many r.FurtherItem (print_item_of first ∷ []) done) self.old result self.new }
+        ensures ahead { length self.new.rest ≤ length self.old.rest }
+    {
+        let mut items = Vec::new(alloc);
+        items.push(first)?;
+        while self.at(Symbol::Comma) {
+            let item = self.further_item(alloc)?;
+            items.push(item)?;
+        }
+        Ok(items)
+    }
+
+    /// What follows `print`.
+    #[tactic(auto, using(crate::proofs::Steps::steps, crate::proofs::TreesMade::statements), unfolding(inform_grammar::specs::StatementRules::print_after))]
+    pub fn print_after(&mut self, alloc: Global) -> Result<Stmt, Stop>
+        ensures gives { Gives statement_of print_after self.old result self.new }
+        ensures ahead { length self.new.rest ≤ length self.old.rest }
+        ensures taken { OnOk result (length self.new.rest < length self.old.rest) }
+    {
+        let first = self.item(alloc)?;
+        let items = self.items(alloc, first)?;
+        self.expect(Symbol::Semicolon)?;
+        Ok(Stmt::Print(items))
+    }
+}

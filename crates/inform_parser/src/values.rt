@@ -1,0 +1,326 @@
+//! Constants and expressions.
+ghost use Rattle.std.specs.Prelude.{◌≡◌, ◌≤◌, ◌<◌, List, [], ◌∷◌, map, OnOk, IfOk, IfErr, length};
+ghost use Rattle.inform_tree.specs.Values.{expression_of};
+ghost use Rattle.inform_grammar.specs.Rules as r;
+ghost use Rattle.inform_grammar.specs.Trees.{product_of, sum_of};
+ghost use Rattle.inform_grammar.specs.ValueRules.{arguments, name_after, entry_after, factors_after, terms_after};
+ghost use Rattle.inform_grammar.specs.Plan.{done, one, many};
+ghost use Rattle.inform_parser.specs.declared.stops.Stop.TheVariants.{Memory};
+ghost use Rattle.inform_parser.specs.Reading.{Gives};
+ghost use Rattle.inform_parser.specs.Plans.{random_plan};
+ghost use Rattle.inform_parser.specs.Views.{same_tree, expressions_of, factor_of, factors_of, term_of, terms_of};
+
+use crate::cursor::Cursor;
+use crate::stops::Stop;
+use inform_lexemes::{Keyword, Symbol};
+use inform_tree::{Const, Expr, Name, ProdOp, SumOp};
+use std::alloc::Global;
+
+// A chain of a first factor and further ones; a factor by itself is none.
+#[tactic(auto, using(crate::proofs::TreesMade::products))]
+fn product_of(alloc: Global, first: Expr, factors: Vec<(ProdOp, Expr)>) -> Result<Expr, Stop>
+    ensures made { IfOk result (λ x. expression_of x
+        ≡ product_of (expression_of first) (factors_of factors)) }
+    ensures memory { IfErr result (λ stop. stop ≡ Memory) }
+{
+    if factors.is_empty() {
+        return Ok(first);
+    }
+    Ok(Expr::Product(Box::new(alloc, first)?, factors))
+}
+
+// A chain of a first term and further ones; a term by itself is none.
+#[tactic(auto, using(crate::proofs::TreesMade::sums))]
+fn sum_of(alloc: Global, first: Expr, terms: Vec<(SumOp, Expr)>) -> Result<Expr, Stop>
+    ensures made { IfOk result (λ x. expression_of x
+        ≡ sum_of (expression_of first) (terms_of terms)) }
+    ensures memory { IfErr result (λ stop. stop ≡ Memory) }
+{
+    if terms.is_empty() {
+        return Ok(first);
+    }
+    Ok(Expr::Sum(Box::new(alloc, first)?, terms))
+}
+
+impl<'a> Cursor<'a> {
+    /// A constant.
+    #[tactic(auto, using(crate::proofs::Steps::steps, crate::proofs::ValueSteps::constants), unfolding(inform_grammar::specs::ValueRules::minus_number))]
+    pub fn constant(&mut self, alloc: Global) -> Result<Const, Stop>
+        ensures gives { Gives same_tree (one r.Constant done) self.old result self.new }
+        ensures ahead { length self.new.rest ≤ length self.old.rest }
+        ensures taken { OnOk result (length self.new.rest < length self.old.rest) }
+    {
+        if self.at_number() {
+            return Ok(Const::Number(self.number()?));
+        }
+        if self.at_character() {
+            return Ok(Const::Char(self.character()?));
+        }
+        if self.at_name() {
+            return Ok(Const::Name(self.name(alloc)?));
+        }
+        self.expect(Symbol::Minus)?;
+        Ok(Const::Minus(self.number()?))
+    }
+
+    /// An entry of an array.
+    #[tactic(auto, using(crate::proofs::Steps::steps, crate::proofs::ValueSteps::constants), unfolding(inform_grammar::specs::ValueRules::minus_number))]
+    pub fn entry(&mut self, alloc: Global) -> Result<Const, Stop>
+        ensures gives { Gives same_tree (one r.Entry done) self.old result self.new }
+        ensures ahead { length self.new.rest ≤ length self.old.rest }
+        ensures taken { OnOk result (length self.new.rest < length self.old.rest) }
+    {
+        if self.at_number() {
+            return Ok(Const::Number(self.number()?));
+        }
+        if self.at_character() {
+            return Ok(Const::Char(self.character()?));
+        }
+        if self.at_name() {
+            return Ok(Const::Name(self.name(alloc)?));
+        }
+        self.expect(Symbol::LeftRound)?;
+        self.expect(Symbol::Minus)?;
+        let number = self.number()?;
+        self.expect(Symbol::RightRound)?;
+        Ok(Const::Minus(number))
+    }
+
+    /// What follows the bracket after a name: the arguments of a call, and a closing bracket.
+    #[cycle(values)]
+    #[tactic(auto, using(crate::proofs::Steps::steps, crate::proofs::TreesMade::expressions, crate::proofs::ValueSteps::arguments_as))]
+    pub fn arguments(&mut self, alloc: Global) -> Result<Vec<Expr>, Stop>
+        ensures gives { Gives expressions_of arguments self.old result self.new }
+        ensures ahead { length self.new.rest ≤ length self.old.rest }
+        ensures taken { OnOk result (length self.new.rest < length self.old.rest) }
+    {
+        if self.at(Symbol::RightRound) {
+            self.expect(Symbol::RightRound)?;
+            return Ok(Vec::new(alloc));
+        }
+        let first = self.value(alloc)?;
+        let arguments = self.further_arguments(alloc, first)?;
+        self.expect(Symbol::RightRound)?;
+        Ok(arguments)
+    }
+
+    // The further arguments of a call, after the first one.
+    #[cycle(values)]
+    #[tactic(auto, using(crate::proofs::Steps::steps, crate::proofs::TreesMade::expressions, crate::proofs::ValueSteps::argument_loop))]
+    fn further_arguments(&mut self, alloc: Global, first: Expr) -> Result<Vec<Expr>, Stop>
+        ensures gives { Gives expressions_of (many r.Argument (expression_of first ∷ []) done) self.old result self.new }
+        ensures ahead { length self.new.rest ≤ length self.old.rest }
+    {
+        let mut arguments = Vec::new(alloc);
+        arguments.push(first)?;
+        while self.at(Symbol::Comma) {
+            let argument = self.argument(alloc)?;
+            arguments.push(argument)?;
+        }
+        Ok(arguments)
+    }
+
+    // A further argument, after its comma.
+    #[cycle(values)]
+    #[tactic(auto, using(crate::proofs::Steps::steps, crate::proofs::TreesMade::expressions, crate::proofs::ValueSteps::argument_as))]
+    fn argument(&mut self, alloc: Global) -> Result<Expr, Stop>
+        ensures gives { Gives expression_of (one r.Argument done) self.old result self.new }
+        ensures ahead { length self.new.rest ≤ length self.old.rest }
+        ensures taken { OnOk result (length self.new.rest < length self.old.rest) }
+    {
+        self.expect(Symbol::Comma)?;
+        self.value(alloc)
+    }
+
+    // What follows a name that is no array.
+    #[cycle(values)]
+    #[tactic(auto, using(crate::proofs::Steps::steps, crate::proofs::TreesMade::expressions), unfolding(inform_grammar::specs::ValueRules::name_after))]
+    fn name_after(&mut self, alloc: Global, name: Name) -> Result<Expr, Stop>
+        ensures gives { Gives expression_of (name_after name) self.old result self.new }
+        ensures ahead { length self.new.rest ≤ length self.old.rest }
+    {
+        if self.at(Symbol::LeftRound) {
+            self.expect(Symbol::LeftRound)?;
+            let arguments = self.arguments(alloc)?;
+            return Ok(Expr::Call(name, arguments));
+        }
+        Ok(Expr::Name(name))
+    }
+
+    // What follows a name where an entry of an array may stand.
+    #[cycle(values)]
+    #[tactic(auto, using(crate::proofs::Steps::steps, crate::proofs::TreesMade::expressions, crate::proofs::ValueSteps::entries_after))]
+    fn entry_after(&mut self, alloc: Global, name: Name) -> Result<Expr, Stop>
+        ensures gives { Gives expression_of (entry_after name) self.old result self.new }
+        ensures ahead { length self.new.rest ≤ length self.old.rest }
+    {
+        if self.at_arrow() {
+            let words = self.arrow()?;
+            let index = self.primary(alloc)?;
+            return Ok(Expr::Entry(name, words, Box::new(alloc, index)?));
+        }
+        self.name_after(alloc, name)
+    }
+
+    /// An operand without a sign.
+    #[cycle(values)]
+    #[tactic(auto, using(crate::proofs::Steps::steps, crate::proofs::TreesMade::expressions, crate::proofs::ValueSteps::primary_as))]
+    pub fn primary(&mut self, alloc: Global) -> Result<Expr, Stop>
+        ensures gives { Gives expression_of (one r.Primary done) self.old result self.new }
+        ensures ahead { length self.new.rest ≤ length self.old.rest }
+        ensures taken { OnOk result (length self.new.rest < length self.old.rest) }
+    {
+        if self.at_number() {
+            return Ok(Expr::Number(self.number()?));
+        }
+        if self.at_character() {
+            return Ok(Expr::Char(self.character()?));
+        }
+        if self.at_name() {
+            let name = self.name(alloc)?;
+            return self.name_after(alloc, name);
+        }
+        if self.at_word(Keyword::Random) {
+            return self.random(alloc);
+        }
+        self.expect(Symbol::LeftRound)?;
+        let value = self.value(alloc)?;
+        self.expect(Symbol::RightRound)?;
+        Ok(value)
+    }
+
+    // A draw, with its word.
+    #[cycle(values)]
+    #[tactic(auto, using(crate::proofs::Steps::steps, crate::proofs::TreesMade::expressions))]
+    fn random(&mut self, alloc: Global) -> Result<Expr, Stop>
+        ensures gives { Gives expression_of random_plan self.old result self.new }
+        ensures ahead { length self.new.rest ≤ length self.old.rest }
+        ensures taken { OnOk result (length self.new.rest < length self.old.rest) }
+    {
+        self.expect_word(Keyword::Random)?;
+        self.expect(Symbol::LeftRound)?;
+        let limit = self.value(alloc)?;
+        self.expect(Symbol::RightRound)?;
+        Ok(Expr::Random(Box::new(alloc, limit)?))
+    }
+
+    // An operand.
+    #[cycle(values)]
+    #[tactic(auto, using(crate::proofs::Steps::steps, crate::proofs::TreesMade::expressions, crate::proofs::ValueSteps::unary_as))]
+    fn unary(&mut self, alloc: Global) -> Result<Expr, Stop>
+        ensures gives { Gives expression_of (one r.Unary done) self.old result self.new }
+        ensures ahead { length self.new.rest ≤ length self.old.rest }
+        ensures taken { OnOk result (length self.new.rest < length self.old.rest) }
+    {
+        if self.at_name() {
+            let name = self.name(alloc)?;
+            return self.entry_after(alloc, name);
+        }
+        if self.at(Symbol::Minus) {
+            self.expect(Symbol::Minus)?;
+            let operand = self.primary(alloc)?;
+            return Ok(Expr::Neg(Box::new(alloc, operand)?));
+        }
+        self.primary(alloc)
+    }
+
+    // A further factor, after its sign.
+    #[cycle(values)]
+    #[tactic(auto, using(crate::proofs::Steps::steps, crate::proofs::TreesMade::expressions, crate::proofs::ValueSteps::factor_as))]
+    fn factor(&mut self, alloc: Global) -> Result<(ProdOp, Expr), Stop>
+        ensures gives { Gives factor_of (one r.Factor done) self.old result self.new }
+        ensures ahead { length self.new.rest ≤ length self.old.rest }
+        ensures taken { OnOk result (length self.new.rest < length self.old.rest) }
+    {
+        let sign = self.factor_sign()?;
+        Ok((sign, self.unary(alloc)?))
+    }
+
+    // The further factors.
+    #[cycle(values)]
+    #[tactic(auto, using(crate::proofs::Steps::steps, crate::proofs::TreesMade::expressions, crate::proofs::ValueSteps::factor_loop))]
+    fn factors(&mut self, alloc: Global) -> Result<Vec<(ProdOp, Expr)>, Stop>
+        ensures gives { Gives factors_of (many r.Factor [] done) self.old result self.new }
+        ensures ahead { length self.new.rest ≤ length self.old.rest }
+    {
+        let mut factors = Vec::new(alloc);
+        while self.at_factor() {
+            let factor = self.factor(alloc)?;
+            factors.push(factor)?;
+        }
+        Ok(factors)
+    }
+
+    /// A product with its first factor read.
+    #[cycle(values)]
+    #[tactic(auto, using(crate::proofs::Steps::steps, crate::proofs::TreesMade::expressions), unfolding(inform_grammar::specs::ValueRules::factors_after))]
+    pub fn factors_after(&mut self, alloc: Global, first: Expr) -> Result<Expr, Stop>
+        ensures gives { Gives expression_of (factors_after (expression_of first)) self.old result self.new }
+        ensures ahead { length self.new.rest ≤ length self.old.rest }
+    {
+        let factors = self.factors(alloc)?;
+        product_of(alloc, first, factors)
+    }
+
+    // A product.
+    #[cycle(values)]
+    #[tactic(auto, using(crate::proofs::Steps::steps, crate::proofs::TreesMade::expressions, crate::proofs::ValueSteps::product_as))]
+    fn product(&mut self, alloc: Global) -> Result<Expr, Stop>
+        ensures gives { Gives expression_of (one r.Product done) self.old result self.new }
+        ensures ahead { length self.new.rest ≤ length self.old.rest }
+        ensures taken { OnOk result (length self.new.rest < length self.old.rest) }
+    {
+        let first = self.unary(alloc)?;
+        self.factors_after(alloc, first)
+    }
+
+    // A further term, after its sign.
+    #[cycle(values)]
+    #[tactic(auto, using(crate::proofs::Steps::steps, crate::proofs::TreesMade::expressions, crate::proofs::ValueSteps::term_as))]
+    fn term(&mut self, alloc: Global) -> Result<(SumOp, Expr), Stop>
+        ensures gives { Gives term_of (one r.Term done) self.old result self.new }
+        ensures ahead { length self.new.rest ≤ length self.old.rest }
+        ensures taken { OnOk result (length self.new.rest < length self.old.rest) }
+    {
+        let sign = self.term_sign()?;
+        Ok((sign, self.product(alloc)?))
+    }
+
+    // The further terms.
+    #[cycle(values)]
+    #[tactic(auto, using(crate::proofs::Steps::steps, crate::proofs::TreesMade::expressions, crate::proofs::ValueSteps::term_loop))]
+    fn terms(&mut self, alloc: Global) -> Result<Vec<(SumOp, Expr)>, Stop>
+        ensures gives { Gives terms_of (many r.Term [] done) self.old result self.new }
+        ensures ahead { length self.new.rest ≤ length self.old.rest }
+    {
+        let mut terms = Vec::new(alloc);
+        while self.at_term() {
+            let term = self.term(alloc)?;
+            terms.push(term)?;
+        }
+        Ok(terms)
+    }
+
+    /// A sum with its first term read.
+    #[cycle(values)]
+    #[tactic(auto, using(crate::proofs::Steps::steps, crate::proofs::TreesMade::expressions), unfolding(inform_grammar::specs::ValueRules::terms_after))]
+    pub fn terms_after(&mut self, alloc: Global, first: Expr) -> Result<Expr, Stop>
+        ensures gives { Gives expression_of (terms_after (expression_of first)) self.old result self.new }
+        ensures ahead { length self.new.rest ≤ length self.old.rest }
+    {
+        let terms = self.terms(alloc)?;
+        sum_of(alloc, first, terms)
+    }
+
+    /// A value.
+    #[cycle(values)]
+    #[tactic(auto, using(crate::proofs::Steps::steps, crate::proofs::TreesMade::expressions, crate::proofs::ValueSteps::value_as))]
+    pub fn value(&mut self, alloc: Global) -> Result<Expr, Stop>
+        ensures gives { Gives expression_of (one r.Value done) self.old result self.new }
+        ensures ahead { length self.new.rest ≤ length self.old.rest }
+        ensures taken { OnOk result (length self.new.rest < length self.old.rest) }
+    {
+        let first = self.product(alloc)?;
+        self.terms_after(alloc, first)
+    }
+}
