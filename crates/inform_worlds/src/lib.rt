@@ -3,6 +3,8 @@
 
 mod arguments;
 mod scopes;
+mod worlds;
 
 pub use arguments::Arguments;
 pub use scopes::Scope;
+pub use worlds::World;
