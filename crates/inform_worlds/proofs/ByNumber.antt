@@ -1,19 +1,79 @@
 -- Globals and arrays by the numbers of their directives.
-use Rattle.std.proofs.Common.{◌≡◌, ◌∙◌, ℕ, ℤ, pos, Bool, true, false, List, Option, Some, None, refl, sym, ap}
-use Rattle.std.specs.Prelude.{slice_get, unwrap_or}
+use Rattle.std.proofs.Common.{◌≡◌, ◌∙◌, arith, ℕ, zero, suc, ◌<◌, ℤ, pos, Bool, true, false, List, [], ◌∷◌, length, set, Option, Some, None, refl, sym, ap}
+use Rattle.std.specs.Prelude.{slice_get, slice_set, unwrap_or, if◌then◌else◌}
+use Rattle.std.proofs.Math.Path.{fun_ext}
+use Rattle.std.specs.Cmp.Lexicographic.{bytes_decides}
+use mathlib.Core.Bool.{true≢false}
 use Rattle.inform_names.specs.declared.meanings.Kind.{Kind}
 use Rattle.inform_names.specs.declared.meanings.Kind.TheVariants as k
 use Rattle.inform_names.specs.declared.meanings.Meaning.{Meaning}
 use Rattle.inform_names.specs.Meanings.{Known, word_of_meaning}
-use Rattle.inform_meaning.specs.Tables.{first_of_two}
-use Rattle.inform_worlds.specs.Worlds.{global_by, globals_of, outer_value}
+use Rattle.inform_meaning.specs.Tables.{first_of_two, same_name, put, put_by, renewed}
+use Rattle.inform_worlds.specs.Worlds.{kept_by, globals_of, outer_value}
+use Rattle.inform_names.specs.Places.{is_global}
 
 module _ (known : Known) (values : List ℤ) (name : List ℕ) where
   pub outer_global : (at : ℕ) → known name ≡ Some (record { at = at; kind = k.Global }) → unwrap_or (slice_get values at) (pos 0) ≡ outer_value known values name
-  outer_global at is = by (slice_get values at) ∙ sym (ap (λ o. unwrap_or (first_of_two (global_by values o) (word_of_meaning o)) (pos 0)) is) where
+  outer_global at is = by (slice_get values at) ∙ sym (ap (λ o. unwrap_or (first_of_two (kept_by is_global values o) (word_of_meaning o)) (pos 0)) is) where
     by : (o : Option ℤ) → unwrap_or o (pos 0) ≡ unwrap_or (first_of_two o None) (pos 0)
     by None = refl
     by (Some v) = refl
 
   pub outer_nothing : known name ≡ None → pos 0 ≡ outer_value known values name
-  outer_nothing is = sym (ap (λ o. unwrap_or (first_of_two (global_by values o) (word_of_meaning o)) (pos 0)) is)
+  outer_nothing is = sym (ap (λ o. unwrap_or (first_of_two (kept_by is_global values o) (word_of_meaning o)) (pos 0)) is)
+
+-- ---- another value of a name
+
+set-there : {X : Type 0} (xs : List X) (i : ℕ) (x : X) → i < length xs → slice_get (slice_set xs i x) i ≡ Some x
+set-there [] i x h = absurd (omega (arith, h))
+set-there (y ∷ xs) zero x h = refl
+set-there (y ∷ xs) (suc i) x h = set-there xs i x (omega (arith, h))
+
+set-elsewhere : {X : Type 0} (xs : List X) (i j : ℕ) (x : X) → (j ≡ i → ⊥) → slice_get (slice_set xs i x) j ≡ slice_get xs j
+set-elsewhere [] i j x h = refl
+set-elsewhere (y ∷ xs) zero zero x h = absurd (h refl)
+set-elsewhere (y ∷ xs) zero (suc j) x h = refl
+set-elsewhere (y ∷ xs) (suc i) zero x h = refl
+set-elsewhere (y ∷ xs) (suc i) (suc j) x h = set-elsewhere xs i j x (λ e. h (ap suc e))
+
+some-there : {X : Type 0} (xs : List X) (i : ℕ) → i < length xs → (x : X) × (slice_get xs i ≡ Some x)
+some-there [] i h = absurd (omega (arith, h))
+some-there (y ∷ xs) zero h = (y, refl)
+some-there (y ∷ xs) (suc i) h = some-there xs i (omega (arith, h))
+
+-- another value of a name that has none
+pub not-renewed : {X : Type 0} (test : Kind → Bool) (xs : List X) (x : X) (known : Known) (name : List ℕ)
+    → kept_by test xs (known name) ≡ None → (λ other. kept_by test xs (known other)) ≡ renewed (λ other. kept_by test xs (known other)) name x
+not-renewed test xs x known name none = sym (ap (λ o. put_by o (λ other. kept_by test xs (known other)) name x) none)
+
+module _ (known : Known) (known-apart : (a b : List ℕ) (m n : Meaning) → known a ≡ Some m → known b ≡ Some n → n.at ≡ m.at → b ≡ a) where
+  module _ {X : Type 0} (test : Kind → Bool) (xs : List X) (x : X) (name : List ℕ) (m : Meaning) (means : known name ≡ Some m) (passes : test m.kind ≡ true) (within : m.at < length xs) where
+    abbrev before : List ℕ → Option X
+    before other = kept_by test xs (known other)
+
+    abbrev afterwards : List ℕ → Option X
+    afterwards other = kept_by test (slice_set xs m.at x) (known other)
+
+    at-name : (ys : List X) → kept_by test ys (known name) ≡ slice_get ys m.at
+    at-name ys = ap (kept_by test ys) means ∙ ap (λ b. if b then slice_get ys m.at else None) passes
+
+    is-there : (old : X) × (before name ≡ Some old)
+    is-there = let found = some-there xs m.at within in (found.0, at-name xs ∙ found.1)
+
+    apart : (other : List ℕ) (n : Meaning) → known other ≡ Some n → same_name other name ≡ false → n.at ≡ m.at → ⊥
+    apart other n is differ same = true≢false (sym ((bytes_decides other name).1 (known-apart name other m n means is same)) ∙ differ)
+
+    at-other : (other : List ℕ) → afterwards other ≡ (if same_name other name then Some x else before other)
+    at-other other = by (same_name other name) refl (known other) refl where
+      kept : (b : Bool) (n : Meaning) → (n.at ≡ m.at → ⊥) → (if b then slice_get (slice_set xs m.at x) n.at else None) ≡ (if b then slice_get xs n.at else None)
+      kept true n differ = set-elsewhere xs m.at n.at x differ
+      kept false n differ = refl
+
+      by : (b : Bool) → same_name other name ≡ b → (o : Option Meaning) → known other ≡ o → kept_by test (slice_set xs m.at x) o ≡ (if b then Some x else kept_by test xs o)
+      by true same o is = ap (kept_by test (slice_set xs m.at x)) (sym is ∙ ap known ((bytes_decides other name).0 same)) ∙ at-name (slice_set xs m.at x) ∙ set-there xs m.at x within
+      by false differ None is = refl
+      by false differ (Some n) is = kept (test n.kind) n (apart other n is differ)
+
+    -- another value of a name that is there
+    pub renewed-by : (λ other. kept_by test (slice_set xs m.at x) (known other)) ≡ renewed (λ other. kept_by test xs (known other)) name x
+    renewed-by = fun_ext (λ other. at-other other) ∙ sym (ap (λ o. put_by o before name x) is-there.1)

@@ -16,20 +16,17 @@ use Rattle.inform_meaning.specs.Programs.{program_in, no_notes}
 abbrev pub program_of : Accepted → w.Program
 program_of a = program_in a.width (directives_of a) no_notes
 
--- ---- globals
-
-abbrev pub global_by : List ℤ → Option Meaning → Option ℤ
-global_by values None = None
-global_by values (Some m) = if is_global m.kind then slice_get values m.at else None
+-- what a name that means this has among those of its kind
+abbrev pub kept_by : {X : Type 0} → (Kind → Bool) → List X → Option Meaning → Option X
+kept_by test xs None = None
+kept_by test xs (Some m) = if test m.kind then slice_get xs m.at else None
 
 abbrev pub globals_of : Known → List ℤ → List ℕ → Option ℤ
-globals_of known values name = global_by values (known name)
+globals_of known values name = kept_by is_global values (known name)
 
 -- the value of a name that is no local
 abbrev pub outer_value : Known → List ℤ → List ℕ → ℤ
 outer_value known values name = unwrap_or (first_of_two (globals_of known values name) (word_of_meaning (known name))) (pos 0)
-
--- ---- arrays
 
 abbrev pub is_any_array : Kind → Bool
 is_any_array (k.Constant value) = false
@@ -37,9 +34,5 @@ is_any_array k.Global = false
 is_any_array (k.Array words) = true
 is_any_array (k.Routine locals) = false
 
-abbrev pub array_by : List (List ℤ) → Option Meaning → Option (List ℤ)
-array_by arrays None = None
-array_by arrays (Some m) = if is_any_array m.kind then slice_get arrays m.at else None
-
 abbrev pub arrays_of : Known → List (List ℤ) → List ℕ → Option (List ℤ)
-arrays_of known arrays name = array_by arrays (known name)
+arrays_of known arrays name = kept_by is_any_array arrays (known name)
