@@ -7,7 +7,10 @@ use mathlib.Core.Bool.{true≢false}
 use Rattle.inform_names.specs.declared.meanings.Kind.{Kind}
 use Rattle.inform_names.specs.declared.meanings.Kind.TheVariants as k
 use Rattle.inform_names.specs.declared.meanings.Meaning.{Meaning}
-use Rattle.inform_names.specs.Meanings.{Known, word_of_meaning}
+use Rattle.inform_tree.specs.declared.widths.Width.{Width}
+use Rattle.inform_tree.specs.Programs.{DirectiveTree}
+use Rattle.inform_names.specs.Meanings.{Known, word_of_meaning, meanings, name_of}
+use Rattle.inform_names.specs.Laws.{MeaningsAreOfDirectives, IsMeaningOf}
 use Rattle.inform_meaning.specs.Tables.{first_of_two, same_name, put, put_by, renewed}
 use Rattle.inform_worlds.specs.Worlds.{kept_by, globals_of, outer_value}
 use Rattle.inform_names.specs.Places.{is_global}
@@ -77,3 +80,22 @@ module _ (known : Known) (known-apart : (a b : List ℕ) (m n : Meaning) → kno
     -- another value of a name that is there
     pub renewed-by : (λ other. kept_by test (slice_set xs m.at x) (known other)) ≡ renewed (λ other. kept_by test xs (known other)) name x
     renewed-by = fun_ext (λ other. at-other other) ∙ sym (ap (λ o. put_by o before name x) is-there.1)
+
+-- ---- the names of a program
+
+some-same : {d e : DirectiveTree} → Some e ≡ Some d → e ≡ d
+some-same {d} {e} is = ap (λ o. unwrap_or o e) is
+
+apart-by-law : MeaningsAreOfDirectives → (width : Width) (program : List DirectiveTree) (a b : List ℕ) (m n : Meaning)
+    → meanings width program a ≡ Some m → meanings width program b ≡ Some n → n.at ≡ m.at → b ≡ a
+apart-by-law law width program a b m n is-a is-b same = by (law width program a m is-a) (law width program b n is-b) where
+  by : (d : DirectiveTree) × IsMeaningOf width program a m d → (e : DirectiveTree) × IsMeaningOf width program b n e → b ≡ a
+  by (d, da) (e, eb) = sym eb.1 ∙ ap name_of (some-same (sym eb.0 ∙ ap (slice_get program) same ∙ da.0)) ∙ da.1
+
+module _ (law : MeaningsAreOfDirectives) (width : Width) (program : List DirectiveTree) (values : List ℤ) (name : List ℕ) where
+  pub put_global : (at : ℕ) (x : ℤ) → meanings width program name ≡ Some (record { at = at; kind = k.Global }) → at < length values
+      → globals_of (meanings width program) (slice_set values at x) ≡ renewed (globals_of (meanings width program) values) name x
+  put_global at x is within = renewed-by (meanings width program) (apart-by-law law width program) is_global values x name (record { at = at; kind = k.Global }) is refl within
+
+pub keep_globals : (known : Known) (values : List ℤ) (name : List ℕ) (x : ℤ) → globals_of known values name ≡ None → globals_of known values ≡ renewed (globals_of known values) name x
+keep_globals known values name x none = not-renewed is_global values x known name none

@@ -1,5 +1,6 @@
 //! The globals, the arrays and the locals of a run.
 use crate::scopes::Scope;
+use inform_names::laws::meanings_are_of_directives;
 use inform_names::{Kind, Names};
 use inform_tree::Name;
 
@@ -14,7 +15,9 @@ pub struct World<'a> {
 }
 
 impl<'a> World<'a> {
-    ghost use Rattle.std.specs.Prelude.{◌≡◌, pos, slice_get, unwrap_or};
+    ghost use Rattle.std.specs.Prelude.{◌≡◌, ◌<◌, pos, length, slice_get, unwrap_or, Some, None, IfSome, IfNone};
+    ghost use Rattle.inform_names.specs.declared.meanings.Kind.TheVariants as k;
+    ghost use Rattle.inform_meaning.specs.Tables.{renewed};
     ghost use Rattle.inform_names.specs.Views.{names_of};
     ghost use Rattle.inform_meaning.specs.Worlds.{value_of, assigned, entries_of, entry_at, stored, has_room, with_line};
     ghost use Rattle.inform_worlds.specs.Worlds.{outer_value, globals_of};
@@ -55,6 +58,47 @@ impl<'a> World<'a> {
         match self.scope.get(name) {
             Some(value) => value,
             None => self.outer(name),
+        }
+    }
+
+    // The number of the global of this name, if there is one.
+    fn global_at(&self, name: &Name) -> Option<usize>
+        ensures means { IfSome result (λ at. names_of self.now.names.accepted.now name.now
+            ≡ Some (record { at = at; kind = k.Global })) }
+        ensures within { IfSome result (λ at. at < length self.now.globals.items) }
+        ensures none { IfNone result (globals_of (names_of self.now.names.accepted.now)
+            self.now.globals.items name.now ≡ None) }
+    {
+        match self.names.find(name.bytes()) {
+            None => None,
+            Some(meaning) => match meaning.kind {
+                Kind::Constant(_) => None,
+                Kind::Global => {
+                    if meaning.at < self.globals.len() {
+                        return Some(meaning.at);
+                    }
+                    None
+                }
+                Kind::Array(_) => None,
+                Kind::Routine(_) => None,
+            },
+        }
+    }
+
+    // Another value of a global, if there is one of this name.
+    #[tactic(auto, using(crate::proofs::ByNumber::put_global, crate::proofs::ByNumber::keep_globals))]
+    fn assign_global(&mut self, name: &Name, value: i32)
+        ensures names { self.new.names ≡ self.old.names }
+        ensures arrays { self.new.arrays ≡ self.old.arrays }
+        ensures scope { self.new.scope ≡ self.old.scope }
+        ensures globals { globals_of (names_of self.new.names.accepted.now) self.new.globals.items
+            ≡ renewed (globals_of (names_of self.old.names.accepted.now) self.old.globals.items)
+            name.now value }
+    {
+        meanings_are_of_directives();
+        match self.global_at(name) {
+            Some(at) => self.globals[at] = value,
+            None => {}
         }
     }
 }
