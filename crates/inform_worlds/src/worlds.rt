@@ -15,12 +15,12 @@ pub struct World<'a> {
 }
 
 impl<'a> World<'a> {
-    ghost use Rattle.std.specs.Prelude.{◌≡◌, ◌<◌, pos, length, slice_get, unwrap_or, Some, None, IfSome, IfNone};
+    ghost use Rattle.std.specs.Prelude.{◌≡◌, ◌<◌, Bool, pos, length, map, slice_get, unwrap_or, Some, None, IfSome, IfNone};
     ghost use Rattle.inform_names.specs.declared.meanings.Kind.TheVariants as k;
     ghost use Rattle.inform_meaning.specs.Tables.{renewed};
     ghost use Rattle.inform_names.specs.Views.{names_of};
     ghost use Rattle.inform_meaning.specs.Worlds.{value_of, assigned, entries_of, entry_at, stored, has_room, with_line};
-    ghost use Rattle.inform_worlds.specs.Worlds.{outer_value, globals_of};
+    ghost use Rattle.inform_worlds.specs.Worlds.{outer_value, globals_of, arrays_of};
     ghost use Rattle.inform_worlds.specs.Views.{world_of, program_seen};
 
     // The value of the global that is the directive of this number.
@@ -99,6 +99,51 @@ impl<'a> World<'a> {
         match self.global_at(name) {
             Some(at) => self.globals[at] = value,
             None => {}
+        }
+    }
+
+    /// Another value of a local of this name, else of a global, if there is one.
+    pub fn assign(&mut self, name: &Name, value: i32)
+        ensures names { self.new.names ≡ self.old.names }
+        ensures world { world_of self.new ≡ assigned name.now value (world_of self.old) }
+    {
+        match self.scope.get(name) {
+            Some(_) => self.scope.set(name, value),
+            None => self.assign_global(name, value),
+        }
+    }
+
+    // The number of the array of this name, if there is one.
+    fn array_at(&self, name: &Name) -> Option<usize>
+        ensures means { IfSome result (λ at. (words : Bool) × (names_of self.now.names.accepted.now name.now
+            ≡ Some (record { at = at; kind = k.Array words }))) }
+        ensures within { IfSome result (λ at. at < length self.now.arrays.items) }
+        ensures none { IfNone result (arrays_of (names_of self.now.names.accepted.now)
+            (map (λ entries. entries.items) self.now.arrays.items) name.now ≡ None) }
+    {
+        match self.names.find(name.bytes()) {
+            None => None,
+            Some(meaning) => match meaning.kind {
+                Kind::Constant(_) => None,
+                Kind::Global => None,
+                Kind::Array(_) => {
+                    if meaning.at < self.arrays.len() {
+                        return Some(meaning.at);
+                    }
+                    None
+                }
+                Kind::Routine(_) => None,
+            },
+        }
+    }
+
+    /// The entries of an array; none where there is no array of this name.
+    fn entries(&self, name: &Name) -> &[i32]
+        ensures { result.now ≡ entries_of name.now (world_of self.now) }
+    {
+        match self.array_at(name) {
+            Some(at) => self.arrays[at].as_slice(),
+            None => &[],
         }
     }
 }
