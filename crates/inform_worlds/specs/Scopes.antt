@@ -20,7 +20,8 @@ values_of a = take a.count a.values
 -- the place of a name
 abbrev pub place_in : List ℕ → List (List ℕ) → Option ℕ
 place_in name [] = None
-place_in name (other ∷ names) = if same_name name other then Some 0 else option_map suc (place_in name names)
+place_in name (other ∷ names) =
+    if same_name name other then Some 0 else option_map suc (place_in name names)
 
 -- another value at a place, if there is one
 abbrev pub set_if_any : Option ℕ → ℤ → List ℤ → List ℤ

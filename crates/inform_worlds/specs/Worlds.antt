@@ -1,6 +1,7 @@
--- The world of a run as the meaning has it, where the globals and the arrays are kept by the numbers of their
+-- The world of a run as the meaning has it, where the globals and the arrays are kept by the
+-- numbers of their
 -- directives.
-use Rattle.std.specs.Prelude.{ℕ, ℤ, pos, Bool, true, false, if◌then◌else◌, List, [], ◌∷◌, map, slice_get, Option, Some, None, unwrap_or}
+use Rattle.std.specs.Prelude.{ℕ, ℤ, pos, Bool, true, false, if◌then◌else◌, List, slice_get, Option, Some, None, unwrap_or}
 use Rattle.inform_names.specs.declared.accepted.Accepted.{Accepted}
 use Rattle.inform_names.specs.declared.meanings.Kind.{Kind}
 use Rattle.inform_names.specs.declared.meanings.Kind.TheVariants as k
@@ -26,7 +27,8 @@ globals_of known values name = kept_by is_global values (known name)
 
 -- the value of a name that is no local
 abbrev pub outer_value : Known → List ℤ → List ℕ → ℤ
-outer_value known values name = unwrap_or (first_of_two (globals_of known values name) (word_of_meaning (known name))) (pos 0)
+outer_value known values name =
+    unwrap_or (first_of_two (globals_of known values name) (word_of_meaning (known name))) (pos 0)
 
 abbrev pub is_any_array : Kind → Bool
 is_any_array (k.Constant value) = false

@@ -21,7 +21,10 @@ impl Arguments {
     pub fn none() -> Arguments
         ensures { values_of result ≡ [] }
     {
-        Arguments { count: 0, values: [0; ARGUMENTS] }
+        Arguments {
+            count: 0,
+            values: [0; ARGUMENTS],
+        }
     }
 
     /// One more. An eighth is left out: no call of an accepted program has one.
@@ -33,7 +36,10 @@ impl Arguments {
         }
         let mut values = self.values;
         values[self.count] = value;
-        Arguments { count: self.count + 1, values }
+        Arguments {
+            count: self.count + 1,
+            values,
+        }
     }
 
     /// The values.

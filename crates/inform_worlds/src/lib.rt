@@ -2,6 +2,7 @@
 #![tactic(auto)]
 
 mod arguments;
+mod entries;
 mod scopes;
 mod worlds;
 

@@ -1,4 +1,5 @@
 //! The globals, the arrays and the locals of a run.
+use crate::entries::{entry, has_room, kept, put};
 use crate::scopes::Scope;
 use inform_names::laws::meanings_are_of_directives;
 use inform_names::{Kind, Names};
@@ -21,6 +22,7 @@ impl<'a> World<'a> {
     ghost use Rattle.inform_names.specs.Views.{names_of};
     ghost use Rattle.inform_meaning.specs.Worlds.{value_of, assigned, entries_of, entry_at, stored, has_room, with_line};
     ghost use Rattle.inform_worlds.specs.Worlds.{outer_value, globals_of, arrays_of};
+    ghost use Rattle.inform_worlds.specs.Scopes.{scope_of};
     ghost use Rattle.inform_worlds.specs.Views.{world_of, program_seen};
 
     // The value of the global that is the directive of this number.
@@ -145,5 +147,48 @@ impl<'a> World<'a> {
             Some(at) => self.arrays[at].as_slice(),
             None => &[],
         }
+    }
+
+    /// An entry of an array, if there are such an array and such an entry.
+    pub fn entry(&self, name: &Name, index: i32) -> Option<i32>
+        ensures { result ≡ entry_at (entries_of name.now (world_of self.now)) index }
+    {
+        entry(self.entries(name), index)
+    }
+
+    /// Another value of an entry of an array, if there are such an array and such an entry.
+    #[tactic(auto, using(crate::proofs::ByNumber::put_array, crate::proofs::ByNumber::kept_array, crate::proofs::ByNumber::keep_arrays))]
+    pub fn store(&mut self, name: &Name, words: bool, index: i32, value: i32)
+        ensures names { self.new.names ≡ self.old.names }
+        ensures world { world_of self.new ≡ stored name.now words index value (world_of self.old) }
+    {
+        meanings_are_of_directives();
+        match self.array_at(name) {
+            Some(at) => put(&mut self.arrays[at], index, kept(words, value)),
+            None => {}
+        }
+    }
+
+    /// Whether an array has room for a line of as many bytes as its first entry says.
+    pub fn has_room(&self, name: &Name) -> bool
+        ensures { result ≡ has_room (entries_of name.now (world_of self.now)) }
+    {
+        has_room(self.entries(name))
+    }
+
+    /// The routine that runs, and its locals.
+    pub fn scope(&self) -> Scope<'a>
+        ensures { scope_of result ≡ (world_of self.now).scope }
+    {
+        self.scope
+    }
+
+    /// Another routine runs, with these locals.
+    pub fn enter(&mut self, scope: Scope<'a>)
+        ensures names { self.new.names ≡ self.old.names }
+        ensures world { world_of self.new
+            ≡ record (world_of self.old) { scope = scope_of scope.entry } }
+    {
+        self.scope = scope;
     }
 }

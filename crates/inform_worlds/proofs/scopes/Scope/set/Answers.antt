@@ -1,4 +1,4 @@
-use Rattle.std.proofs.Common.{rules, ◌≡◌, ◌∙◌, sym, ap, slice_set}
+use Rattle.std.proofs.Common.{◌∙◌, sym, ap, slice_set}
 use Rattle.std.specs.Int.{w32}
 use Rattle.std.proofs.lemmas.Int.{to_z-of_z}
 use Rattle.inform_worlds.specs.Scopes.{table_of}
