@@ -1,0 +1,11 @@
+//! The world of a run of an Inform program: its globals, its arrays and the locals of the routine that runs.
+#![tactic(auto)]
+
+mod arguments;
+mod entries;
+mod scopes;
+mod worlds;
+
+pub use arguments::Arguments;
+pub use scopes::Scope;
+pub use worlds::World;

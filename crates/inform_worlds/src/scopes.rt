@@ -1,0 +1,90 @@
+//! The locals of the routine that runs.
+ghost use Rattle.std.specs.Prelude.{◌≤◌, length};
+
+use crate::arguments::Arguments;
+use inform_tree::{Name, Routine};
+
+/// How many locals a routine has at most.
+pub const LOCALS: usize = 15;
+
+/// The routine that runs, by the number of its directive, and its locals.
+#[derive(Clone, Copy)]
+pub struct Scope<'a> {
+    pub directive: usize,
+    pub names: &'a [Name],
+    pub locals: [i32; LOCALS],
+    pub ghost few: { length names.now ≤ 15 },
+}
+
+impl<'a> Scope<'a> {
+    ghost use Rattle.std.specs.Prelude.{◌≡◌, ◌<◌, ℕ, Some, None, IfSome, IfNone, option_map};
+    ghost use Rattle.std.specs.List.{position_from};
+    ghost use Rattle.inform_meaning.specs.Tables.{same_name, found, updated};
+    ghost use Rattle.inform_meaning.specs.Worlds as w;
+    ghost use Rattle.inform_tree.specs.Statements.{statements_of};
+    ghost use Rattle.inform_worlds.specs.Scopes.{scope_of, table_of, values_of, place_in};
+
+    /// The scope of a routine with these arguments.
+    pub fn of(directive: usize, routine: &'a Routine, arguments: &Arguments) -> Scope<'a>
+        ensures { scope_of result ≡ w.scope_of (record {
+          directive = directive;
+          locals = routine.now.locals.items;
+          body = statements_of routine.now.body.items;
+        }) (values_of arguments.now) }
+    {
+        let mut locals = [0; LOCALS];
+        let values = arguments.values();
+        locals[..values.len()].copy_from_slice(values);
+        Scope {
+            directive,
+            names: &routine.locals[..routine.locals.len().min(LOCALS)],
+            locals,
+        }
+    }
+
+    // The first place of a name among the locals.
+    fn search(&self, name: &Name) -> Option<usize>
+        ensures place { result ≡ position_from (same_name name.now) 0 self.now.names.now }
+        ensures within { IfSome result (λ place. place < 15) }
+    {
+        for (place, local) in self.names.iter().enumerate() {
+            if name.bytes() == local.bytes() {
+                return Some(place);
+            }
+        }
+        None
+    }
+
+    // The place of a local.
+    #[tactic(auto, using(crate::proofs::Tables::place_is))]
+    fn place(&self, name: &Name) -> Option<usize>
+        ensures place { result ≡ place_in name.now self.now.names.now }
+        ensures within { IfSome result (λ place. place < 15) }
+    {
+        self.search(name)
+    }
+
+    /// The value of a local, if there is one of this name.
+    #[tactic(auto, using(crate::proofs::Tables::got, crate::proofs::Tables::got_none))]
+    pub fn get(&self, name: &Name) -> Option<i32>
+        ensures { result ≡ found name.now (scope_of self.now).locals }
+    {
+        match self.place(name) {
+            Some(place) => Some(self.locals[place]),
+            None => None,
+        }
+    }
+
+    /// Another value of a local, if there is one of this name.
+    #[tactic(auto, using(crate::proofs::Tables::put_at, crate::proofs::Tables::put_none))]
+    pub fn set(&mut self, name: &Name, value: i32)
+        ensures directive { self.new.directive ≡ self.old.directive }
+        ensures locals { (scope_of self.new).locals
+            ≡ updated name.now value (scope_of self.old).locals }
+    {
+        match self.place(name) {
+            Some(place) => self.locals[place] = value,
+            None => {}
+        }
+    }
+}

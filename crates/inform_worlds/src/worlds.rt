@@ -1,0 +1,194 @@
+//! The globals, the arrays and the locals of a run.
+use crate::entries::{entry, has_room, kept, put};
+use crate::scopes::Scope;
+use inform_names::laws::meanings_are_of_directives;
+use inform_names::{Kind, Names};
+use inform_tree::Name;
+
+/// The world of a run: the value of each global and the entries of each array, by the number of its
+/// directive, and the locals of the routine that runs.
+#[derive(Drop)]
+pub struct World<'a> {
+    names: Names<'a>,
+    globals: Vec<i32>,
+    arrays: Vec<Vec<i32>>,
+    scope: Scope<'a>,
+}
+
+impl<'a> World<'a> {
+    ghost use Rattle.std.specs.Prelude.{◌≡◌, ◌<◌, Bool, pos, length, map, slice_get, unwrap_or, Some, None, IfSome, IfNone};
+    ghost use Rattle.inform_names.specs.declared.meanings.Kind.TheVariants as k;
+    ghost use Rattle.inform_meaning.specs.Tables.{renewed};
+    ghost use Rattle.inform_names.specs.Views.{names_of};
+    ghost use Rattle.inform_meaning.specs.Worlds.{value_of, assigned, entries_of, entry_at, stored, has_room, with_line};
+    ghost use Rattle.inform_worlds.specs.Worlds.{outer_value, globals_of, arrays_of};
+    ghost use Rattle.inform_worlds.specs.Scopes.{scope_of};
+    ghost use Rattle.inform_worlds.specs.Views.{world_of, program_seen};
+
+    // The value of the global that is the directive of this number.
+    fn global(&self, at: usize) -> i32
+        ensures { result ≡ unwrap_or (slice_get self.now.globals.items at) (pos 0) }
+    {
+        if at < self.globals.len() {
+            return self.globals[at];
+        }
+        0
+    }
+
+    // The value of what has no name among the locals.
+    #[tactic(auto, using(crate::proofs::ByNumber::outer_global, crate::proofs::ByNumber::outer_nothing))]
+    fn outer(&self, name: &Name) -> i32
+        ensures { result ≡ outer_value (names_of self.now.names.accepted.now)
+            self.now.globals.items name.now }
+    {
+        match self.names.find(name.bytes()) {
+            None => 0,
+            Some(meaning) => match meaning.kind {
+                Kind::Constant(Some(word)) => word,
+                Kind::Constant(None) => 0,
+                Kind::Global => self.global(meaning.at),
+                Kind::Array(_) => 0,
+                Kind::Routine(_) => 0,
+            },
+        }
+    }
+
+    /// The value of a name.
+    pub fn value(&self, name: &Name) -> i32
+        ensures { result ≡ value_of (program_seen self.now) name.now (world_of self.now) }
+    {
+        match self.scope.get(name) {
+            Some(value) => value,
+            None => self.outer(name),
+        }
+    }
+
+    // The number of the global of this name, if there is one.
+    fn global_at(&self, name: &Name) -> Option<usize>
+        ensures means { IfSome result (λ at. names_of self.now.names.accepted.now name.now
+            ≡ Some (record { at = at; kind = k.Global })) }
+        ensures within { IfSome result (λ at. at < length self.now.globals.items) }
+        ensures none { IfNone result (globals_of (names_of self.now.names.accepted.now)
+            self.now.globals.items name.now ≡ None) }
+    {
+        match self.names.find(name.bytes()) {
+            None => None,
+            Some(meaning) => match meaning.kind {
+                Kind::Constant(_) => None,
+                Kind::Global => {
+                    if meaning.at < self.globals.len() {
+                        return Some(meaning.at);
+                    }
+                    None
+                }
+                Kind::Array(_) => None,
+                Kind::Routine(_) => None,
+            },
+        }
+    }
+
+    // Another value of a global, if there is one of this name.
+    #[tactic(auto, using(crate::proofs::ByNumber::put_global, crate::proofs::ByNumber::keep_globals))]
+    fn assign_global(&mut self, name: &Name, value: i32)
+        ensures names { self.new.names ≡ self.old.names }
+        ensures arrays { self.new.arrays ≡ self.old.arrays }
+        ensures scope { self.new.scope ≡ self.old.scope }
+        ensures globals { globals_of (names_of self.new.names.accepted.now) self.new.globals.items
+            ≡ renewed (globals_of (names_of self.old.names.accepted.now) self.old.globals.items)
+            name.now value }
+    {
+        meanings_are_of_directives();
+        match self.global_at(name) {
+            Some(at) => self.globals[at] = value,
+            None => {}
+        }
+    }
+
+    /// Another value of a local of this name, else of a global, if there is one.
+    pub fn assign(&mut self, name: &Name, value: i32)
+        ensures names { self.new.names ≡ self.old.names }
+        ensures world { world_of self.new ≡ assigned name.now value (world_of self.old) }
+    {
+        match self.scope.get(name) {
+            Some(_) => self.scope.set(name, value),
+            None => self.assign_global(name, value),
+        }
+    }
+
+    // The number of the array of this name, if there is one.
+    fn array_at(&self, name: &Name) -> Option<usize>
+        ensures means { IfSome result (λ at. (words : Bool) × (names_of self.now.names.accepted.now name.now
+            ≡ Some (record { at = at; kind = k.Array words }))) }
+        ensures within { IfSome result (λ at. at < length self.now.arrays.items) }
+        ensures none { IfNone result (arrays_of (names_of self.now.names.accepted.now)
+            (map (λ entries. entries.items) self.now.arrays.items) name.now ≡ None) }
+    {
+        match self.names.find(name.bytes()) {
+            None => None,
+            Some(meaning) => match meaning.kind {
+                Kind::Constant(_) => None,
+                Kind::Global => None,
+                Kind::Array(_) => {
+                    if meaning.at < self.arrays.len() {
+                        return Some(meaning.at);
+                    }
+                    None
+                }
+                Kind::Routine(_) => None,
+            },
+        }
+    }
+
+    /// The entries of an array; none where there is no array of this name.
+    fn entries(&self, name: &Name) -> &[i32]
+        ensures { result.now ≡ entries_of name.now (world_of self.now) }
+    {
+        match self.array_at(name) {
+            Some(at) => self.arrays[at].as_slice(),
+            None => &[],
+        }
+    }
+
+    /// An entry of an array, if there are such an array and such an entry.
+    pub fn entry(&self, name: &Name, index: i32) -> Option<i32>
+        ensures { result ≡ entry_at (entries_of name.now (world_of self.now)) index }
+    {
+        entry(self.entries(name), index)
+    }
+
+    /// Another value of an entry of an array, if there are such an array and such an entry.
+    #[tactic(auto, using(crate::proofs::ByNumber::put_array, crate::proofs::ByNumber::kept_array, crate::proofs::ByNumber::keep_arrays))]
+    pub fn store(&mut self, name: &Name, words: bool, index: i32, value: i32)
+        ensures names { self.new.names ≡ self.old.names }
+        ensures world { world_of self.new ≡ stored name.now words index value (world_of self.old) }
+    {
+        meanings_are_of_directives();
+        match self.array_at(name) {
+            Some(at) => put(&mut self.arrays[at], index, kept(words, value)),
+            None => {}
+        }
+    }
+
+    /// Whether an array has room for a line of as many bytes as its first entry says.
+    pub fn has_room(&self, name: &Name) -> bool
+        ensures { result ≡ has_room (entries_of name.now (world_of self.now)) }
+    {
+        has_room(self.entries(name))
+    }
+
+    /// The routine that runs, and its locals.
+    pub fn scope(&self) -> Scope<'a>
+        ensures { scope_of result ≡ (world_of self.now).scope }
+    {
+        self.scope
+    }
+
+    /// Another routine runs, with these locals.
+    pub fn enter(&mut self, scope: Scope<'a>)
+        ensures names { self.new.names ≡ self.old.names }
+        ensures world { world_of self.new
+            ≡ record (world_of self.old) { scope = scope_of scope.entry } }
+    {
+        self.scope = scope;
+    }
+}
