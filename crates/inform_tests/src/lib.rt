@@ -5,6 +5,8 @@
 #[cfg(test)]
 mod lexemes;
 #[cfg(test)]
+mod parser;
+#[cfg(test)]
 mod tokens;
 #[cfg(test)]
 mod trees;
