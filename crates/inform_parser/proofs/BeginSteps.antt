@@ -47,4 +47,3 @@ directives [] = refl
 directives (Sign Semicolon ∷ xs) = refl
 directives (Word w.If ∷ xs) = refl
 directives (_ ∷ xs) = refl
-

@@ -227,5 +227,7 @@ pub expressions_push : (xs : List Expr) (x : Expr) → map expression_of (xs ++ 
 expressions_push xs x = map_push expression_of xs x
 
 pub ruleset argument_loop = (argument_more, argument_last, expressions_push)
+
 pub ruleset factor_loop = (factor_more, factor_last)
+
 pub ruleset term_loop = (term_more, term_last)

@@ -75,10 +75,7 @@ impl<'a> Cursor<'a> {
     pub fn at_entry(&self) -> bool
         ensures { result ≡ heads begins_entry self.now.rest }
     {
-        self.at_number()
-            || self.at_character()
-            || self.at_name()
-            || self.at(Symbol::LeftRound)
+        self.at_number() || self.at_character() || self.at_name() || self.at(Symbol::LeftRound)
     }
 
     /// Whether a directive begins with what stands next.

@@ -173,7 +173,13 @@ impl<'a> Cursor<'a> {
     // The body of a `for`, after its head.
     #[cycle(statements)]
     #[tactic(auto, using(crate::proofs::Steps::steps, crate::proofs::TreesMade::bodies), unfolding(inform_grammar::specs::StatementRules::for_body))]
-    fn for_body(&mut self, alloc: Global, first: Option<Change>, test: Option<Guard>, last: Option<Change>) -> Result<Stmt, Stop>
+    fn for_body(
+        &mut self,
+        alloc: Global,
+        first: Option<Change>,
+        test: Option<Guard>,
+        last: Option<Change>,
+    ) -> Result<Stmt, Stop>
         ensures gives { Gives statement_of
             (for_body (assignment_if_any first) (guard_if_any test) (assignment_if_any last)) self.old result self.new }
         ensures ahead { length self.new.rest ≤ length self.old.rest }
@@ -186,7 +192,12 @@ impl<'a> Cursor<'a> {
     // The head of a `for` after its second colon.
     #[cycle(statements)]
     #[tactic(auto, using(crate::proofs::Steps::steps, crate::proofs::BodySteps::for_last_as))]
-    fn for_last(&mut self, alloc: Global, first: Option<Change>, test: Option<Guard>) -> Result<Stmt, Stop>
+    fn for_last(
+        &mut self,
+        alloc: Global,
+        first: Option<Change>,
+        test: Option<Guard>,
+    ) -> Result<Stmt, Stop>
         ensures gives { Gives statement_of
             (for_last (assignment_if_any first) (guard_if_any test)) self.old result self.new }
         ensures ahead { length self.new.rest ≤ length self.old.rest }

@@ -52,7 +52,11 @@ impl<'a> Cursor<'a> {
 
     // The choices of a case, of which one is read.
     #[tactic(auto, using(crate::proofs::Steps::steps, crate::proofs::ChoiceSteps::choice_loop))]
-    fn choices(&mut self, alloc: Global, first: (Const, Option<Const>)) -> Result<Vec<(Const, Option<Const>)>, Stop>
+    fn choices(
+        &mut self,
+        alloc: Global,
+        first: (Const, Option<Const>),
+    ) -> Result<Vec<(Const, Option<Const>)>, Stop>
         ensures gives { Gives choices_in
             (many r.FurtherChoice (choice_of first ∷ []) done) self.old result self.new }
         ensures ahead { length self.new.rest ≤ length self.old.rest }
@@ -68,7 +72,11 @@ impl<'a> Cursor<'a> {
 
     /// The choices of a case, of which one is read, and its colon.
     #[tactic(auto, using(crate::proofs::Steps::steps, crate::proofs::ChoiceSteps::choices_after_as))]
-    pub fn choices_after(&mut self, alloc: Global, first: (Const, Option<Const>)) -> Result<Vec<(Const, Option<Const>)>, Stop>
+    pub fn choices_after(
+        &mut self,
+        alloc: Global,
+        first: (Const, Option<Const>),
+    ) -> Result<Vec<(Const, Option<Const>)>, Stop>
         ensures gives { Gives choices_in
             (choices_after (choice_of first)) self.old result self.new }
         ensures ahead { length self.new.rest ≤ length self.old.rest }

@@ -137,7 +137,13 @@ impl<'a> Cursor<'a> {
     // The members of a chain, of which two are read.
     #[cycle(conditions)]
     #[tactic(auto, using(crate::proofs::Steps::steps, crate::proofs::ConditionSteps::member_loop))]
-    fn members(&mut self, alloc: Global, join: Join, first: Cond, second: Cond) -> Result<Vec<Cond>, Stop>
+    fn members(
+        &mut self,
+        alloc: Global,
+        join: Join,
+        first: Cond,
+        second: Cond,
+    ) -> Result<Vec<Cond>, Stop>
         ensures gives { Gives conditions_in
             (members_from (join_of join)
             (condition_of first ∷ condition_of second ∷ [])) self.old result self.new }
@@ -159,7 +165,13 @@ impl<'a> Cursor<'a> {
     // A chain of which two members are read.
     #[cycle(conditions)]
     #[tactic(auto, using(crate::proofs::Steps::steps, crate::proofs::ConditionSteps::members_after_as))]
-    fn members_after(&mut self, alloc: Global, join: Join, first: Cond, second: Cond) -> Result<Guard, Stop>
+    fn members_after(
+        &mut self,
+        alloc: Global,
+        join: Join,
+        first: Cond,
+        second: Cond,
+    ) -> Result<Guard, Stop>
         ensures gives { Gives guard_of
             (members_after (join_of join) (condition_of first) (condition_of second)) self.old result self.new }
         ensures ahead { length self.new.rest ≤ length self.old.rest }

@@ -44,7 +44,7 @@ pub enum Join {
 impl Join {
     ghost use Rattle.inform_tree.specs.Conditions.{condition_of};
     ghost use Rattle.inform_grammar.specs.Trees.{joined};
-        ghost use Rattle.inform_parser.specs.Guards.{join_of, conditions_in};
+    ghost use Rattle.inform_parser.specs.Guards.{join_of, conditions_in};
 
     /// The chain of conditions that are joined so.
     #[tactic(auto, using(crate::proofs::TreesMade::conditions))]

@@ -7,6 +7,8 @@ mod lexemes;
 #[cfg(test)]
 mod names;
 #[cfg(test)]
+mod parser;
+#[cfg(test)]
 mod printer;
 #[cfg(test)]
 mod tokens;

@@ -15,17 +15,21 @@ use Rattle.inform_parser.proofs.cursor.Cursor.«+statements».Goals as goal
 
 pub statements-loop-alloc-preserved : goal.statements-loop-alloc-preserved
 statements-loop-alloc-preserved t c =
-    let l = c.loop-alloc in
-    (goes_on r.Statement statement_of l.statements.items c.push.new.self.items c.in_ok-statement.statement l.self c.statement.new.self _
-    (statement_more (map statement_of l.statements.items) l.self (sym c.at_statement.ensures ∙ c.loop-alloc-test.true)) c.in_ok-push.ensures.items
-    c.in_ok-statement.ensures.gives l.invariant.0, omega arith)
+    let l = c.loop-alloc in (
+      goes_on r.Statement statement_of l.statements.items c.push.new.self.items c.in_ok-statement.statement l.self c.statement.new.self _
+          (statement_more (map statement_of l.statements.items) l.self (sym c.at_statement.ensures ∙ c.loop-alloc-test.true)) c.in_ok-push.ensures.items
+          c.in_ok-statement.ensures.gives l.invariant.0,
+      omega arith,
+    )
 
 pub parts-loop-alloc-preserved : goal.parts-loop-alloc-preserved
 parts-loop-alloc-preserved t c =
-    let l = c.loop-alloc in
-    (goes_on r.Part part_of l.parts.items c.push.new.self.items c.in_ok-part.part l.self c.part.new.self _
-    (part_more (map part_of l.parts.items) l.self (sym c.at_part.ensures ∙ c.loop-alloc-test.true)) c.in_ok-push.ensures.items
-    c.in_ok-part.ensures.gives l.invariant.0, omega arith)
+    let l = c.loop-alloc in (
+      goes_on r.Part part_of l.parts.items c.push.new.self.items c.in_ok-part.part l.self c.part.new.self _
+          (part_more (map part_of l.parts.items) l.self (sym c.at_part.ensures ∙ c.loop-alloc-test.true)) c.in_ok-push.ensures.items
+          c.in_ok-part.ensures.gives l.invariant.0,
+      omega arith,
+    )
 
 -- a fault of what is read next is one of the whole
 stops : (front : List r.SwitchPart) (s after : Spot) (stop : Stop) (total : Answer (List r.SwitchPart))
