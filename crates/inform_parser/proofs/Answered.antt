@@ -1,5 +1,5 @@
 -- What the parser's answer tells of sentences and faults.
-use Rattle.std.proofs.Common.{◌≡◌, ℕ, List, [], length, Ok, Err, Result, refl, ap, ◌∙◌, sym, subst}
+use Rattle.std.proofs.Common.{◌⊎◌, inl, inr, ◌≡◌, ℕ, List, [], length, Ok, Err, Result, refl, ap, ◌∙◌, sym, subst}
 use Rattle.inform_tree.specs.Programs.{DirectiveTree}
 use Rattle.inform_lexemes.specs.Lexemes.{Lexeme}
 use Rattle.inform_lexer.specs.declared.kinds.Token.{Token}
@@ -10,11 +10,13 @@ use Rattle.inform_grammar.specs.Reading.{Spot, spot, Answer, reads, within_limit
 use Rattle.inform_grammar.specs.Rule.{program}
 use Rattle.inform_grammar.specs.Laws.{SentenceIsRead, ReadIsSentence, FaultIsFirst}
 use Rattle.inform_parser.specs.declared.faults.ParseFault.{ParseFault}
-use Rattle.inform_parser.specs.declared.faults.ParseFault.TheVariants.{Memory}
+use Rattle.inform_parser.specs.declared.faults.ParseFault.TheVariants.{Unexpected, Mixed, TooDeep, Memory}
 use Rattle.inform_parser.specs.declared.stops.Stop.{Stop}
 use Rattle.inform_parser.specs.declared.stops.Stop.TheVariants as stop
 use Rattle.inform_parser.specs.Reading.{read, StopsAt}
-use Rattle.inform_parser.specs.Programs.{IsProgramOf, IsFaultOf, place_before, fault_at}
+use Rattle.inform_parser.specs.Programs.{IsProgramOf, IsReadTo, IsFaultOf, place_before, fault_at, fault_answer}
+use Rattle.adv_io.specs.Answers.{IsErrOr}
+use Rattle.inform_tree.specs.declared.programs.Program.{Program}
 
 abbrev good : List DirectiveTree × Spot → Answer (List DirectiveTree)
 good x = Ok x
@@ -49,7 +51,30 @@ module _ (bytes : List ℕ) (tokens : List Token) (after : Spot) where
 
   pub first : FaultIsFirst → (s : Stop) (at : ℕ) → StopsAt after s whole → at ≡ place_before bytes tokens (length after.rest) → IsFaultOf bytes tokens (fault_at s at)
   unfolding read
-  first law stop.Unexpected at e h = (after.rest, law within_limit (lexemes bytes tokens) (fault kind.Unexpected after.rest) e, h)
-  first law stop.Mixed at e h = (after.rest, law within_limit (lexemes bytes tokens) (fault kind.Mixed after.rest) e, h)
-  first law stop.TooDeep at e h = (after.rest, law within_limit (lexemes bytes tokens) (fault kind.TooDeep after.rest) e, h)
+  first law stop.Unexpected at e h = (after.rest, e, law within_limit (lexemes bytes tokens) (fault kind.Unexpected after.rest) e, h)
+  first law stop.Mixed at e h = (after.rest, e, law within_limit (lexemes bytes tokens) (fault kind.Mixed after.rest) e, h)
+  first law stop.TooDeep at e h = (after.rest, e, law within_limit (lexemes bytes tokens) (fault kind.TooDeep after.rest) e, h)
   first law stop.Memory at e h = tt
+
+  -- what is read up to a fault is no program, and refused at it
+  pub no_program : (p : List DirectiveTree) (f : Fault) → whole ≡ Ok (p, after) → IsReadTo bytes tokens f → ⊥
+  unfolding read
+  no_program p f e h = let both : bad f ≡ good (p, after) = sym h ∙ e in cc
+
+  same_fault : (k : FaultKind) (f : Fault) → whole ≡ Err (fault k after.rest) → IsReadTo bytes tokens f → fault k after.rest ≡ f
+  unfolding read
+  same_fault k f e h = let both : bad (fault k after.rest) ≡ bad f = sym e ∙ h in cc
+
+  pub expected : (s : Stop) (at : ℕ) → StopsAt after s whole → at ≡ place_before bytes tokens (length after.rest) → (f : Fault) → IsReadTo bytes tokens f
+      → (fault_at s at ≡ fault_answer bytes tokens f) ⊎ (fault_at s at ≡ Memory)
+  expected stop.Unexpected at e h f g = inl (ap Unexpected h ∙ ap (fault_answer bytes tokens) (same_fault kind.Unexpected f e g))
+  expected stop.Mixed at e h f g = inl (ap Mixed h ∙ ap (fault_answer bytes tokens) (same_fault kind.Mixed f e g))
+  expected stop.TooDeep at e h f g = inl (ap TooDeep h ∙ ap (fault_answer bytes tokens) (same_fault kind.TooDeep f e g))
+  expected stop.Memory at e h f g = inr refl
+
+abbrev refusal : ParseFault → Result Program ParseFault
+refusal f = Err f
+
+pub refused : (x y : ParseFault) → (x ≡ y) ⊎ (x ≡ Memory) → IsErrOr Memory (refusal x) y
+refused x y (inl e) = inl (ap refusal e)
+refused x y (inr e) = inr (ap refusal e)

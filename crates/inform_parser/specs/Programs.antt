@@ -6,8 +6,9 @@ use Rattle.inform_lexemes.specs.Lexemes.{Lexeme}
 use Rattle.inform_lexer.specs.declared.kinds.Token.{Token}
 use Rattle.inform_lexer.specs.Spans.{lexemes}
 use Rattle.inform_grammar.specs.Faults as kind
-use Rattle.inform_grammar.specs.Faults.{FaultKind, fault}
-use Rattle.inform_grammar.specs.Reading.{within_limit}
+use Rattle.inform_grammar.specs.Faults.{Fault, FaultKind, fault}
+use Rattle.inform_grammar.specs.Rule.{program}
+use Rattle.inform_grammar.specs.Reading.{reads, within_limit}
 use Rattle.inform_grammar.specs.Sentences.{Sentence}
 use Rattle.inform_grammar.specs.Laws.{FirstFault}
 use Rattle.inform_parser.specs.declared.faults.ParseFault.{ParseFault}
@@ -35,10 +36,15 @@ start_of bytes (t ∷ ts) = t.start
 abbrev pub place_before : List ℕ → List Token → ℕ → ℕ
 place_before bytes tokens left = start_of bytes (drop (length tokens - left) tokens)
 
--- a fault of this kind is the first one, and stands at this place
+-- the tokens are read up to this fault
+abbrev pub IsReadTo : List ℕ → List Token → Fault → Type 0
+IsReadTo bytes tokens f = reads within_limit (lexemes bytes tokens) program 0 ≡ Err f
+
+-- a fault of this kind is the one that they are read up to, which is the first one, and stands at this place
 abbrev pub StandsAt : List ℕ → List Token → FaultKind → ℕ → Type 0
 StandsAt bytes tokens kind at =
-    (rest : List Lexeme) × FirstFault within_limit (lexemes bytes tokens) (fault kind rest) × (at ≡ place_before bytes tokens (length rest))
+    (rest : List Lexeme) × IsReadTo bytes tokens (fault kind rest) × FirstFault within_limit (lexemes bytes tokens) (fault kind rest)
+    × (at ≡ place_before bytes tokens (length rest))
 
 -- want of memory is no fault of the tokens
 abbrev pub IsFaultOf : List ℕ → List Token → ParseFault → Type 0
@@ -53,3 +59,12 @@ fault_at stop.Unexpected at = Unexpected at
 fault_at stop.Mixed at = Mixed at
 fault_at stop.TooDeep at = TooDeep at
 fault_at stop.Memory at = Memory
+
+-- a fault of reading, as it is answered
+abbrev pub placed : FaultKind → ℕ → ParseFault
+placed kind.Unexpected at = Unexpected at
+placed kind.Mixed at = Mixed at
+placed kind.TooDeep at = TooDeep at
+
+abbrev pub fault_answer : List ℕ → List Token → Fault → ParseFault
+fault_answer bytes tokens f = placed f.kind (place_before bytes tokens (length f.rest))

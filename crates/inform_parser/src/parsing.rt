@@ -1,7 +1,10 @@
 //! The program that tokens are.
 ghost use Rattle.std.specs.Prelude.{◌≡◌, ◌≤◌, List, length, IfOk, IfErr};
 ghost use Rattle.inform_tree.specs.Programs.{DirectiveTree, program_of};
-ghost use Rattle.inform_parser.specs.Programs.{IsProgramOf, IsGiven, IsFaultOf, place_before, fault_at};
+ghost use Rattle.inform_parser.specs.Programs.{IsProgramOf, IsGiven, IsReadTo, IsFaultOf, place_before, fault_at, fault_answer};
+ghost use Rattle.inform_parser.specs.declared.faults.ParseFault.TheVariants.{Memory};
+ghost use Rattle.inform_grammar.specs.Faults.{Fault};
+ghost use Rattle.adv_io.specs.Answers.{IsErrOr};
 
 use crate::cursor::Cursor;
 use crate::faults::ParseFault;
@@ -45,8 +48,10 @@ pub fn parse(alloc: Global, tokens: &[Token], bytes: &[u8]) -> Result<Program, P
     ensures only { (p : List DirectiveTree) → IsProgramOf bytes.now tokens.now p
         → IsGiven result p }
 
-    // A fault but `Memory` is answered only where it is the first one.
+    // A fault but `Memory` is answered only where it is the first one, and there, unless memory runs out.
     ensures fault { IfErr result (λ fault. IsFaultOf bytes.now tokens.now fault) }
+    ensures expected { (fault : Fault) → IsReadTo bytes.now tokens.now fault
+        → IsErrOr Memory result (fault_answer bytes.now tokens.now fault) }
 {
     sentence_is_read();
     read_is_sentence();

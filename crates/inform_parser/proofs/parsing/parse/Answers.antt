@@ -3,8 +3,8 @@ use Rattle.inform_tree.specs.Programs.{program_of}
 use Rattle.inform_grammar.specs.Reading.{Spot}
 use Rattle.inform_grammar.specs.Rule.{program}
 use Rattle.inform_parser.specs.Reading.{read, StopsAt}
-use Rattle.inform_parser.specs.Programs.{IsFaultOf, place_before}
-use Rattle.inform_parser.proofs.Answered.{found, same, no_fault, first}
+use Rattle.inform_parser.specs.Programs.{IsFaultOf, place_before, fault_at, fault_answer}
+use Rattle.inform_parser.proofs.Answered.{found, same, no_fault, first, no_program, expected, refused}
 use Rattle.inform_parser.proofs.parsing.parse.Goals as goal
 
 pub returns-in-Ok-clause-found : goal.returns-in-Ok-clause-found
@@ -30,3 +30,17 @@ returns-in-Err-clause-fault c =
     c.place_before.ensures ∙ ap (place_before c.args.bytes.now c.args.tokens.now) c.left.ensures in
     rw c.fault_at.ensures
     (first c.args.bytes.now c.args.tokens.now c.program.new.self c.fault_is_first.ensures c.in-Err.stop c.place_before.result stopped place)
+
+pub returns-in-Ok-clause-expected : goal.returns-in-Ok-clause-expected
+returns-in-Ok-clause-expected c =
+    λ f h. absurd (no_program c.args.bytes.now c.args.tokens.now c.program.new.self (program_of c.in-Ok.program) f
+    (ap (λ (s : Spot). read program s) (sym c.new-cursor.ensures) ∙ c.in-Ok.ensures.gives) h)
+
+pub returns-in-Err-clause-expected : goal.returns-in-Err-clause-expected
+returns-in-Err-clause-expected c =
+    let stopped = subst (λ (s : Spot). StopsAt c.program.new.self c.in-Err.stop (read program s)) c.new-cursor.ensures c.in-Err.ensures.gives in
+    let place : c.place_before.result ≡ place_before c.args.bytes.now c.args.tokens.now (length c.program.new.self.rest) =
+    c.place_before.ensures ∙ ap (place_before c.args.bytes.now c.args.tokens.now) c.left.ensures in
+    λ f h. rw c.fault_at.ensures
+    (refused (fault_at c.in-Err.stop c.place_before.result) (fault_answer c.args.bytes.now c.args.tokens.now f)
+    (expected c.args.bytes.now c.args.tokens.now c.program.new.self c.in-Err.stop c.place_before.result stopped place f h))
