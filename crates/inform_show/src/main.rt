@@ -128,34 +128,39 @@ fn show<C: Console>(
     }
 }
 
-// Says why a source isn't shown, and gives the status.
-fn say_fault<C: Console>(console: &mut C, name: &str, fault: &Fault) -> u8 {
+// Says a file's name and what is said of it, in pieces.
+fn say_pieces<C: Console>(
+    console: &mut C,
+    name: &str,
+    pieces: &[&[u8]],
+) -> Result<(), ConsoleFault> {
+    console.say(name.as_bytes())?;
+    console.say(b": ")?;
+    say_all(console, pieces)?;
+    console.say(b"\n")
+}
+
+// Says why a source isn't shown.
+fn say_fault<C: Console>(console: &mut C, name: &str, fault: &Fault) -> Result<(), ConsoleFault> {
     let mut digits = Buffer::new();
-    let said = match fault {
-        Fault::Tokens(LexFault::Memory) => return 9,
-        Fault::Tokens(fault) => {
-            let [opening, place] = fault.pieces(&mut digits);
-            say_all(console, &[name.as_bytes(), b": ", opening, place, b"\n"])
-        }
-        Fault::Grammar(ParseFault::Memory) => return 9,
-        Fault::Grammar(fault) => {
-            let [opening, place] = fault.pieces(&mut digits);
-            say_all(console, &[name.as_bytes(), b": ", opening, place, b"\n"])
-        }
-        Fault::Names(NameFault::Memory) => return 9,
-        Fault::Names(fault) => {
-            let [opening, subject, ending] = fault.pieces(&mut digits);
-            say_all(
-                console,
-                &[name.as_bytes(), b": ", opening, subject, ending, b"\n"],
-            )
-        }
-        Fault::Memory => return 9,
-        Fault::Console => return 3,
-    };
-    match said {
-        Ok(()) => 6,
-        Err(_) => 3,
+    match fault {
+        Fault::Tokens(fault) => say_pieces(console, name, &fault.pieces(&mut digits)),
+        Fault::Grammar(fault) => say_pieces(console, name, &fault.pieces(&mut digits)),
+        Fault::Names(fault) => say_pieces(console, name, &fault.pieces(&mut digits)),
+        Fault::Memory => Ok(()),
+        Fault::Console => Ok(()),
+    }
+}
+
+// The status of a fault: 6 for one of the source, 9 for want of memory, 3 for one of the console.
+fn status_of(fault: &Fault) -> u8 {
+    match fault {
+        Fault::Tokens(LexFault::Memory) => 9,
+        Fault::Grammar(ParseFault::Memory) => 9,
+        Fault::Names(NameFault::Memory) => 9,
+        Fault::Memory => 9,
+        Fault::Console => 3,
+        _ => 6,
     }
 }
 
@@ -177,7 +182,10 @@ fn show_file(rt: &HostRuntime, words: &[String]) -> u8 {
             };
             match show(rt.alloc(), depth, &bytes, &mut console) {
                 Ok(()) => 0,
-                Err(fault) => say_fault(&mut console, name, &fault),
+                Err(fault) => match say_fault(&mut console, name, &fault) {
+                    Ok(()) => status_of(&fault),
+                    Err(_) => 3,
+                },
             }
         }
         _ => 1,
