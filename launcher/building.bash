@@ -1,7 +1,8 @@
 # How the launcher proves and builds the program; ../scott reads this file where it has to.
 #
-# A crate is proved as soon as all crates below it are, with as many provers side by side as the machine
-# has room for. Each prover is in a group of processes of its own and writes into a log of its own.
+# That is done on a copy of the crates that the program stands on, in a folder of its own, which is removed in the
+# end: so neither a gate nor a check in this folder waits for it, or undoes it. The crates are proved side by side,
+# each as soon as all crates below it are.
 
 # What one prover may take in megabytes, and what 1,000 lines of code take: megabytes of the disk, and
 # seconds of one processor.
@@ -9,12 +10,12 @@ prover_memory=3000
 disk_per_1000=250
 seconds_per_1000=150
 
-# A crate that was proved before is there in a moment; what takes more seconds than this is being proved.
-moment=4
+# The lines of code of each crate, and the second at which a prover began with it.
+declare -gA lines began
 
-# Of each crate: its lines of code, its state (waiting, running or done), the process that proves it, and the
-# second at which that began.
-declare -gA lines state process began
+# The folder of the copy, and the prover that works there.
+workshop=
+prover=
 
 # How many provers the machine has room for: one at least, and no more than it has processors.
 room() {
@@ -35,18 +36,24 @@ lines_of() {
     find "$top/crates/$1/src" -name '*.rt' -exec cat {} + | wc -l
 }
 
-# The crates that have changed since the last build, and those above them: all where there was none.
-changed_crates() {
-    local name lower changed
-    [ -e "$build/sources" ] || { echo "${names[*]}"; return; }
-    changed=" $(diff <(sums) "$build/sources" |
-        sed -n 's|^[<>] [0-9a-f]*  crates/\([^/]*\)/.*|\1|p' | sort -u | tr '\n' ' ')"
+# Copies the crates that the program stands on.
+make_workshop() {
+    local name
+    workshop=$(mktemp -d "${TMPDIR:-/var/tmp}/scott.XXXXXX") || return
+    mkdir "$workshop/crates" || return
+    [ ! -e "$top/HANDLES" ] || cp "$top/HANDLES" "$workshop" || return
     for name in "${names[@]}"; do
-        for lower in ${below[$name]}; do
-            [[ $changed != *" $lower "* || $changed == *" $name "* ]] || changed+="$name "
-        done
+        lines[$name]=$(lines_of "$name")
+        cp -R "$top/crates/$name" "$workshop/crates" || return
+        rm -rf "$workshop/crates/$name/out" "$workshop/crates/$name/must-fail"
     done
-    echo "$changed"
+    awk -v names=" ${names[*]} " '{ split($1, head, ":") } index(names, " " head[1] " ")' \
+        "$top/crates.txt" >"$workshop/crates.txt"
+}
+
+remove_workshop() {
+    [ -z "$workshop" ] || rm -rf "$workshop"
+    workshop=
 }
 
 # Megabytes as gigabytes.
@@ -54,38 +61,31 @@ gigabytes() {
     echo "$(($1 / 1000)).$(($1 % 1000 / 100)) GB"
 }
 
-# Says once what is going to be done: how many crates are proved, how long that takes, and with what.
+# Says once what is going to be done, how long that takes, and with what.
 say_plan() {
-    local name count=0 much=0 free side_by_side
-    for name in $planned; do
-        count=$((count + 1))
+    local name much=0 free
+    for name in "${names[@]}"; do
         much=$((much + lines[$name]))
     done
-    side_by_side=$((count < places ? count : places))
-    free=$(df -Pm "$top" | awk 'NR == 2 { print $4 }')
-    say "proving $count of ${#names[@]} crates, up to $side_by_side side by side, and building the program:"
-    say "about $((much * seconds_per_1000 / 60000 / side_by_side + 2)) minutes, up to" \
-        "$((side_by_side * prover_memory / 1000)) GB of memory, $(gigabytes $((much * disk_per_1000 / 1000)))" \
-        "of disk ($(gigabytes "$free") free)"
+    free=$(df -Pm "$workshop" | awk 'NR == 2 { print $4 }')
+    say "proving ${#names[@]} crates, up to $places side by side, and building the program:"
+    say "about $((much * seconds_per_1000 / 60000 / places + 2)) minutes, up to" \
+        "$((places * prover_memory / 1000)) GB of memory, and for that time $(gigabytes $((much * disk_per_1000 / 1000)))" \
+        "of disk in ${workshop%/*} ($(gigabytes "$free") free)"
 }
 
-# Those of some crates that aren't done.
-not_done() {
-    local name
-    for name in "$@"; do
-        [ "${state[$name]}" = done ] || echo "$name"
-    done
+# The crates that are proved: the prover has written a heading for each.
+proved() {
+    sed -n 's/^== \(.*\)/\1/p' "$build/log"
 }
 
-# The crates that are being proved: running for more than a moment.
-proving() {
-    local name
-    for name in $(in_state running); do
-        [ $((SECONDS - began[$name])) -le "$moment" ] || echo "$name"
-    done
+# Whether a crate is being proved: it has an output, and no heading yet.
+is_running() {
+    [ -e "$workshop/crates/$1/out" ] || return
+    [ -n "${began[$1]:-}" ] || began[$1]=$SECONDS
 }
 
-# How much of a running crate is done, in hundredths, by the time that its lines may take.
+# How much of a crate is done that is being proved, in hundredths, by the time that its lines may take.
 share_of() {
     local share=$((100 * (SECONDS - began[$1]) * 1000 / (lines[$1] * seconds_per_1000 + 1)))
     echo $((share < 95 ? share : 95))
@@ -93,15 +93,18 @@ share_of() {
 
 # How far all is, in hundredths, by the lines of code; and what is being proved now.
 progress() {
-    local name done=0 all=1
-    for name in $planned; do
+    local name done=0 all=1 headings running=
+    headings=" $(proved | tr '\n' ' ') "
+    for name in "${names[@]}"; do
         all=$((all + lines[$name]))
-        case ${state[$name]} in
-        done) done=$((done + lines[$name])) ;;
-        running) done=$((done + lines[$name] * $(share_of "$name") / 100)) ;;
-        esac
+        if [[ $headings == *" $name "* ]]; then
+            done=$((done + lines[$name]))
+        elif is_running "$name"; then
+            running+=" $name"
+            done=$((done + lines[$name] * $(share_of "$name") / 100))
+        fi
     done
-    echo "about $((100 * done / all)) % done: $(in_state running | tr '\n' ' ')"
+    echo "about $((100 * done / all)) % done:$running"
 }
 
 # Shows on a terminal how far it is, on one line that is written over.
@@ -110,7 +113,7 @@ show_progress() {
     [ -t 2 ] || return
     width=$(stty size <&2 2>/dev/null)
     width=${width#* }
-    if [ "$said" = yes ]; then text="scott: $(progress)"; else text="scott: building the program"; fi
+    text="scott: $(progress)"
     printf '\r%s\033[K' "${text:0:$((${width:-80} - 1))}" >&2
 }
 
@@ -118,118 +121,57 @@ clear_progress() {
     [ ! -t 2 ] || printf '\r\033[K' >&2
 }
 
-# Whether all crates below a crate are done.
-is_ready() {
-    local lower
-    for lower in ${below[$1]}; do
-        [ "${state[$lower]}" = done ] || return
-    done
-}
-
-# The crates that are in a state.
-in_state() {
-    local name
-    for name in "${names[@]}"; do
-        [ "${state[$name]}" != "$1" ] || echo "$name"
-    done
-}
-
-# Proves a crate with so many processors, in a group of processes of its own, so that it can be ended whole.
-start_crate() {
-    local name=$1 command=(rt lib --jobs "$2")
-    # The program is built by a first run of it, on a game of its own.
-    [ "$name" != "$program_crate" ] || command=(rt run --jobs "$2" -- check data/t.dat)
+# Runs the toolchain in a folder of the copy, in a group of processes of its own, so that it can be ended whole.
+run_tool() {
+    local folder=$1
+    shift
     set -m
-    (cd "$top/crates/$name" && exec "${command[@]}") </dev/null >"$build/$name.log" 2>&1 9>&- &
+    (cd "$workshop/$folder" && exec rt "$@") </dev/null >>"$build/log" 2>&1 9>&- &
     set +m
-    process[$name]=$!
-    began[$name]=$SECONDS
-    state[$name]=running
-}
-
-# Starts the crates that can be, while there is room; one that is alone gets the room of all.
-start_crates() {
-    local name running ready=()
-    running=$(in_state running | wc -l)
-    for name in $(in_state waiting); do
-        ! is_ready "$name" || ready+=("$name")
-    done
-    for name in ${ready[@]+"${ready[@]}"}; do
-        [ "$running" -lt "$places" ] || return 0
-        start_crate "$name" $((running + ${#ready[@]} == 1 ? places : 1))
-        running=$((running + 1))
-    done
-}
-
-# Ends what is still being proved, and waits until it has ended.
-stop_crates() {
-    local name
-    for name in $(in_state running); do
-        kill -- "-${process[$name]}" 2>/dev/null
-        wait "${process[$name]}" 2>/dev/null
-    done
-}
-
-# Looks which crates are done. Fails where one has failed, and names it.
-collect_crates() {
-    local name
-    for name in $(in_state running); do
-        ! kill -0 "${process[$name]}" 2>/dev/null || continue
-        if ! wait "${process[$name]}"; then
-            failed=$name
-            return 1
-        fi
-        state[$name]=done
-        [ $((SECONDS - began[$name])) -le "$moment" ] || [ -t 2 ] || say "$name is proved"
-    done
-}
-
-# Proves and builds all crates, those side by side that don't stand on one another.
-prove() {
-    local name places planned said=no
-    places=$(room)
-    planned=$(changed_crates)
-    for name in "${names[@]}"; do
-        state[$name]=waiting
-        lines[$name]=$(lines_of "$name")
-    done
-    while [ "${state[$program_crate]}" != done ]; do
-        start_crates
-        sleep 0.2
-        collect_crates || return
-        name=$(proving)
-        if [ "$said" = no ] && [ -n "$name" ]; then
-            # What is proved though it didn't change was never proved here, and so may be the others.
-            [[ " $planned " == *" ${name%%$'\n'*} "* ]] || planned=${names[*]}
-            planned=$(not_done $planned)
-            clear_progress
-            say_plan
-            said=yes
-        fi
+    prover=$!
+    while kill -0 "$prover" 2>/dev/null; do
         show_progress
+        sleep 0.5
     done
+    wait "$prover"
+}
+
+# Ends what is still running, and takes away what it has made.
+stop() {
+    [ -z "$prover" ] || kill -- "-$prover" 2>/dev/null
+    [ -z "$prover" ] || wait "$prover" 2>/dev/null
+    clear_progress
+    remove_workshop
+}
+
+# Proves all crates, and builds the program, by a first run of it on a game of its own.
+prove() {
+    local places
+    places=$(room)
+    make_workshop || return
+    say_plan
+    run_tool . all check --jobs "$places" && run_tool "crates/$program_crate" run --jobs "$places" -- check data/t.dat
 }
 
 # Proves and builds the program, and keeps it with the sums of what it was built from, as they were at
 # the beginning.
 build() {
-    local failed=
     (sums) >"$build/sources.new" || return
-    trap 'stop_crates; clear_progress; exit 130' INT
-    trap 'stop_crates; clear_progress; exit 143' TERM HUP
-    prove
-    stop_crates
-    trap - INT TERM HUP
-    clear_progress
-    if [ -n "$failed" ]; then
-        tail -n 20 "$build/$failed.log" >&2
-        say "$failed could not be proved or built; $build/$failed.log has the whole"
+    : >"$build/log"
+    trap 'stop; exit 130' INT
+    trap 'stop; exit 143' TERM HUP
+    if ! prove; then
+        stop
+        tail -n 20 "$build/log" >&2
+        say "the program could not be proved or built; $build/log has the whole"
         return 1
     fi
+    trap - INT TERM HUP
+    clear_progress
     # The old program goes first, so that it never stands beside the sums of another.
     rm -f "$program" &&
         mv "$build/sources.new" "$build/sources" &&
-        cp "$top/crates/$program_crate/out/$program_crate" "$build/scott.new" &&
-        mv "$build/scott.new" "$program"
+        cp "$workshop/crates/$program_crate/out/$program_crate" "$build/scott.new" &&
+        mv "$build/scott.new" "$program" &&
+        remove_workshop
 }
-
