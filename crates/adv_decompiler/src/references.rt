@@ -22,7 +22,8 @@ pub fn put_name(alloc: Global, out: &mut Vec<u8>, letter: u8, number: u32) -> Re
 
 /// Writes a room.
 pub fn put_room(alloc: Global, out: &mut Vec<u8>, sizes: &Sizes, room: u32) -> Result<(), Memory>
-    ensures { OnOk result (out.new.items ≡ out.old.items ++ token_text (room_token sizes.now room)) }
+    ensures { OnOk result
+        (out.new.items ≡ out.old.items ++ token_text (room_token sizes.now room)) }
 {
     if 1 <= room && room < sizes.rooms {
         return put_name(alloc, out, b'r', room);
@@ -32,7 +33,8 @@ pub fn put_room(alloc: Global, out: &mut Vec<u8>, sizes: &Sizes, room: u32) -> R
 
 /// Writes where an exit leads.
 pub fn put_exit(alloc: Global, out: &mut Vec<u8>, sizes: &Sizes, exit: i32) -> Result<(), Memory>
-    ensures { OnOk result (out.new.items ≡ out.old.items ++ token_text (exit_token sizes.now exit)) }
+    ensures { OnOk result
+        (out.new.items ≡ out.old.items ++ token_text (exit_token sizes.now exit)) }
 {
     if exit < 0 {
         return put_number(alloc, out, exit);
@@ -58,7 +60,8 @@ pub fn put_message(
 
 // Writes an item.
 fn put_item(alloc: Global, out: &mut Vec<u8>, sizes: &Sizes, item: u32) -> Result<(), Memory>
-    ensures { OnOk result (out.new.items ≡ out.old.items ++ token_text (item_token sizes.now item)) }
+    ensures { OnOk result
+        (out.new.items ≡ out.old.items ++ token_text (item_token sizes.now item)) }
 {
     if item < sizes.items {
         return put_name(alloc, out, b'i', item);

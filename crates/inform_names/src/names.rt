@@ -220,6 +220,14 @@ impl<'a> Names<'a> {
         }
     }
 
+    /// The word that a constant stands for, if any.
+    pub fn word_if_any(&self, constant: &Const) -> Option<i32>
+        ensures { result ≡ constant_word self.now.accepted.now.width
+            (names_of self.now.accepted.now) constant.now }
+    {
+        self.table.constant_word(self.accepted.width(), constant)
+    }
+
     /// The routine `main`, and the number of its directive.
     pub fn main(&self) -> (usize, &'a Routine)
         ensures meaning { names_of self.now.accepted.now main ≡ Some (record {

@@ -15,6 +15,8 @@ use Rattle.inform_tree.specs.Programs.{DirectiveTree}
 use Rattle.inform_names.specs.Meanings.{Known, word_of_meaning, meanings, name_of}
 use Rattle.inform_names.specs.Laws.{MeaningsAreOfDirectives, IsMeaningOf}
 use Rattle.inform_meaning.specs.Tables.{first_of_two, same_name, put_by, renewed}
+use Rattle.inform_meaning.specs.Worlds.{has_room, filled}
+use Rattle.inform_worlds.proofs.Tables.{map_get}
 use Rattle.inform_worlds.specs.Worlds.{kept_by, globals_of, outer_value, is_any_array, arrays_of}
 use Rattle.inform_names.specs.Places.{is_global}
 
@@ -147,12 +149,6 @@ keep_arrays known arrays name entries none = not-renewed is_any_array arrays ent
 
 -- ---- an entry that is stored
 
-map-get : {X Y : Type 0} (f : X → Y) (xs : List X) (i : ℕ) (x : X) → slice_get xs i ≡ Some x
-    → slice_get (map f xs) i ≡ Some (f x)
-map-get f [] i x is = ap (λ o. option_map f o) is
-map-get f (y ∷ xs) zero x is = ap (λ o. option_map f o) is
-map-get f (y ∷ xs) (suc i) x is = map-get f xs i x is
-
 module _ {X : Type 0} (f : X → List ℤ) (law : MeaningsAreOfDirectives) (width : Width) (program : List DirectiveTree) (arrays : List X) (name : List ℕ)
     (at : ℕ) (words : Bool) (means : meanings width program name ≡ Some (record { at = at; kind = k.Array words })) (within : at < length arrays) where
   -- the array of that number gets another entry, in the array that it was
@@ -165,4 +161,42 @@ module _ {X : Type 0} (f : X → List ℤ) (law : MeaningsAreOfDirectives) (widt
       ∙ put_array law width program (map f arrays) name at words (f new) means (omega (arith, within, length-map arrays f))
       ∙ ap (renewed (arrays_of (meanings width program) (map f arrays)) name)
       (changed ∙ ap (λ o. set (unwrap_or o []) i x)
-      (sym (kept_array law width program (map f arrays) name at words means ∙ map-get f arrays at old (slice_get-get_or arrays at old within ∙ ap Some (sym is)))))
+      (sym (kept_array law width program (map f arrays) name at words means ∙ map_get f arrays at ∙ ap (option_map f) (slice_get-get_or arrays at old within ∙ ap Some (sym is)))))
+
+-- ---- a line in its buffer
+
+-- the value that is there
+set-same : {X : Type 0} (xs : List X) (i : ℕ) (x : X) → slice_get xs i ≡ Some x → slice_set xs i x ≡ xs
+set-same [] i x is = refl
+set-same (y ∷ ys) zero x is = ap (λ o. unwrap_or o y ∷ ys) (sym is)
+set-same (y ∷ ys) (suc i) x is = ap (λ zs. y ∷ zs) (set-same ys i x is)
+
+module _ {X : Type 0} (f : X → List ℤ) (law : MeaningsAreOfDirectives) (width : Width) (program : List DirectiveTree) (arrays : List X) (name : List ℕ)
+    (at : ℕ) (words : Bool) (means : meanings width program name ≡ Some (record { at = at; kind = k.Array words })) (within : at < length arrays)
+    (old new : X) (there : old ≡ get_or arrays at old) where
+  abbrev known-arrays : List ℕ → Option (List ℤ)
+  known-arrays = arrays_of (meanings width program) (map f arrays)
+
+  abbrev buffer : List ℤ
+  buffer = unwrap_or (known-arrays name) []
+
+  at-place : slice_get (map f arrays) at ≡ Some (f old)
+  at-place = map_get f arrays at ∙ ap (option_map f) (slice_get-get_or arrays at old within ∙ ap Some (sym there))
+
+  buffer-is : buffer ≡ f old
+  buffer-is = ap (λ o. unwrap_or o []) (kept_array law width program (map f arrays) name at words means ∙ at-place)
+
+  -- the array of that number gets a line, if it has room
+  pub heard_line : (line : List ℕ) → (has_room (f old) ≡ true → f new ≡ filled (f old) line) → has_room buffer ≡ true
+      → arrays_of (meanings width program) (map f (slice_set arrays at new)) ≡ renewed known-arrays name (filled buffer line)
+  heard_line line changed room =
+      ap (arrays_of (meanings width program)) (map-set f arrays at new)
+      ∙ put_array law width program (map f arrays) name at words (f new) means (omega (arith, within, length-map arrays f))
+      ∙ ap (renewed known-arrays name) (changed (ap has_room (sym buffer-is) ∙ room) ∙ ap (λ entries. filled entries line) (sym buffer-is))
+
+  -- and else stays
+  pub kept_line : (has_room (f old) ≡ false → f new ≡ f old) → has_room buffer ≡ false
+      → arrays_of (meanings width program) (map f (slice_set arrays at new)) ≡ known-arrays
+  kept_line same no_room =
+      ap (arrays_of (meanings width program)) (map-set f arrays at new ∙ ap (slice_set (map f arrays) at) (same (ap has_room (sym buffer-is) ∙ no_room))
+      ∙ set-same (map f arrays) at (f old) at-place)

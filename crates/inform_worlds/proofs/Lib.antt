@@ -1,2 +1,3 @@
 pub mod Tables
 pub mod ByNumber
+pub mod Opening

@@ -1,6 +1,6 @@
 -- Tables of names and values, by the places of names.
 use Rattle.std.proofs.Common.{◌≡◌, ◌∙◌, arith, ℕ, zero, suc, ◌+◌, ◌≤◌, ℤ, pos, Bool, true, false, cond, List, [], ◌∷◌, ◌++◌, length, Option, Some, None, refl, sym, ap}
-use Rattle.std.specs.Prelude.{option_map, option_and_then, slice_get, if◌then◌else◌, replicate}
+use Rattle.std.specs.Prelude.{map, option_map, option_and_then, slice_get, if◌then◌else◌, replicate}
 use Rattle.std.specs.List.{position_from}
 use Rattle.std.proofs.lemmas.Option.{slice_get-get_or}
 use Rattle.std.specs.Prelude.{slice_index_or, slice_set, ◌<◌}
@@ -121,3 +121,11 @@ module _ (name : List ℕ) (names : List (List ℕ)) (vs : List ℤ) where
       → table_of names vs ≡ updated name x (table_of names vs)
   put_none x is =
       ap (λ o. table_of names (set_if_any o x vs)) (sym is) ∙ updated_place name x names vs
+
+-- ---- a list that is mapped
+
+pub map_get : {X Y : Type 0} (f : X → Y) (xs : List X) (i : ℕ)
+    → slice_get (map f xs) i ≡ option_map f (slice_get xs i)
+map_get f [] i = refl
+map_get f (x ∷ xs) zero = refl
+map_get f (x ∷ xs) (suc i) = map_get f xs i

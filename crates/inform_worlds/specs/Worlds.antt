@@ -1,17 +1,17 @@
 -- The world of a run as the meaning has it, where the globals and the arrays are kept by the
 -- numbers of their
 -- directives.
-use Rattle.std.specs.Prelude.{ℕ, ℤ, pos, Bool, true, false, if◌then◌else◌, List, slice_get, Option, Some, None, unwrap_or}
+use Rattle.std.specs.Prelude.{ℕ, ℤ, pos, Bool, true, false, if◌then◌else◌, List, slice_get, Option, Some, None, unwrap_or, map, []}
 use Rattle.inform_names.specs.declared.accepted.Accepted.{Accepted}
 use Rattle.inform_names.specs.declared.meanings.Kind.{Kind}
 use Rattle.inform_names.specs.declared.meanings.Kind.TheVariants as k
 use Rattle.inform_names.specs.declared.meanings.Meaning.{Meaning}
 use Rattle.inform_names.specs.Meanings.{Known, word_of_meaning}
 use Rattle.inform_names.specs.Places.{is_global}
-use Rattle.inform_names.specs.Views.{directives_of}
+use Rattle.inform_names.specs.Views.{directives_of, names_of}
 use Rattle.inform_meaning.specs.Tables.{first_of_two}
 use Rattle.inform_meaning.specs.Worlds as w
-use Rattle.inform_meaning.specs.Programs.{program_in, no_notes}
+use Rattle.inform_meaning.specs.Programs.{program_in, no_notes, global_in, array_in}
 
 -- the program of a run that notes nothing
 abbrev pub program_of : Accepted → w.Program
@@ -38,3 +38,13 @@ is_any_array (k.Routine locals) = false
 
 abbrev pub arrays_of : Known → List (List ℤ) → List ℕ → Option (List ℤ)
 arrays_of known arrays name = kept_by is_any_array arrays (known name)
+
+-- ---- at the beginning
+
+-- the word with which each directive's global begins; 0 for what is no global
+abbrev pub first_globals : Accepted → List ℤ
+first_globals a = map (λ d. unwrap_or (global_in a.width (names_of a) d) (pos 0)) (directives_of a)
+
+-- the entries with which each directive's array begins; none for what is no array
+abbrev pub first_arrays : Accepted → List (List ℤ)
+first_arrays a = map (λ d. unwrap_or (array_in a.width (names_of a) d) []) (directives_of a)

@@ -1,5 +1,6 @@
 //! The entries of one array.
-ghost use Rattle.std.specs.Prelude.{◌≡◌, unsigned_abs, set, map, pos, IfSome, length, ◌≤◌, ◌+◌};
+ghost use Rattle.std.specs.Prelude.{◌≡◌, ◌≤◌, ◌+◌, true, false, unsigned_abs, length, take, drop, ◌++◌, map, pos, set};
+ghost use Rattle.adv_io.specs.declared.lines.TheConstants.{LINE_LIMIT};
 ghost use Rattle.inform_meaning.specs.Worlds.{entry_at, kept, capacity, has_room, filled};
 
 /// An entry by its index, if the array has it.
@@ -32,13 +33,47 @@ pub fn put(entries: &mut Vec<i32>, index: i32, value: i32)
     }
 }
 
+// For how many bytes a line buffer has room: its first entry says so.
+fn capacity(entries: &[i32]) -> usize
+    ensures value { result ≡ capacity entries.now }
+    ensures few { result ≤ 2147483648 }
+{
+    match entries.get(0) {
+        Some(capacity) => capacity.unsigned_abs() as usize,
+        None => 0,
+    }
+}
+
 /// Whether a line buffer has room for as many bytes as its first entry says.
 pub fn has_room(entries: &[i32]) -> bool
     ensures { result ≡ has_room entries.now }
 {
-    let capacity = match entries.get(0) {
-        Some(capacity) => capacity.unsigned_abs() as usize,
-        None => 0,
-    };
-    capacity + 2 <= entries.len()
+    capacity(entries) + 2 <= entries.len()
+}
+
+// Each of these bytes in its entry, from the entry of this number on.
+fn put_bytes(entries: &mut Vec<i32>, from: usize, bytes: &[u8])
+    requires { from + length bytes.now ≤ length entries.old.items }
+    ensures { entries.new.items ≡ take from entries.old.items ++ map pos bytes.now
+        ++ drop (from + length bytes.now) entries.old.items }
+{
+    for (i, byte) in bytes.iter().enumerate() {
+        entries[from + i] = i32::from(*byte);
+    }
+}
+
+/// A line in its buffer, if that has room for as many bytes as its first entry says.
+pub fn fill(entries: &mut Vec<i32>, line: &[u8])
+    requires { length line.now ≤ LINE_LIMIT }
+    ensures room { has_room entries.old.items ≡ true
+        → entries.new.items ≡ filled entries.old.items line.now }
+    ensures no_room { has_room entries.old.items ≡ false
+        → entries.new.items ≡ entries.old.items }
+{
+    if !has_room(entries) {
+        return;
+    }
+    let count = line.len().min(capacity(entries));
+    entries[1] = count as i32;
+    put_bytes(entries, 2, &line[..count]);
 }

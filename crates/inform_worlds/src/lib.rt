@@ -3,6 +3,7 @@
 
 mod arguments;
 mod entries;
+mod openings;
 mod scopes;
 mod worlds;
 

@@ -17,7 +17,7 @@ pub struct Scope<'a> {
 }
 
 impl<'a> Scope<'a> {
-    ghost use Rattle.std.specs.Prelude.{◌≡◌, ◌<◌, ℕ, Some, None, IfSome, IfNone, option_map};
+    ghost use Rattle.std.specs.Prelude.{◌≡◌, ◌<◌, ℕ, [], Some, None, IfSome, IfNone, option_map};
     ghost use Rattle.std.specs.List.{position_from};
     ghost use Rattle.inform_meaning.specs.Tables.{same_name, found, updated};
     ghost use Rattle.inform_meaning.specs.Worlds as w;
@@ -39,6 +39,17 @@ impl<'a> Scope<'a> {
             directive,
             names: &routine.locals[..routine.locals.len().min(LOCALS)],
             locals,
+        }
+    }
+
+    /// The scope of a routine without locals.
+    pub fn bare(directive: usize) -> Scope<'a>
+        ensures { scope_of result ≡ record { directive = directive; locals = [] } }
+    {
+        Scope {
+            directive,
+            names: &[],
+            locals: [0; LOCALS],
         }
     }
 

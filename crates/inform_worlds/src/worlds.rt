@@ -1,9 +1,12 @@
 //! The globals, the arrays and the locals of a run.
-use crate::entries::{entry, has_room, kept, put};
+use crate::entries::{entry, fill, has_room, kept, put};
+use crate::openings::{first_arrays, first_globals};
 use crate::scopes::Scope;
+use adv_io::Memory;
 use inform_names::laws::meanings_are_of_directives;
-use inform_names::{Kind, Names};
+use inform_names::{Accepted, Kind, Names};
 use inform_tree::Name;
+use std::alloc::Global;
 
 /// The world of a run: the value of each global and the entries of each array, by the number of its
 /// directive, and the locals of the routine that runs.
@@ -16,17 +19,48 @@ pub struct World<'a> {
 }
 
 impl<'a> World<'a> {
-    ghost use Rattle.std.specs.Prelude.{◌≡◌, ◌<◌, Bool, pos, length, map, slice_get, unwrap_or, Some, None, IfSome, IfNone};
+    ghost use Rattle.std.specs.Prelude.{◌≡◌, ◌<◌, ◌≤◌, Bool, true, false, pos, length, map, slice_get, unwrap_or, Some, None, IfOk, IfSome, IfNone};
+    ghost use Rattle.adv_io.specs.declared.lines.TheConstants.{LINE_LIMIT};
     ghost use Rattle.inform_names.specs.declared.meanings.Kind.TheVariants as k;
     ghost use Rattle.inform_meaning.specs.Tables.{renewed};
-    ghost use Rattle.inform_names.specs.Views.{names_of};
+    ghost use Rattle.inform_names.specs.Views.{names_of, directives_of};
+    ghost use Rattle.inform_names.specs.Acceptance.{main};
     ghost use Rattle.inform_meaning.specs.Worlds.{value_of, assigned, entries_of, entry_at, stored, has_room, with_line};
+    ghost use Rattle.inform_meaning.specs.Programs.{opening_world, routine_named};
     ghost use Rattle.inform_worlds.specs.Worlds.{outer_value, globals_of, arrays_of};
     ghost use Rattle.inform_worlds.specs.Scopes.{scope_of};
     ghost use Rattle.inform_worlds.specs.Views.{world_of, program_seen};
 
+    /// The world with which a program opens, in `main`.
+    #[tactic(auto, using(crate::proofs::Opening::opening_globals, crate::proofs::Opening::opening_arrays))]
+    pub fn open(alloc: Global, accepted: &'a Accepted) -> Result<World<'a>, Memory>
+        ensures names { IfOk result (λ w. w.names.accepted.now ≡ accepted.now) }
+        ensures world { IfOk result (λ w. world_of w ≡ opening_world accepted.now.width
+            (directives_of accepted.now)
+            (routine_named accepted.now.width (directives_of accepted.now) main)) }
+    {
+        meanings_are_of_directives();
+        let names = Names::of(alloc, accepted)?;
+        let globals = first_globals(alloc, &names)?;
+        let arrays = first_arrays(alloc, &names)?;
+        let scope = Scope::bare(names.main().0);
+        Ok(World {
+            names,
+            globals,
+            arrays,
+            scope,
+        })
+    }
+
+    /// The names of the program that runs.
+    pub fn names(&self) -> &Names<'a>
+        ensures { result.now ≡ self.now.names }
+    {
+        &self.names
+    }
+
     // The value of the global that is the directive of this number.
-    fn global(&self, at: usize) -> i32
+    fn global_value(&self, at: usize) -> i32
         ensures { result ≡ unwrap_or (slice_get self.now.globals.items at) (pos 0) }
     {
         if at < self.globals.len() {
@@ -46,7 +80,7 @@ impl<'a> World<'a> {
             Some(meaning) => match meaning.kind {
                 Kind::Constant(Some(word)) => word,
                 Kind::Constant(None) => 0,
-                Kind::Global => self.global(meaning.at),
+                Kind::Global => self.global_value(meaning.at),
                 Kind::Array(_) => 0,
                 Kind::Routine(_) => 0,
             },
@@ -64,14 +98,14 @@ impl<'a> World<'a> {
     }
 
     // The number of the global of this name, if there is one.
-    fn global_at(&self, name: &Name) -> Option<usize>
+    fn global_at(&self, name: &[u8]) -> Option<usize>
         ensures means { IfSome result (λ at. names_of self.now.names.accepted.now name.now
             ≡ Some (record { at = at; kind = k.Global })) }
         ensures within { IfSome result (λ at. at < length self.now.globals.items) }
         ensures none { IfNone result (globals_of (names_of self.now.names.accepted.now)
             self.now.globals.items name.now ≡ None) }
     {
-        match self.names.find(name.bytes()) {
+        match self.names.find(name) {
             None => None,
             Some(meaning) => match meaning.kind {
                 Kind::Constant(_) => None,
@@ -98,7 +132,7 @@ impl<'a> World<'a> {
             name.now value }
     {
         meanings_are_of_directives();
-        match self.global_at(name) {
+        match self.global_at(name.bytes()) {
             Some(at) => self.globals[at] = value,
             None => {}
         }
@@ -116,14 +150,14 @@ impl<'a> World<'a> {
     }
 
     // The number of the array of this name, if there is one.
-    fn array_at(&self, name: &Name) -> Option<usize>
+    fn array_at(&self, name: &[u8]) -> Option<usize>
         ensures means { IfSome result (λ at. (words : Bool) × (names_of self.now.names.accepted.now name.now
             ≡ Some (record { at = at; kind = k.Array words }))) }
         ensures within { IfSome result (λ at. at < length self.now.arrays.items) }
         ensures none { IfNone result (arrays_of (names_of self.now.names.accepted.now)
             (map (λ entries. entries.items) self.now.arrays.items) name.now ≡ None) }
     {
-        match self.names.find(name.bytes()) {
+        match self.names.find(name) {
             None => None,
             Some(meaning) => match meaning.kind {
                 Kind::Constant(_) => None,
@@ -140,7 +174,7 @@ impl<'a> World<'a> {
     }
 
     /// The entries of an array; none where there is no array of this name.
-    fn entries(&self, name: &Name) -> &[i32]
+    fn entries(&self, name: &[u8]) -> &[i32]
         ensures { result.now ≡ entries_of name.now (world_of self.now) }
     {
         match self.array_at(name) {
@@ -153,7 +187,7 @@ impl<'a> World<'a> {
     pub fn entry(&self, name: &Name, index: i32) -> Option<i32>
         ensures { result ≡ entry_at (entries_of name.now (world_of self.now)) index }
     {
-        entry(self.entries(name), index)
+        entry(self.entries(name.bytes()), index)
     }
 
     /// Another value of an entry of an array, if there are such an array and such an entry.
@@ -163,7 +197,7 @@ impl<'a> World<'a> {
         ensures world { world_of self.new ≡ stored name.now words index value (world_of self.old) }
     {
         meanings_are_of_directives();
-        match self.array_at(name) {
+        match self.array_at(name.bytes()) {
             Some(at) => put(&mut self.arrays[at], index, kept(words, value)),
             None => {}
         }
@@ -173,7 +207,41 @@ impl<'a> World<'a> {
     pub fn has_room(&self, name: &Name) -> bool
         ensures { result ≡ has_room (entries_of name.now (world_of self.now)) }
     {
-        has_room(self.entries(name))
+        has_room(self.entries(name.bytes()))
+    }
+
+    /// The value of the global of this name, if there is one.
+    pub fn global(&self, name: &[u8]) -> Option<i32>
+        ensures { result ≡ (world_of self.now).globals name.now }
+    {
+        match self.global_at(name) {
+            Some(at) => Some(self.globals[at]),
+            None => None,
+        }
+    }
+
+    /// An entry of the array of this name, if there are such an array and such an entry.
+    pub fn entry_at(&self, name: &[u8], index: u32) -> Option<i32>
+        ensures { result ≡ slice_get (entries_of name.now (world_of self.now)) index }
+    {
+        self.entries(name).get(index as usize).copied()
+    }
+
+    /// A line in its buffer, if there is one of this name and it has room.
+    #[tactic(auto, using(crate::proofs::ByNumber::put_array, crate::proofs::ByNumber::kept_array, crate::proofs::ByNumber::keep_arrays))]
+    pub fn hear(&mut self, name: &Name, line: &[u8])
+        requires { length line.now ≤ LINE_LIMIT }
+        ensures names { self.new.names ≡ self.old.names }
+        ensures room { has_room (entries_of name.now (world_of self.old)) ≡ true
+            → world_of self.new ≡ with_line name.now line.now (world_of self.old) }
+        ensures no_room { has_room (entries_of name.now (world_of self.old)) ≡ false
+            → world_of self.new ≡ world_of self.old }
+    {
+        meanings_are_of_directives();
+        match self.array_at(name.bytes()) {
+            Some(at) => fill(&mut self.arrays[at], line),
+            None => {}
+        }
     }
 
     /// The routine that runs, and its locals.

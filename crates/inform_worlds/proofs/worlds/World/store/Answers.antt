@@ -13,7 +13,7 @@ pub returns-in-Some-clause-world : goal.returns-in-Some-clause-world
 returns-in-Some-clause-world c =
     ap (λ arrays. record { globals = globals_of (names_of c.args.self.now.names.accepted.now) c.args.self.now.globals.items; arrays = arrays; scope = scope_of c.args.self.now.scope })
     (stored_entry (λ entries. entries.items) c.meanings_are_of_directives.ensures c.args.self.now.names.accepted.now.width (directives_of c.args.self.now.names.accepted.now)
-    c.args.self.now.arrays.items c.args.name.now c.in-Some.at c.in-Some.ensures.means.0 c.in-Some.ensures.means.1 c.in-Some.ensures.within
+    c.args.self.now.arrays.items c.args.name.now c.in-Some.at c.in-Some.ensures.means.0 (rw c.bytes.ensures at c.in-Some.ensures.means.1) c.in-Some.ensures.within
     c.index_mut.result.now c.put.new.entries (nat_abs c.args.index) (kept c.args.words c.args.value) c.index_mut.ensures.value
     (c.put.ensures
     ∙ ap (λ i. slice_set c.index_mut.result.now.items (nat_abs i) (to_z w32 (of_z w32 c.kept.result))) (to_z-of_z w32 c.args.index c.ranges.index)

@@ -1,0 +1,10 @@
+use Rattle.std.proofs.Common.{◌≡◌, map, pos, take, unwrap_or}
+use Rattle.inform_tree.specs.Programs.{directive_of}
+use Rattle.inform_names.specs.Views.{names_of}
+use Rattle.inform_meaning.specs.Programs.{global_in}
+use Rattle.inform_worlds.proofs.openings.first_globals.Given as goal
+
+abbrev pub invariant-loop-directive : goal.invariant-loop-directive
+invariant-loop-directive l =
+    (l.directive-items ≡ l.names.accepted.now.program.directives.items)
+    × (l.globals.items ≡ map (λ x. unwrap_or (global_in l.names.accepted.now.width (names_of l.names.accepted.now) (directive_of x)) (pos 0)) (take l.directive-index l.directive-items))
