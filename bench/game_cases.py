@@ -214,6 +214,20 @@ class Games(Made):
         return b"".join(t + r.choice((b" ", b"\n", b"\t", b"\r\n", b"\x0b\x0c ")) for t in texts)
 
 
+class Styles(Games):
+    """Random small games, played in the eight styles in turn."""
+
+    name = "styles"
+    STYLES = ("", "y", "c", "v", "yc", "yv", "cv", "ycv")
+
+    def played(self, r, m, d, i):
+        style = self.STYLES[i % len(self.STYLES)]
+        words, files, stdin = super().played(r, m, d, i)
+        if style:
+            words.insert(r.randint(2, len(words)), "style=" + style)
+        return words, files, stdin
+
+
 class Lines(Made):
     """Games of many lines, one command each: conditions and opcodes in every state.
 

@@ -2,7 +2,7 @@
 use crate::games::game;
 use adv_io::MemoryConsole;
 use scott_actions::{Ran, perform};
-use scott_types::State;
+use scott_types::{State, Style};
 use std::test::Fail;
 
 const HEADER: &[u8] = b"0 1 0 0 0 1 0 0 3 -1 1 0\n0 ";
@@ -42,7 +42,10 @@ fn actions_do_their_opcodes(rt: HostRuntime) -> Result<(), Fail> {
         let db = game(alloc, &[HEADER, action, LISTS])?;
         let mut state = State::start(&db);
         let mut console = MemoryConsole::new(alloc, Vec::new(alloc), Vec::new(alloc), 500)?;
-        assert_eq!(rt; perform(&db, &mut state, 0, b"go", &mut console), Ok(ran));
+        assert_eq!(rt;
+            perform(&db, Style::plain(), &mut state, 0, b"go", &mut console),
+            Ok(ran)
+        );
         assert_eq!(rt; console.said(), said.as_bytes());
     }
     Ok(())
@@ -55,7 +58,7 @@ fn refused_get_leaves_its_parameter(rt: HostRuntime) -> Result<(), Fail> {
     let mut state = State::start(&db);
     state.redraw = false;
     let mut console = MemoryConsole::new(alloc, Vec::new(alloc), Vec::new(alloc), 500)?;
-    let answer = perform(&db, &mut state, 0, b"", &mut console);
+    let answer = perform(&db, Style::plain(), &mut state, 0, b"", &mut console);
     assert_eq!(rt; answer, Ok(Ran::Passed(false)));
     assert_eq!(rt; console.said(), b"I've too much to carry! ".as_slice());
     assert_eq!(rt; state.places.as_slice(), [0, 255].as_slice());

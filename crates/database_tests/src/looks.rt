@@ -3,7 +3,7 @@ use crate::games::game;
 use adv_io::{ConsoleFault, Memory, MemoryConsole};
 use itoa::Buffer;
 use scott_light::{count_light, inventory, look, look_after, score};
-use scott_types::{Db, State};
+use scott_types::{Db, State, Style};
 use std::alloc::{AllocError, Global};
 use std::process::Abort;
 use std::test::Fail;
@@ -56,7 +56,7 @@ fn looks_are_said(rt: HostRuntime) -> Result<(), Fail> {
         state.room = room;
         state.flags[15] = dark;
         assert!(rt; state.fits(&db));
-        assert_eq!(rt; look(&db, &state, &mut console), Ok(()));
+        assert_eq!(rt; look(&db, Style::plain(), &state, &mut console), Ok(()));
         expect_said(&rt, &console, said);
     }
     Ok(())
@@ -75,7 +75,10 @@ fn a_text_is_said_before_a_look(rt: HostRuntime) -> Result<(), Fail> {
         state.room = 2;
         state.flags[15] = dark;
         assert!(rt; state.fits(&db));
-        assert_eq!(rt; look_after(b"Woe! ", &db, &state, &mut console), Ok(()));
+        assert_eq!(rt;
+            look_after(b"Woe! ", &db, Style::plain(), &state, &mut console),
+            Ok(())
+        );
         expect_said(&rt, &console, said);
     }
     Ok(())
@@ -127,7 +130,10 @@ fn all_items_of_a_room_are_said(rt: HostRuntime) -> Result<(), Fail> {
     for count in [1, 3, 255] {
         let db = crowded(alloc, count)?;
         let mut console = MemoryConsole::new(alloc, Vec::new(alloc), Vec::new(alloc), 20_000)?;
-        assert_eq!(rt; look(&db, &State::start(&db), &mut console), Ok(()));
+        assert_eq!(rt;
+            look(&db, Style::plain(), &State::start(&db), &mut console),
+            Ok(())
+        );
         assert_eq!(rt; console.said(), things_seen(alloc, count)?.as_slice());
     }
     Ok(())
@@ -140,7 +146,10 @@ fn long_looks_alone_take_several_calls(rt: HostRuntime) -> Result<(), Fail> {
         let db = crowded(alloc, count)?;
         let failing = vec![in alloc; 2]?;
         let mut console = MemoryConsole::new(alloc, Vec::new(alloc), failing, 20_000)?;
-        assert_eq!(rt; look(&db, &State::start(&db), &mut console), answer);
+        assert_eq!(rt;
+            look(&db, Style::plain(), &State::start(&db), &mut console),
+            answer
+        );
     }
     Ok(())
 }
@@ -150,7 +159,10 @@ fn what_is_carried_is_said(rt: HostRuntime) -> Result<(), Fail> {
     let alloc = rt.alloc();
     let db = hall(alloc, (b"-1", b"0"))?;
     let mut console = console(alloc)?;
-    assert_eq!(rt; inventory(&db, &State::start(&db), &mut console), Ok(()));
+    assert_eq!(rt;
+        inventory(&db, Style::plain(), &State::start(&db), &mut console),
+        Ok(())
+    );
     expect_said(&rt, &console, "I'm carrying:\nPin - Bug.\n");
     Ok(())
 }
@@ -172,7 +184,10 @@ fn scores_are_said(rt: HostRuntime) -> Result<(), Fail> {
     ] {
         let db = hall(alloc, (b"-1", home))?;
         let mut console = console(alloc)?;
-        assert_eq!(rt; score(&db, &State::start(&db), &mut console), Ok(all));
+        assert_eq!(rt;
+            score(&db, Style::plain(), &State::start(&db), &mut console),
+            Ok(all)
+        );
         expect_said(&rt, &console, said);
     }
     Ok(())
@@ -190,10 +205,66 @@ fn light_burns_down(rt: HostRuntime) -> Result<(), Fail> {
         let db = hall(alloc, (light, b"0"))?;
         let mut state = State::start(&db);
         let mut console = console(alloc)?;
-        assert_eq!(rt; count_light(&db, &mut state, &mut console), Ok(()));
+        assert_eq!(rt;
+            count_light(&db, Style::plain(), &mut state, &mut console),
+            Ok(())
+        );
         expect_said(&rt, &console, said);
         assert_eq!(rt; state.light, left, "to {left}");
         assert_eq!(rt; state.flags[16], out, "to {left}");
+    }
+    Ok(())
+}
+
+// The texts of the second person, each where it is said.
+#[test]
+fn players_are_spoken_to(rt: HostRuntime) -> Result<(), Fail> {
+    let alloc = rt.alloc();
+    let db = hall(alloc, (b"-1", b"0"))?;
+    let you = Style {
+        you: true,
+        counted: false,
+        vanish: false,
+    };
+    let state = State::start(&db);
+    let mut console = console(alloc)?;
+    assert_eq!(rt; look(&db, you, &state, &mut console), Ok(()));
+    assert_eq!(rt; inventory(&db, you, &state, &mut console), Ok(()));
+    assert_eq!(rt; score(&db, you, &state, &mut console), Ok(false));
+    expect_said(
+        &rt,
+        &console,
+        "You are in a hall\nObvious exits: South, Up.\n\nYou can also see: *Gold bar* - Lamp\n\
+         You are carrying:\nPin - Bug.\n\
+         You have stored 0 treasures.  On a scale of 0 to 100, that rates 0.\n",
+    );
+    Ok(())
+}
+
+#[test]
+fn turns_of_a_light_are_counted(rt: HostRuntime) -> Result<(), Fail> {
+    let alloc = rt.alloc();
+    for (light, vanish, place, said) in [
+        (b"26".as_slice(), true, 1, ""),
+        (b"25", true, 1, "Your light runs out in 24 turns. "),
+        (b"21", false, 1, "Your light runs out in 20 turns. "),
+        (b"2", true, 1, "Your light runs out in 1 turns. "),
+        (b"1", false, 1, "Your light has run out. "),
+        (b"1", true, 0, "Your light has run out. "),
+    ] {
+        let db = hall(alloc, (light, b"0"))?;
+        let mut state = State::start(&db);
+        state.redraw = false;
+        let mut console = console(alloc)?;
+        let style = Style {
+            you: false,
+            counted: true,
+            vanish,
+        };
+        assert_eq!(rt; count_light(&db, style, &mut state, &mut console), Ok(()));
+        expect_said(&rt, &console, said);
+        assert_eq!(rt; state.places.as_slice()[9], place);
+        assert!(rt; !state.redraw);
     }
     Ok(())
 }

@@ -7,21 +7,21 @@ use Rattle.adv_io.specs.Console.{ConsoleView, Speaks}
 use Rattle.adv_io.proofs.Histories.{says-append}
 use Rattle.adv_io.proofs.Sayings.{cause_fails, speaks_then, speaks_stop}
 use Rattle.scott_types.specs.declared.states.State.{State}
-use Rattle.scott_types.specs.Database.{Database}
+use Rattle.scott_types.specs.Style.{Game}
 use Rattle.scott_types.specs.Opcode.{opcode_of}
 use Rattle.adv_io.specs.Steps.{Traced}
 use Rattle.scott_rules.specs.Outcomes.{Outcome, and_then, then_if_on}
 use Rattle.scott_rules.specs.Opcodes.{op, takes, run_opcodes}
 
 -- a run of opcodes is its first opcode, and the others after it
-pub run_opcodes-first : (db : Database) (noun opcodes params : List ℕ) (s : State) → 1 ≤ length opcodes
-    → run_opcodes db noun (map opcode_of opcodes) params s
-    ≡ and_then (op db noun (opcode_of (get_or opcodes 0 0)) params s)
-    (run_opcodes db noun (map opcode_of (take (length opcodes - 1) (drop 1 opcodes))) (drop (takes db s (opcode_of (get_or opcodes 0 0))) params))
-run_opcodes-first db noun [] params s h = absurd (omega arith)
-run_opcodes-first db noun (number ∷ others) params s h =
+pub run_opcodes-first : (game : Game) (noun opcodes params : List ℕ) (s : State) → 1 ≤ length opcodes
+    → run_opcodes game noun (map opcode_of opcodes) params s
+    ≡ and_then (op game noun (opcode_of (get_or opcodes 0 0)) params s)
+    (run_opcodes game noun (map opcode_of (take (length opcodes - 1) (drop 1 opcodes))) (drop (takes game.db s (opcode_of (get_or opcodes 0 0))) params))
+run_opcodes-first game noun [] params s h = absurd (omega arith)
+run_opcodes-first game noun (number ∷ others) params s h =
     let all : take (length (number ∷ others) - 1) others ≡ others = take_all (length (number ∷ others) - 1) others (omega arith) in
-    ap (λ ns. and_then (op db noun (opcode_of number) params s) (run_opcodes db noun (map opcode_of ns) (drop (takes db s (opcode_of number)) params))) (sym all)
+    ap (λ ns. and_then (op game noun (opcode_of number) params s) (run_opcodes game noun (map opcode_of ns) (drop (takes game.db s (opcode_of number)) params))) (sym all)
 
 -- a part that failed, whatever was to come after it
 pub part_stop : {T U D E : Type 0} {old new : ConsoleView} {d : D} (e : E) (over : Option ℕ) (t : Traced ℕ Outcome) (next : State → Traced ℕ Outcome)

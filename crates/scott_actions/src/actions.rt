@@ -5,6 +5,7 @@ ghost use Rattle.adv_io.specs.History.{says};
 ghost use Rattle.adv_io.specs.Console.{Speaks};
 ghost use Rattle.scott_types.specs.Opcode.{opcode_of};
 ghost use Rattle.scott_types.specs.State.{Fits};
+ghost use Rattle.scott_types.specs.Style.{in_style};
 ghost use Rattle.std.specs.List.{list_any};
 ghost use Rattle.scott_types.specs.Action.{opcode_numbers, parameters};
 ghost use Rattle.scott_rules.specs.Opcodes.{op, takes, run_opcodes};
@@ -15,7 +16,7 @@ use crate::effects::{do_opcode, takes};
 use adv_io::{Console, ConsoleFault};
 use scott_types::action_lines::{opcode_numbers, parameters};
 use scott_types::verbs::MORE;
-use scott_types::{Action, Db, Opcode, Ran, State};
+use scott_types::{Action, Db, Opcode, Ran, State, Style};
 
 // The parameter at a place, or 0 past the last one.
 fn parameter(parameters: &[u32], i: usize) -> u32
@@ -42,6 +43,7 @@ fn after(parameters: &[u32], taken: usize) -> &[u32]
 // Does an opcode with the next of the parameters.
 fn step<C: Console>(
     db: &Db,
+    style: Style,
     state: &mut State,
     noun: &[u8],
     opcode: Opcode,
@@ -50,14 +52,16 @@ fn step<C: Console>(
 ) -> Result<Option<u8>, ConsoleFault>
     requires { Fits db.now state.old }
     ensures spoken { Speaks (C.seen console.old) (C.seen console.new) result
-        (says (op db.now noun.now opcode parameters.now state.old).events) }
-    ensures state { state.new ≡ (op db.now noun.now opcode parameters.now state.old).value.state }
+        (says (op (in_style style db.now) noun.now opcode parameters.now state.old).events) }
+    ensures state { state.new
+        ≡ (op (in_style style db.now) noun.now opcode parameters.now state.old).value.state }
     ensures over { IfOk result
-        (λ over. over ≡ (op db.now noun.now opcode parameters.now state.old).value.over) }
+        (λ over. over
+        ≡ (op (in_style style db.now) noun.now opcode parameters.now state.old).value.over) }
     ensures fits { Fits db.now state.new }
 {
     let (p, q) = (parameter(parameters, 0), parameter(parameters, 1));
-    do_opcode(db, state, noun, opcode, p, q, console)
+    do_opcode(db, style, state, noun, opcode, p, q, console)
 }
 
 // The parameters that an opcode leaves.
@@ -70,6 +74,7 @@ fn left_by<'a>(db: &Db, state: &State, opcode: Opcode, parameters: &'a [u32]) ->
 // Does opcodes in order, each with the parameters that those before it left, until the game is over.
 fn run_opcodes<C: Console>(
     db: &Db,
+    style: Style,
     state: &mut State,
     noun: &[u8],
     opcodes: &[u32],
@@ -78,13 +83,13 @@ fn run_opcodes<C: Console>(
 ) -> Result<Option<u8>, ConsoleFault>
     requires { Fits db.now state.old }
     ensures spoken { Speaks (C.seen console.old) (C.seen console.new) result
-        (says (run_opcodes db.now noun.now
+        (says (run_opcodes (in_style style db.now) noun.now
         (map opcode_of opcodes.now) parameters.now state.old).events) }
     ensures state { OnOk result
-        (state.new ≡ (run_opcodes db.now noun.now
+        (state.new ≡ (run_opcodes (in_style style db.now) noun.now
         (map opcode_of opcodes.now) parameters.now state.old).value.state) }
     ensures over { IfOk result
-        (λ over. over ≡ (run_opcodes db.now noun.now
+        (λ over. over ≡ (run_opcodes (in_style style db.now) noun.now
         (map opcode_of opcodes.now) parameters.now state.old).value.over) }
     ensures fits { Fits db.now state.new }
 {
@@ -93,8 +98,8 @@ fn run_opcodes<C: Console>(
         [number, others @ ..] => {
             let opcode = Opcode::of(*number);
             let rest = left_by(db, state, opcode, parameters);
-            match step(db, state, noun, opcode, parameters, console) {
-                Ok(None) => run_opcodes(db, state, noun, others, rest, console),
+            match step(db, style, state, noun, opcode, parameters, console) {
+                Ok(None) => run_opcodes(db, style, state, noun, others, rest, console),
                 Ok(Some(ending)) => Ok(Some(ending)),
                 Err(fault) => Err(fault),
             }
@@ -122,6 +127,7 @@ fn ran_of(over: Option<u8>, more: bool) -> Ran
 // Does the opcodes of a line that passes.
 fn run<C: Console>(
     db: &Db,
+    style: Style,
     state: &mut State,
     noun: &[u8],
     action: &Action,
@@ -129,16 +135,25 @@ fn run<C: Console>(
 ) -> Result<Ran, ConsoleFault>
     requires { Fits db.now state.old }
     ensures spoken { Speaks (C.seen console.old) (C.seen console.new) result
-        (says (performed true db.now noun.now action.now state.old).events) }
+        (says (performed true (in_style style db.now) noun.now action.now state.old).events) }
     ensures state { OnOk result (state.new
-        ≡ (performed true db.now noun.now action.now state.old).value.state) }
+        ≡ (performed true (in_style style db.now) noun.now action.now state.old).value.state) }
     ensures ran { IfOk result
-        (λ ran. ran ≡ (performed true db.now noun.now action.now state.old).value.ran) }
+        (λ ran. ran
+        ≡ (performed true (in_style style db.now) noun.now action.now state.old).value.ran) }
     ensures fits { Fits db.now state.new }
 {
     let numbers = opcode_numbers(action);
     let parameters = parameters(action);
-    let over = run_opcodes(db, state, noun, &numbers, parameters.as_slice(), console)?;
+    let over = run_opcodes(
+        db,
+        style,
+        state,
+        noun,
+        &numbers,
+        parameters.as_slice(),
+        console,
+    )?;
     Ok(ran_of(over, goes_on(&numbers)))
 }
 
@@ -157,6 +172,7 @@ fn leave<C: Console>(console: &mut C) -> Result<Ran, ConsoleFault>
 /// rules.
 pub fn perform<C: Console>(
     db: &Db,
+    style: Style,
     state: &mut State,
     line: u16,
     noun: &[u8],
@@ -165,16 +181,17 @@ pub fn perform<C: Console>(
     requires fits { Fits db.now state.old }
     requires there { line < length db.now.actions }
     ensures spoken { Speaks (C.seen console.old) (C.seen console.new) result
-        (says (action_result db.now noun.now line state.old).events) }
+        (says (action_result (in_style style db.now) noun.now line state.old).events) }
     ensures state { OnOk result (state.new
-        ≡ (action_result db.now noun.now line state.old).value.state) }
+        ≡ (action_result (in_style style db.now) noun.now line state.old).value.state) }
     ensures ran { IfOk result
-        (λ ran. ran ≡ (action_result db.now noun.now line state.old).value.ran) }
+        (λ ran. ran
+        ≡ (action_result (in_style style db.now) noun.now line state.old).value.ran) }
     ensures fits { Fits db.now state.new }
 {
     let action = &db.actions()[line as usize];
     if passes(db, state, action) {
-        run(db, state, noun, action, console)
+        run(db, style, state, noun, action, console)
     } else {
         leave(console)
     }

@@ -4,8 +4,10 @@ ghost use Rattle.adv_io.specs.History.{says};
 ghost use Rattle.adv_io.specs.Console.{Speaks};
 ghost use Rattle.scott_types.specs.declared.opcodes.Opcode.TheVariants.{Get};
 ghost use Rattle.scott_types.specs.State.{Fits};
+ghost use Rattle.scott_types.specs.Style.{in_style};
 ghost use Rattle.scott_rules.specs.Opcodes.{is_full, changed, opcode_text, ending, opcode_effect, takes};
 ghost use Rattle.scott_types.specs.declared.states.State.{State as AnyState};
+ghost use Rattle.scott_types.specs.declared.styles.Style.{Style as AnyStyle};
 
 use crate::counters::change_counter;
 use crate::flags::change_flag;
@@ -16,7 +18,7 @@ use adv_io::{Console, ConsoleFault};
 use scott_light::are_all_stored;
 use scott_rules::laws::opcode_fits;
 use scott_types::places::CARRIED;
-use scott_types::{Db, Opcode, State};
+use scott_types::{Db, Opcode, State, Style};
 
 // An item is carried, unless the hands are full.
 fn get(db: &Db, state: &mut State, item: u32)
@@ -75,8 +77,9 @@ fn ending(db: &Db, state: &State, opcode: Opcode) -> Option<u8>
 
 // Whether the hands are full, where that matters to what an opcode says: they are counted for a get alone.
 fn are_hands_full(db: &Db, state: &State, opcode: Opcode) -> bool
-    ensures { (noun : List ℕ) (after : AnyState) → opcode_text db.now noun opcode result after
-        ≡ opcode_text db.now noun opcode (is_full db.now state.now) after }
+    ensures { (style : AnyStyle) (noun : List ℕ) (after : AnyState)
+        → opcode_text (in_style style db.now) noun opcode result after
+        ≡ opcode_text (in_style style db.now) noun opcode (is_full db.now state.now) after }
 {
     match opcode {
         Opcode::Get => is_full(db, state),
@@ -102,6 +105,7 @@ fn are_hands_full(db: &Db, state: &State, opcode: Opcode) -> bool
 /// The console's fault alone is a refusal. docs/TURN.md has the table.
 pub fn do_opcode<C: Console>(
     db: &Db,
+    style: Style,
     state: &mut State,
     noun: &[u8],
     opcode: Opcode,
@@ -111,15 +115,17 @@ pub fn do_opcode<C: Console>(
 ) -> Result<Option<u8>, ConsoleFault>
     requires { Fits db.now state.old }
     ensures spoken { Speaks (C.seen console.old) (C.seen console.new) result
-        (says (opcode_effect db.now noun.now opcode p q state.old).events) }
-    ensures state { state.new ≡ (opcode_effect db.now noun.now opcode p q state.old).value.state }
+        (says (opcode_effect (in_style style db.now) noun.now opcode p q state.old).events) }
+    ensures state { state.new
+        ≡ (opcode_effect (in_style style db.now) noun.now opcode p q state.old).value.state }
     ensures over { IfOk result
-        (λ over. over ≡ (opcode_effect db.now noun.now opcode p q state.old).value.over) }
+        (λ over. over
+        ≡ (opcode_effect (in_style style db.now) noun.now opcode p q state.old).value.over) }
     ensures fits { Fits db.now state.new }
 {
     let full = are_hands_full(db, state, opcode);
     change_fitting(db, state, opcode, p, q);
-    say_opcode_text(db, state, noun, opcode, full, console)?;
+    say_opcode_text(db, style, state, noun, opcode, full, console)?;
     Ok(ending(db, state, opcode))
 }
 

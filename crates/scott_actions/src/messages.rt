@@ -2,17 +2,18 @@
 ghost use Rattle.std.specs.Prelude.{◌≡◌, ◌<◌, ◌++◌, [], if◌then◌else◌};
 ghost use Rattle.std.specs.Fmt.{signed_decimal};
 ghost use Rattle.scott_types.specs.declared.phrases.Phrase.TheVariants.{Newline, Dead, TooMuch};
-ghost use Rattle.scott_types.specs.Phrase.{text_of};
+ghost use Rattle.scott_types.specs.Phrase.{text_of, text_in};
 ghost use Rattle.adv_io.specs.History.{says};
 ghost use Rattle.adv_io.specs.Console.{Speaks};
 ghost use Rattle.scott_types.specs.State.{Fits};
+ghost use Rattle.scott_types.specs.Style.{in_style};
 ghost use Rattle.scott_rules.specs.Opcodes.{said_message, talk, opcode_text};
 ghost use Rattle.scott_rules.specs.Looking.{looked, scored};
 
 use adv_io::{Console, ConsoleFault, say_both};
 use itoa::Buffer;
 use scott_light::{inventory, look, look_after, score};
-use scott_types::{Db, Opcode, Phrase, State, TalkOp};
+use scott_types::{Db, Opcode, Phrase, State, Style, TalkOp};
 
 // Says a text and the end of its line.
 fn say_line<C: Console>(text: &[u8], console: &mut C) -> Result<(), ConsoleFault>
@@ -53,6 +54,7 @@ fn say_number<C: Console>(number: i16, console: &mut C) -> Result<(), ConsoleFau
 // An opcode that only says something.
 fn talk<C: Console>(
     db: &Db,
+    style: Style,
     state: &State,
     noun: &[u8],
     op: TalkOp,
@@ -60,11 +62,11 @@ fn talk<C: Console>(
 ) -> Result<(), ConsoleFault>
     requires { Fits db.now state.now }
     ensures { Speaks (C.seen console.old) (C.seen console.new) result
-        (says (talk db.now noun.now op state.now)) }
+        (says (talk (in_style style db.now) noun.now op state.now)) }
 {
     match op {
-        TalkOp::Look => look(db, state, console),
-        TalkOp::Inventory => inventory(db, state, console),
+        TalkOp::Look => look(db, style, state, console),
+        TalkOp::Inventory => inventory(db, style, state, console),
         TalkOp::Save => console.say(Phrase::NoSaving.text()),
         TalkOp::ShowCounter => say_number(state.counter, console),
         TalkOp::Noun => console.say(noun),
@@ -74,31 +76,41 @@ fn talk<C: Console>(
 }
 
 // The last words, and a look from where the dead wake.
-fn say_death<C: Console>(db: &Db, state: &State, console: &mut C) -> Result<(), ConsoleFault>
+fn say_death<C: Console>(
+    db: &Db,
+    style: Style,
+    state: &State,
+    console: &mut C,
+) -> Result<(), ConsoleFault>
     requires { Fits db.now state.now }
     ensures { Speaks (C.seen console.old) (C.seen console.new) result
-        (says (text_of Dead ++ looked db.now state.now)) }
+        (says (text_in style Dead ++ looked (in_style style db.now) state.now)) }
 {
-    look_after(Phrase::Dead.text(), db, state, console)
+    look_after(Phrase::Dead.text_in(style), db, style, state, console)
 }
 
 // The score, whatever it is.
-fn say_score<C: Console>(db: &Db, state: &State, console: &mut C) -> Result<(), ConsoleFault>
+fn say_score<C: Console>(
+    db: &Db,
+    style: Style,
+    state: &State,
+    console: &mut C,
+) -> Result<(), ConsoleFault>
     requires { Fits db.now state.now }
     ensures { Speaks (C.seen console.old) (C.seen console.new) result
-        (says (scored db.now state.now)) }
+        (says (scored (in_style style db.now) state.now)) }
 {
-    let _all = score(db, state, console)?;
+    let _all = score(db, style, state, console)?;
     Ok(())
 }
 
 // A refusal where the hands are full, and nothing otherwise.
-fn say_refusal<C: Console>(full: bool, console: &mut C) -> Result<(), ConsoleFault>
+fn say_refusal<C: Console>(full: bool, style: Style, console: &mut C) -> Result<(), ConsoleFault>
     ensures { Speaks (C.seen console.old) (C.seen console.new) result
-        (says (if full then text_of TooMuch else [])) }
+        (says (if full then text_in style TooMuch else [])) }
 {
     if full {
-        console.say(Phrase::TooMuch.text())
+        console.say(Phrase::TooMuch.text_in(style))
     } else {
         say_nothing(console)
     }
@@ -108,6 +120,7 @@ fn say_refusal<C: Console>(full: bool, console: &mut C) -> Result<(), ConsoleFau
 /// before it.
 pub fn say_opcode_text<C: Console>(
     db: &Db,
+    style: Style,
     state: &State,
     noun: &[u8],
     opcode: Opcode,
@@ -116,14 +129,14 @@ pub fn say_opcode_text<C: Console>(
 ) -> Result<(), ConsoleFault>
     requires { Fits db.now state.now }
     ensures { Speaks (C.seen console.old) (C.seen console.new) result
-        (says (opcode_text db.now noun.now opcode full state.now)) }
+        (says (opcode_text (in_style style db.now) noun.now opcode full state.now)) }
 {
     match opcode {
         Opcode::Say(message) => say_message(db, message, console),
-        Opcode::Get => say_refusal(full, console),
-        Opcode::Talk(op) => talk(db, state, noun, op, console),
-        Opcode::Score => say_score(db, state, console),
-        Opcode::Die => say_death(db, state, console),
+        Opcode::Get => say_refusal(full, style, console),
+        Opcode::Talk(op) => talk(db, style, state, noun, op, console),
+        Opcode::Score => say_score(db, style, state, console),
+        Opcode::Die => say_death(db, style, state, console),
         Opcode::Finish => console.say(Phrase::GameOver.text()),
         _ => say_nothing(console),
     }

@@ -3,12 +3,13 @@ ghost use Rattle.std.specs.Prelude.{◌≡◌, ◌≤◌, ◌++◌, IfOk, length
 ghost use Rattle.adv_io.specs.History.{says};
 ghost use Rattle.adv_io.specs.Console.{Speaks};
 ghost use Rattle.scott_types.specs.State.{Fits};
+ghost use Rattle.scott_types.specs.Style.{in_style};
 ghost use Rattle.scott_rules.specs.Looking.{is_stored, count_stored, stored_count, rate, is_full_score, all_stored, praise, score_around, score_text, scored};
 
 use crate::pages::Page;
 use adv_io::{Console, ConsoleFault};
 use itoa::Buffer;
-use scott_types::{Db, Item, Phrase, State, is_treasure};
+use scott_types::{Db, Item, Phrase, State, Style, is_treasure};
 
 fn is_stored(home: i32, item: &Item, place: u8) -> bool
     ensures { result ≡ is_stored home item.now place }
@@ -61,11 +62,17 @@ fn add_praise(page: &mut Page, full: bool)
 }
 
 // The texts of a score, around its two numbers.
-fn add_score<'a>(page: &mut Page<'a>, stored: &'a [u8], hundredths: &'a [u8], full: bool)
+fn add_score<'a>(
+    page: &mut Page<'a>,
+    style: Style,
+    stored: &'a [u8],
+    hundredths: &'a [u8],
+    full: bool,
+)
     requires { page.old.pieces ≤ 5 }
-    ensures { page.new.text ≡ page.old.text ++ score_around stored.now hundredths.now full }
+    ensures { page.new.text ≡ page.old.text ++ score_around style stored.now hundredths.now full }
 {
-    page.add(Phrase::Stored.text());
+    page.add(Phrase::Stored.text_in(style));
     page.add(stored);
     page.add(Phrase::Rating.text());
     page.add(hundredths);
@@ -74,16 +81,22 @@ fn add_score<'a>(page: &mut Page<'a>, stored: &'a [u8], hundredths: &'a [u8], fu
 }
 
 #[inline(never)]
-fn say_score<C: Console>(treasures: i32, stored: usize, console: &mut C) -> Result<(), ConsoleFault>
+fn say_score<C: Console>(
+    style: Style,
+    treasures: i32,
+    stored: usize,
+    console: &mut C,
+) -> Result<(), ConsoleFault>
     requires { stored ≤ 255 }
     ensures { Speaks (C.seen console.old) (C.seen console.new) result
-        (says (score_text treasures stored)) }
+        (says (score_text style treasures stored)) }
 {
     let mut count = Buffer::new();
     let mut hundredths = Buffer::new();
     let mut page = Page::new();
     add_score(
         &mut page,
+        style,
         count.format(stored).as_bytes(),
         hundredths.format(rate_of(treasures, stored)).as_bytes(),
         is_full(treasures, stored),
@@ -114,12 +127,17 @@ fn treasures_of(db: &Db) -> i32
     db.header().treasures
 }
 
-fn say_scored<C: Console>(db: &Db, state: &State, console: &mut C) -> Result<(), ConsoleFault>
+fn say_scored<C: Console>(
+    db: &Db,
+    style: Style,
+    state: &State,
+    console: &mut C,
+) -> Result<(), ConsoleFault>
     requires { Fits db.now state.now }
     ensures { Speaks (C.seen console.old) (C.seen console.new) result
-        (says (scored db.now state.now)) }
+        (says (scored (in_style style db.now) state.now)) }
 {
-    say_score(treasures_of(db), stored_in(db, state), console)
+    say_score(style, treasures_of(db), stored_in(db, state), console)
 }
 
 /// Whether all treasures are stored.
@@ -133,12 +151,17 @@ pub fn are_all_stored(db: &Db, state: &State) -> bool
 /// Says the score, and answers whether all treasures are stored.
 ///
 /// The console's fault alone is a refusal. docs/TURN.md has the texts.
-pub fn score<C: Console>(db: &Db, state: &State, console: &mut C) -> Result<bool, ConsoleFault>
+pub fn score<C: Console>(
+    db: &Db,
+    style: Style,
+    state: &State,
+    console: &mut C,
+) -> Result<bool, ConsoleFault>
     requires { Fits db.now state.now }
     ensures spoken { Speaks (C.seen console.old) (C.seen console.new) result
-        (says (scored db.now state.now)) }
+        (says (scored (in_style style db.now) state.now)) }
     ensures all { IfOk result (λ all. all ≡ all_stored db.now state.now) }
 {
-    say_scored(db, state, console)?;
+    say_scored(db, style, state, console)?;
     Ok(are_all_stored(db, state))
 }

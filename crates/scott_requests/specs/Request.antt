@@ -2,16 +2,18 @@
 use Rattle.std.specs.Prelude.{ℕ, List, [], ◌∷◌, map, String, string_bytes, Option, Some, None, option_map, unwrap_or, bytes_eq, codes, if◌then◌else◌}
 use Rattle.std.specs.Option.{option_and_then}
 use Rattle.scott_requests.specs.declared.settings.TheConstants.{FIRST_SEED}
+use Rattle.scott_types.specs.declared.styles.Style.{Style}
+use Rattle.scott_types.specs.Style.{plain_style}
 use Rattle.scott_requests.specs.Parts.{file_name}
-use Rattle.scott_requests.specs.Settings.{DrawSource, seeded, no_settings, settings_from}
+use Rattle.scott_requests.specs.Settings.{DrawSource, seeded, Settings, no_settings, settings_from}
 
--- the database of this name is to be checked, or to be played with these draws; a source is to be compiled to a database, or a
--- database decompiled to a source, from the file of the first name to that of the second
+-- the database of this name is to be checked, or to be played with these draws in this style; a source is to be compiled to a
+-- database, or a database decompiled to a source, from the file of the first name to that of the second
 pub data Request : Type 0 where
   check : List ℕ → Request
   compile : List ℕ → List ℕ → Request
   decompile : List ℕ → List ℕ → Request
-  play : List ℕ → DrawSource → Request
+  play : List ℕ → DrawSource → Style → Request
 
 -- ---- the forms of the commands: what the words after a command ask for
 
@@ -31,12 +33,15 @@ compile_form words = option_map (λ names. compile names.0 names.1) (two_names w
 abbrev pub decompile_form : List (List ℕ) → Option Request
 decompile_form words = option_map (λ names. decompile names.0 names.1) (two_names words)
 
--- one file, and settings: where the draws come from
+-- a play of this file, with what a setting gives or what it has without one
+abbrev pub with_settings : List ℕ → Settings → Request
+with_settings name settings = play name (unwrap_or settings.source (seeded FIRST_SEED)) (unwrap_or settings.play_style plain_style)
+
+-- one file, and settings: where the draws come from, and the style
 abbrev pub play_form : List (List ℕ) → Option Request
 play_form [] = None
 play_form (game ∷ words) =
-    option_and_then (λ name. option_map (λ settings. play name (unwrap_or settings.source (seeded FIRST_SEED))) (settings_from no_settings words))
-    (file_name game)
+    option_and_then (λ name. option_map (with_settings name) (settings_from no_settings words)) (file_name game)
 
 -- ---- requests
 

@@ -5,19 +5,20 @@ ghost use Rattle.scott_requests.specs.Views.{request_of};
 
 use crate::parts::file_name;
 use crate::settings::{DrawSource, FIRST_SEED, settings_in};
+use scott_types::Style;
 
 /// What is asked for.
 ///
 /// - `Check`: the database of this name is to be reported on.
 /// - `Compile`: the source of the first name is to be stored as a database under the second one.
 /// - `Decompile`: the database of the first name is to be stored as a source under the second one.
-/// - `Play`: the database of this name is to be played with these draws.
+/// - `Play`: the database of this name is to be played with these draws, in this style.
 #[derive(Clone, Copy, Debug, PartialEq, Eq)]
 pub enum Request<'a> {
     Check(&'a str),
     Compile(&'a str, &'a str),
     Decompile(&'a str, &'a str),
-    Play(&'a str, DrawSource<'a>),
+    Play(&'a str, DrawSource<'a>, Style),
 }
 
 // `check` with the words after it.
@@ -65,7 +66,8 @@ fn play_form(words: &[String]) -> Option<Request<'_>>
     let game = file_name(game.as_str())?;
     let settings = settings_in(rest)?;
     let draws = settings.draws.unwrap_or(DrawSource::Seeded(FIRST_SEED));
-    Some(Request::Play(game, draws))
+    let style = settings.style.unwrap_or(Style::plain());
+    Some(Request::Play(game, draws, style))
 }
 
 /// What the words ask for, if they are a request. docs/GUIDE.md has the words of each.

@@ -1,11 +1,12 @@
 //! Settings: what stands after a command's files, in any order, each at most once.
-ghost use Rattle.std.specs.Prelude.{◌≡◌, map, string_bytes, option_map};
+ghost use Rattle.std.specs.Prelude.{◌≡◌, Some, map, string_bytes, option_map};
 ghost use Rattle.std.specs.Option.{option_and_then};
 ghost use Rattle.scott_requests.specs.Parts.{file_name, number_of};
-ghost use Rattle.scott_requests.specs.Settings.{draws, listed, seeded, setting_in, no_settings, with_setting, settings_from};
+ghost use Rattle.scott_requests.specs.Settings.{draws, listed, seeded, style, some_style, style_named, setting_in, no_settings, with_setting, settings_from};
 ghost use Rattle.scott_requests.specs.Views.{source_of, setting_of, settings_of};
 
 use crate::parts::{file_name, number_of};
+use scott_types::Style;
 
 /// The seed of a play that is given neither draws nor a seed.
 pub const FIRST_SEED: u64 = 1;
@@ -21,12 +22,14 @@ pub enum DrawSource<'a> {
 #[derive(Clone, Copy)]
 pub enum Setting<'a> {
     Draws(DrawSource<'a>),
+    Style(Style),
 }
 
 /// A place for each kind of setting.
 #[derive(Clone, Copy)]
 pub struct Settings<'a> {
     pub draws: Option<DrawSource<'a>>,
+    pub style: Option<Style>,
 }
 
 // The setting that names a file of draws.
@@ -51,6 +54,54 @@ fn seeded(digits: &str) -> Option<Setting<'_>>
     }
 }
 
+fn some_style(you: bool, counted: bool, vanish: bool) -> Option<Style>
+    ensures { result ≡ some_style you counted vanish }
+{
+    Some(Style {
+        you,
+        counted,
+        vanish,
+    })
+}
+
+// The style of these letters.
+fn style_named(letters: &str) -> Option<Style>
+    ensures { result ≡ style_named letters.now }
+{
+    if letters == "y" {
+        return some_style(true, false, false);
+    }
+    if letters == "c" {
+        return some_style(false, true, false);
+    }
+    if letters == "v" {
+        return some_style(false, false, true);
+    }
+    if letters == "yc" {
+        return some_style(true, true, false);
+    }
+    if letters == "yv" {
+        return some_style(true, false, true);
+    }
+    if letters == "cv" {
+        return some_style(false, true, true);
+    }
+    if letters == "ycv" {
+        return some_style(true, true, true);
+    }
+    None
+}
+
+// The setting that gives a style.
+fn styled(letters: &str) -> Option<Setting<'_>>
+    ensures { option_map setting_of result ≡ option_map style (style_named letters.now) }
+{
+    match style_named(letters) {
+        Some(style) => Some(Setting::Style(style)),
+        None => None,
+    }
+}
+
 // The setting that a word is.
 fn setting_in(word: &str) -> Option<Setting<'_>>
     ensures { option_map setting_of result ≡ setting_in word.now }
@@ -60,6 +111,9 @@ fn setting_in(word: &str) -> Option<Setting<'_>>
     }
     if let Some(digits) = word.strip_prefix("seed=") {
         return seeded(digits);
+    }
+    if let Some(letters) = word.strip_prefix("style=") {
+        return styled(letters);
     }
     None
 }
@@ -74,6 +128,14 @@ impl<'a> Settings<'a> {
             Setting::Draws(source) => match self.draws {
                 None => Some(Settings {
                     draws: Some(source),
+                    style: self.style,
+                }),
+                Some(_) => None,
+            },
+            Setting::Style(style) => match self.style {
+                None => Some(Settings {
+                    draws: self.draws,
+                    style: Some(style),
                 }),
                 Some(_) => None,
             },
@@ -86,7 +148,10 @@ pub fn settings_in(words: &[String]) -> Option<Settings<'_>>
     ensures { option_map settings_of result ≡ settings_from no_settings
         (map string_bytes words.now) }
 {
-    let mut settings = Settings { draws: None };
+    let mut settings = Settings {
+        draws: None,
+        style: None,
+    };
     for word in words {
         settings = settings.with(setting_in(word.as_str())?)?;
     }

@@ -9,6 +9,7 @@ use Rattle.scott_types.specs.declared.endings.Ran.{Ran}
 use Rattle.scott_types.specs.declared.endings.Ran.TheVariants.{Passed}
 use Rattle.scott_types.specs.Action.{opcode_numbers, parameters}
 use Rattle.scott_types.specs.Database.{Database, action_at}
+use Rattle.scott_types.specs.Style.{Game}
 use Rattle.scott_types.specs.Limits.{KeepsLimits}
 use Rattle.scott_types.specs.Opcode.{opcode_of}
 use Rattle.scott_types.specs.State.{Fits, carried_place}
@@ -51,40 +52,41 @@ module _ (db : Database) (limits : KeepsLimits db) where
   Fits-changed Die p q s fits = Fits-dead db limits s fits
   Fits-changed _ p q s fits = fits
 
+module _ (game : Game) (limits : KeepsLimits game.db) where
   -- an opcode with the next of the parameters
-  Fits-op : (noun : List ℕ) (opcode : Opcode) (params : List ℕ) (s : State) → Fits db s → Fits db (op db noun opcode params s).value.state
-  Fits-op noun opcode params s fits = Fits-changed opcode _ _ s fits
+  Fits-op : (noun : List ℕ) (opcode : Opcode) (params : List ℕ) (s : State) → Fits game.db s → Fits game.db (op game noun opcode params s).value.state
+  Fits-op noun opcode params s fits = Fits-changed game.db limits opcode _ _ s fits
 
   -- opcodes in order
-  Fits-run_opcodes : (noun : List ℕ) (opcodes : List Opcode) (params : List ℕ) (s : State) → Fits db s → Fits db (run_opcodes db noun opcodes params s).value.state
+  Fits-run_opcodes : (noun : List ℕ) (opcodes : List Opcode) (params : List ℕ) (s : State) → Fits game.db s → Fits game.db (run_opcodes game noun opcodes params s).value.state
   Fits-run_opcodes noun [] params s fits = fits
   Fits-run_opcodes noun (opcode ∷ opcodes) params s fits =
-      let rest = drop (takes db s opcode) params in
-      Fits-and_then db (op db noun opcode params s) (run_opcodes db noun opcodes rest) (Fits-op noun opcode params s fits) (Fits-run_opcodes noun opcodes rest)
+      let rest = drop (takes game.db s opcode) params in
+      Fits-and_then game.db (op game noun opcode params s) (run_opcodes game noun opcodes rest) (Fits-op noun opcode params s fits) (Fits-run_opcodes noun opcodes rest)
 
   -- an action line
-  Fits-performed : (pass : Bool) (noun : List ℕ) (a : Action) (s : State) → Fits db s → Fits db (performed pass db noun a s).value.state
+  Fits-performed : (pass : Bool) (noun : List ℕ) (a : Action) (s : State) → Fits game.db s → Fits game.db (performed pass game noun a s).value.state
   Fits-performed true noun a s fits = Fits-run_opcodes noun (map opcode_of (opcode_numbers a)) (parameters a) s fits
   Fits-performed false noun a s fits = fits
 
   -- the action line of a number
-  pub Fits-try_action : (noun : List ℕ) (line : ℕ) (s : State) → Fits db s → Fits db (try_action db noun line s).value.state
-  Fits-try_action noun line s fits = Fits-performed (passes db s (action_at db line)) noun (action_at db line) s fits
+  pub Fits-try_action : (noun : List ℕ) (line : ℕ) (s : State) → Fits game.db s → Fits game.db (try_action game noun line s).value.state
+  Fits-try_action noun line s fits = Fits-performed (passes game.db s (action_at game.db line)) noun (action_at game.db line) s fits
 
   -- the lines of a tail
-  Fits-tail_tried : (noun lines : List ℕ) (s : State) → Fits db s → Fits db (tail_tried db noun lines s).value.state
+  Fits-tail_tried : (noun lines : List ℕ) (s : State) → Fits game.db s → Fits game.db (tail_tried game noun lines s).value.state
   Fits-tail_tried noun [] s fits = fits
   Fits-tail_tried noun (line ∷ lines) s fits =
-      Fits-and_then db (tail_action db noun line s) (tail_tried db noun lines) (Fits-try_action noun line s fits) (Fits-tail_tried noun lines)
+      Fits-and_then game.db (tail_action game noun line s) (tail_tried game noun lines) (Fits-try_action noun line s fits) (Fits-tail_tried noun lines)
 
   -- the tail after a head
   Fits-after_head : (ran : Ran) (noun tail : List ℕ) (t : Traced Step ActionOutcome)
-      → Fits db t.value.state → Fits db (after_head ran db noun tail t).value.state
+      → Fits game.db t.value.state → Fits game.db (after_head ran game noun tail t).value.state
   Fits-after_head (Passed true) noun tail t fits = Fits-tail_tried noun tail t.value.state fits
   Fits-after_head _ noun tail t fits = fits
 
   -- a head with its tail
-  pub Fits-group_tried : (noun : List ℕ) (g : Group) (s : State) → Fits db s → Fits db (group_tried db noun g s).value.state
+  pub Fits-group_tried : (noun : List ℕ) (g : Group) (s : State) → Fits game.db s → Fits game.db (group_tried game noun g s).value.state
   Fits-group_tried noun g s fits =
-      let head = try_action db noun g.head s in
+      let head = try_action game noun g.head s in
       Fits-after_head head.value.ran noun g.tail head (Fits-try_action noun g.head s fits)

@@ -1,5 +1,5 @@
 -- What a play takes and draws, followed by what is left, is what there was.
-use Rattle.std.proofs.Common.{◌≡◌, ◌∙◌, ℕ, List, [], ◌∷◌, ◌++◌, Bool, true, false, eqb, Option, Some, None, refl, ap, append_assoc}
+use Rattle.std.proofs.Common.{ℕ, List, [], ◌∷◌, ◌++◌, Bool, true, false, eqb, Option, Some, None, refl, ap}
 use Rattle.std.specs.Prelude.{nat_le}
 use Rattle.scott_types.specs.declared.states.State.{State}
 use Rattle.scott_types.specs.declared.endings.Halt.{Halt}
@@ -7,15 +7,11 @@ use Rattle.scott_types.specs.declared.endings.Halt.TheVariants.{Through, Waits, 
 use Rattle.scott_types.specs.declared.endings.Position.{Position}
 use Rattle.scott_types.specs.declared.endings.Position.TheVariants.{Fresh, Draw, Line, Over}
 use Rattle.scott_types.specs.declared.phrases.Phrase.TheVariants.{Prompt}
-use Rattle.scott_types.specs.Database.{Database}
+use Rattle.scott_types.specs.Style.{Game}
 use Rattle.scott_types.specs.Action.{verb_of, noun_of}
 use Rattle.scott_types.specs.Phrase.{text_of}
-use Rattle.std.specs.Prelude.{filter_map}
-use Rattle.std.proofs.lemmas.List.Elements.{filter_map-append}
-use Rattle.adv_io.specs.declared.events.Event.{Event}
-use Rattle.adv_io.specs.History.{line_taken, draw_taken}
 use Rattle.adv_io.proofs.Spending.{Spends-append}
-use Rattle.adv_io.specs.Steps.{Spends, Step, Traced, event_of, said_steps, trace_of}
+use Rattle.adv_io.specs.Steps.{Spends, Step, Traced, said_steps}
 use Rattle.scott_rules.specs.Commands.{heard}
 use Rattle.scott_rules.specs.Actions.{ActionOutcome}
 use Rattle.scott_rules.specs.Groups.{Group, AutoOutcome, groups, groups_from, over_of, group_tried, auto_after, auto_tried, auto_drawn, auto_group, automatic}
@@ -45,86 +41,86 @@ module _ (ls : List (List ℕ)) where
       Spends-append ls draws t.events n.events ls draws ls n.value.draws (Spends-talk ls draws t.events h) (rest t.value.state draws)
   after (Some ending) t draws next h rest = Spends-talk ls draws t.events h
 
-  tried : (b : Bool) (db : Database) (g : Group) (s : State) (draws : List ℕ) (next : State → List ℕ → Traced Step AutoOutcome)
-      → AlwaysSpends next → AutoSpends draws (auto_tried b db g s draws next)
-  tried true db g s draws next rest =
-      let t = group_tried db [] g s in after (over_of t.value.ran) t draws next (group_tried-talks db [] g s) rest
-  tried false db g s draws next rest = rest s draws
+  tried : (b : Bool) (game : Game) (g : Group) (s : State) (draws : List ℕ) (next : State → List ℕ → Traced Step AutoOutcome)
+      → AlwaysSpends next → AutoSpends draws (auto_tried b game g s draws next)
+  tried true game g s draws next rest =
+      let t = group_tried game [] g s in after (over_of t.value.ran) t draws next (group_tried-talks game [] g s) rest
+  tried false game g s draws next rest = rest s draws
 
-  drawn : (db : Database) (g : Group) (s : State) (draws : List ℕ) (next : State → List ℕ → Traced Step AutoOutcome)
-      → AlwaysSpends next → AutoSpends draws (auto_drawn db g s draws next)
-  drawn db g s [] next rest = record { lines_spent = refl; draws_spent = refl }
-  drawn db g s (draw ∷ draws) next rest =
-      let h = tried (nat_le draw (noun_of g.vocab)) db g s draws next rest in
+  drawn : (game : Game) (g : Group) (s : State) (draws : List ℕ) (next : State → List ℕ → Traced Step AutoOutcome)
+      → AlwaysSpends next → AutoSpends draws (auto_drawn game g s draws next)
+  drawn game g s [] next rest = record { lines_spent = refl; draws_spent = refl }
+  drawn game g s (draw ∷ draws) next rest =
+      let h = tried (nat_le draw (noun_of g.vocab)) game g s draws next rest in
       record { lines_spent = h.lines_spent; draws_spent = ap (λ xs. draw ∷ xs) h.draws_spent }
 
-  group : (b : Bool) (db : Database) (g : Group) (s : State) (draws : List ℕ) (next : State → List ℕ → Traced Step AutoOutcome)
-      → AlwaysSpends next → AutoSpends draws (auto_group b db g s draws next)
-  group true db g s draws next rest = drawn db g s draws next rest
-  group false db g s draws next rest = rest s draws
+  group : (b : Bool) (game : Game) (g : Group) (s : State) (draws : List ℕ) (next : State → List ℕ → Traced Step AutoOutcome)
+      → AlwaysSpends next → AutoSpends draws (auto_group b game g s draws next)
+  group true game g s draws next rest = drawn game g s draws next rest
+  group false game g s draws next rest = rest s draws
 
-  automatic-spends : (db : Database) (gs : List Group) → AlwaysSpends (automatic db gs)
-  automatic-spends db [] s draws = record { lines_spent = refl; draws_spent = refl }
-  automatic-spends db (g ∷ gs) s draws =
-      group (eqb (verb_of g.vocab) 0) db g s draws (automatic db gs) (automatic-spends db gs)
+  automatic-spends : (game : Game) (gs : List Group) → AlwaysSpends (automatic game gs)
+  automatic-spends game [] s draws = record { lines_spent = refl; draws_spent = refl }
+  automatic-spends game (g ∷ gs) s draws =
+      group (eqb (verb_of g.vocab) 0) game g s draws (automatic game gs) (automatic-spends game gs)
 
   -- ---- up to the prompt
 
   abbrev RoundEndSpends : List ℕ → Traced Step RoundEnd → Type 0
   RoundEndSpends draws t = Spends ls draws t.events ls t.value.draws
 
-  prompted-spends : (halt : Halt) (db : Database) (s : State) (draws : List ℕ) → RoundEndSpends draws (prompted halt db s draws)
-  prompted-spends Through db s draws =
-      let said = look_due db s ++ text_of Prompt in Spends-talk ls draws (said_steps said) (Talks-said_steps said)
-  prompted-spends (Waits head) db s draws = Spends-talk ls draws [] refl
-  prompted-spends (AtEnd ending) db s draws = Spends-talk ls draws [] refl
+  prompted-spends : (halt : Halt) (game : Game) (s : State) (draws : List ℕ) → RoundEndSpends draws (prompted halt game s draws)
+  prompted-spends Through game s draws =
+      let said = look_due game s ++ text_of Prompt in Spends-talk ls draws (said_steps said) (Talks-said_steps said)
+  prompted-spends (Waits head) game s draws = Spends-talk ls draws [] refl
+  prompted-spends (AtEnd ending) game s draws = Spends-talk ls draws [] refl
 
-  to_prompt-spends : (db : Database) (draws : List ℕ) (t : Traced Step AutoOutcome) → AutoSpends draws t → RoundEndSpends draws (to_prompt db t)
-  to_prompt-spends db draws t h =
-      let p = prompted t.value.halt db t.value.state t.value.draws in
-      Spends-append ls draws t.events p.events ls t.value.draws ls p.value.draws h (prompted-spends t.value.halt db t.value.state t.value.draws)
+  to_prompt-spends : (game : Game) (draws : List ℕ) (t : Traced Step AutoOutcome) → AutoSpends draws t → RoundEndSpends draws (to_prompt game t)
+  to_prompt-spends game draws t h =
+      let p = prompted t.value.halt game t.value.state t.value.draws in
+      Spends-append ls draws t.events p.events ls t.value.draws ls p.value.draws h (prompted-spends t.value.halt game t.value.state t.value.draws)
 
-  advance-spends : (db : Database) (position : Position) (s : State) (draws : List ℕ) → RoundEndSpends draws (advance db position s draws)
-  advance-spends db Fresh s draws =
-      let t = automatic db (groups db) (unmarked s) draws in
-      let p = to_prompt db t in
-      Spends-append ls draws (said_steps (look_due db s)) p.events ls draws ls p.value.draws
-      (Spends-talk ls draws (said_steps (look_due db s)) (Talks-said_steps (look_due db s)))
-      (to_prompt-spends db draws t (automatic-spends db (groups db) (unmarked s) draws))
-  advance-spends db (Draw head) s draws =
-      to_prompt-spends db draws (automatic db (groups_from db head) s draws) (automatic-spends db (groups_from db head) s draws)
-  advance-spends db Line s draws = Spends-talk ls draws [] refl
-  advance-spends db (Over ending) s draws = Spends-talk ls draws [] refl
+  advance-spends : (game : Game) (position : Position) (s : State) (draws : List ℕ) → RoundEndSpends draws (advance game position s draws)
+  advance-spends game Fresh s draws =
+      let t = automatic game (groups game.db) (unmarked s) draws in
+      let p = to_prompt game t in
+      Spends-append ls draws (said_steps (look_due game s)) p.events ls draws ls p.value.draws
+      (Spends-talk ls draws (said_steps (look_due game s)) (Talks-said_steps (look_due game s)))
+      (to_prompt-spends game draws t (automatic-spends game (groups game.db) (unmarked s) draws))
+  advance-spends game (Draw head) s draws =
+      to_prompt-spends game draws (automatic game (groups_from game.db head) s draws) (automatic-spends game (groups_from game.db head) s draws)
+  advance-spends game Line s draws = Spends-talk ls draws [] refl
+  advance-spends game (Over ending) s draws = Spends-talk ls draws [] refl
 
 -- ---- the play
 
-answer-spends : (db : Database) (line : List ℕ) (lines : List (List ℕ)) (s : State) (draws : List ℕ) → Spends (line ∷ lines) draws (answer db line s).events lines draws
-answer-spends db line lines s draws =
-    let h = Spends-talk lines draws (by_heard (heard db line) db line s).events (by_heard-talks (heard db line) db line s) in
+answer-spends : (game : Game) (line : List ℕ) (lines : List (List ℕ)) (s : State) (draws : List ℕ) → Spends (line ∷ lines) draws (answer game line s).events lines draws
+answer-spends game line lines s draws =
+    let h = Spends-talk lines draws (by_heard (heard game.db line) game line s).events (by_heard-talks (heard game.db line) game line s) in
     record { lines_spent = ap (λ xs. line ∷ xs) h.lines_spent; draws_spent = h.draws_spent }
 
 abbrev PlayEndSpends : List (List ℕ) → List ℕ → Traced Step PlayEnd → Type 0
 PlayEndSpends lines draws t = Spends lines draws t.events t.value.lines t.value.draws
 
-with_line-spends : (position : Position) (db : Database) (line : List ℕ) (lines : List (List ℕ)) (draws : List ℕ) (t : Traced Step RoundEnd)
+with_line-spends : (position : Position) (game : Game) (line : List ℕ) (lines : List (List ℕ)) (draws : List ℕ) (t : Traced Step RoundEnd)
     (next : Position → State → List ℕ → Traced Step PlayEnd)
     → Spends (line ∷ lines) draws t.events (line ∷ lines) t.value.draws
     → ((p : Position) (s : State) (ds : List ℕ) → PlayEndSpends lines ds (next p s ds))
-    → PlayEndSpends (line ∷ lines) draws (with_line position db line lines t next)
-with_line-spends Line db line lines draws t next here rest =
-    let a = answer db line t.value.state in
+    → PlayEndSpends (line ∷ lines) draws (with_line position game line lines t next)
+with_line-spends Line game line lines draws t next here rest =
+    let a = answer game line t.value.state in
     let n = next a.value.position a.value.state t.value.draws in
     Spends-append (line ∷ lines) draws t.events (a.events ++ n.events) (line ∷ lines) t.value.draws n.value.lines n.value.draws here
     (Spends-append (line ∷ lines) t.value.draws a.events n.events lines t.value.draws n.value.lines n.value.draws
-    (answer-spends db line lines t.value.state t.value.draws) (rest a.value.position a.value.state t.value.draws))
-with_line-spends Fresh db line lines draws t next here rest = here
-with_line-spends (Draw head) db line lines draws t next here rest = here
-with_line-spends (Over ending) db line lines draws t next here rest = here
+    (answer-spends game line lines t.value.state t.value.draws) (rest a.value.position a.value.state t.value.draws))
+with_line-spends Fresh game line lines draws t next here rest = here
+with_line-spends (Draw head) game line lines draws t next here rest = here
+with_line-spends (Over ending) game line lines draws t next here rest = here
 
-pub go-spends : (db : Database) (lines : List (List ℕ)) (position : Position) (s : State) (draws : List ℕ) → PlayEndSpends lines draws (go db position s lines draws)
+pub go-spends : (game : Game) (lines : List (List ℕ)) (position : Position) (s : State) (draws : List ℕ) → PlayEndSpends lines draws (go game position s lines draws)
 unfolding go
-go-spends db [] position s draws = advance-spends [] db position s draws
-go-spends db (line ∷ lines) position s draws =
-    let t = advance db position s draws in
-    with_line-spends t.value.position db line lines draws t (λ p r ds. go db p r lines ds)
-    (advance-spends (line ∷ lines) db position s draws) (go-spends db lines)
+go-spends game [] position s draws = advance-spends [] game position s draws
+go-spends game (line ∷ lines) position s draws =
+    let t = advance game position s draws in
+    with_line-spends t.value.position game line lines draws t (λ p r ds. go game p r lines ds)
+    (advance-spends (line ∷ lines) game position s draws) (go-spends game lines)

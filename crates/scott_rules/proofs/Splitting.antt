@@ -7,6 +7,7 @@ use Rattle.scott_types.specs.declared.endings.Halt.{Halt}
 use Rattle.scott_types.specs.declared.endings.Halt.TheVariants.{Through, Waits, Over as AtEnd}
 use Rattle.scott_types.specs.declared.endings.Position.{Position}
 use Rattle.scott_types.specs.declared.endings.Position.TheVariants.{Fresh, Draw, Line, Over}
+use Rattle.scott_types.specs.Style.{Game}
 use Rattle.scott_types.specs.Database.{Database}
 use Rattle.scott_types.specs.Action.{verb_of, noun_of}
 use Rattle.adv_io.specs.Steps.{Drew, Step, Traced, after, said_steps, traced}
@@ -50,173 +51,173 @@ StandFromHeads-groups_of db k (a ∷ xs) e = by_head (eqb a.vocab 0) (StandFromH
 -- ---- the automatic step
 
 -- where a step waited for a draw it goes on with further ones; otherwise they are left
-abbrev pub resumed : Halt → Database → List ℕ → Traced Step AutoOutcome → Traced Step AutoOutcome
-resumed (Waits head) db further t = after t.events (automatic db (groups_from db head) t.value.state (t.value.draws ++ further))
-resumed _ db further t = traced t.events (record t.value { draws = t.value.draws ++ further })
+abbrev pub resumed : Halt → Game → List ℕ → Traced Step AutoOutcome → Traced Step AutoOutcome
+resumed (Waits head) game further t = after t.events (automatic game (groups_from game.db head) t.value.state (t.value.draws ++ further))
+resumed _ game further t = traced t.events (record t.value { draws = t.value.draws ++ further })
 
-abbrev pub resume : Database → List ℕ → Traced Step AutoOutcome → Traced Step AutoOutcome
-resume db further t = resumed t.value.halt db further t
+abbrev pub resume : Game → List ℕ → Traced Step AutoOutcome → Traced Step AutoOutcome
+resume game further t = resumed t.value.halt game further t
 
-resumed-after : (halt : Halt) (db : Database) (further : List ℕ) (es : List Step) (t : Traced Step AutoOutcome)
-    → after es (resumed halt db further t) ≡ resumed halt db further (after es t)
-resumed-after Through db further es t = refl
-resumed-after (Waits head) db further es t = after-after es t.events _
-resumed-after (AtEnd ending) db further es t = refl
+resumed-after : (halt : Halt) (game : Game) (further : List ℕ) (es : List Step) (t : Traced Step AutoOutcome)
+    → after es (resumed halt game further t) ≡ resumed halt game further (after es t)
+resumed-after Through game further es t = refl
+resumed-after (Waits head) game further es t = after-after es t.events _
+resumed-after (AtEnd ending) game further es t = refl
 
 -- what comes next goes on with further draws as it would have with them from the beginning
-abbrev GoesOn : Database → List ℕ → (State → List ℕ → Traced Step AutoOutcome) → Type 0
-GoesOn db further next = (s : State) (draws : List ℕ) → next s (draws ++ further) ≡ resume db further (next s draws)
+abbrev GoesOn : Game → List ℕ → (State → List ℕ → Traced Step AutoOutcome) → Type 0
+GoesOn game further next = (s : State) (draws : List ℕ) → next s (draws ++ further) ≡ resume game further (next s draws)
 
-later : (over : Option ℕ) (db : Database) (further draws : List ℕ) (t : Traced Step ActionOutcome) (next : State → List ℕ → Traced Step AutoOutcome)
-    → GoesOn db further next → auto_after over t (draws ++ further) next ≡ resume db further (auto_after over t draws next)
-later None db further draws t next on =
-    ap (after t.events) (on t.value.state draws) ∙ resumed-after (next t.value.state draws).value.halt db further t.events (next t.value.state draws)
-later (Some ending) db further draws t next on = refl
+later : (over : Option ℕ) (game : Game) (further draws : List ℕ) (t : Traced Step ActionOutcome) (next : State → List ℕ → Traced Step AutoOutcome)
+    → GoesOn game further next → auto_after over t (draws ++ further) next ≡ resume game further (auto_after over t draws next)
+later None game further draws t next on =
+    ap (after t.events) (on t.value.state draws) ∙ resumed-after (next t.value.state draws).value.halt game further t.events (next t.value.state draws)
+later (Some ending) game further draws t next on = refl
 
-tried : (passes : Bool) (db : Database) (g : Group) (s : State) (further draws : List ℕ) (next : State → List ℕ → Traced Step AutoOutcome)
-    → GoesOn db further next → auto_tried passes db g s (draws ++ further) next ≡ resume db further (auto_tried passes db g s draws next)
-tried true db g s further draws next on = let t = group_tried db [] g s in later (over_of t.value.ran) db further draws t next on
-tried false db g s further draws next on = on s draws
+tried : (passes : Bool) (game : Game) (g : Group) (s : State) (further draws : List ℕ) (next : State → List ℕ → Traced Step AutoOutcome)
+    → GoesOn game further next → auto_tried passes game g s (draws ++ further) next ≡ resume game further (auto_tried passes game g s draws next)
+tried true game g s further draws next on = let t = group_tried game [] g s in later (over_of t.value.ran) game further draws t next on
+tried false game g s further draws next on = on s draws
 
 -- at a group that waits, what is left is the group and those after it
-drawn : (db : Database) (g : Group) (s : State) (further draws : List ℕ) (next : State → List ℕ → Traced Step AutoOutcome)
-    → GoesOn db further next → automatic db (groups_from db g.head) s further ≡ auto_drawn db g s further next
-    → auto_drawn db g s (draws ++ further) next ≡ resume db further (auto_drawn db g s draws next)
-drawn db g s further [] next on here = sym here
-drawn db g s further (draw ∷ draws) next on here =
+drawn : (game : Game) (g : Group) (s : State) (further draws : List ℕ) (next : State → List ℕ → Traced Step AutoOutcome)
+    → GoesOn game further next → automatic game (groups_from game.db g.head) s further ≡ auto_drawn game g s further next
+    → auto_drawn game g s (draws ++ further) next ≡ resume game further (auto_drawn game g s draws next)
+drawn game g s further [] next on here = sym here
+drawn game g s further (draw ∷ draws) next on here =
     let b = nat_le draw (noun_of g.vocab) in
-    ap (after (Drew draw ∷ [])) (tried b db g s further draws next on)
-    ∙ resumed-after (auto_tried b db g s draws next).value.halt db further (Drew draw ∷ []) (auto_tried b db g s draws next)
+    ap (after (Drew draw ∷ [])) (tried b game g s further draws next on)
+    ∙ resumed-after (auto_tried b game g s draws next).value.halt game further (Drew draw ∷ []) (auto_tried b game g s draws next)
 
-group : (is_automatic : Bool) (db : Database) (g : Group) (s : State) (further draws : List ℕ) (next : State → List ℕ → Traced Step AutoOutcome)
-    → GoesOn db further next → automatic db (groups_from db g.head) s further ≡ auto_group is_automatic db g s further next
-    → auto_group is_automatic db g s (draws ++ further) next ≡ resume db further (auto_group is_automatic db g s draws next)
-group true db g s further draws next on here = drawn db g s further draws next on here
-group false db g s further draws next on here = on s draws
+group : (is_automatic : Bool) (game : Game) (g : Group) (s : State) (further draws : List ℕ) (next : State → List ℕ → Traced Step AutoOutcome)
+    → GoesOn game further next → automatic game (groups_from game.db g.head) s further ≡ auto_group is_automatic game g s further next
+    → auto_group is_automatic game g s (draws ++ further) next ≡ resume game further (auto_group is_automatic game g s draws next)
+group true game g s further draws next on here = drawn game g s further draws next on here
+group false game g s further draws next on here = on s draws
 
-pub automatic-resume : (db : Database) (gs : List Group) (further : List ℕ) → StandFromHeads db gs → GoesOn db further (automatic db gs)
-automatic-resume db [] further stand s draws = refl
-automatic-resume db (g ∷ gs) further stand s draws =
-    group (eqb (verb_of g.vocab) 0) db g s further draws (automatic db gs) (automatic-resume db gs further stand.1)
-    (ap (λ hs. automatic db hs s further) stand.0)
+pub automatic-resume : (game : Game) (gs : List Group) (further : List ℕ) → StandFromHeads game.db gs → GoesOn game further (automatic game gs)
+automatic-resume game [] further stand s draws = refl
+automatic-resume game (g ∷ gs) further stand s draws =
+    group (eqb (verb_of g.vocab) 0) game g s further draws (automatic game gs) (automatic-resume game gs further stand.1)
+    (ap (λ hs. automatic game hs s further) stand.0)
 
 -- ---- up to the prompt
 
-to_prompt-after : (db : Database) (es : List Step) (t : Traced Step AutoOutcome) → to_prompt db (after es t) ≡ after es (to_prompt db t)
-to_prompt-after db es t = sym (after-after es t.events (prompted t.value.halt db t.value.state t.value.draws))
+to_prompt-after : (game : Game) (es : List Step) (t : Traced Step AutoOutcome) → to_prompt game (after es t) ≡ after es (to_prompt game t)
+to_prompt-after game es t = sym (after-after es t.events (prompted t.value.halt game t.value.state t.value.draws))
 
 -- what is done up to the prompt, from where it stopped, with further draws
-abbrev pub advance_on : Database → List ℕ → Traced Step RoundEnd → Traced Step RoundEnd
-advance_on db further t = after t.events (advance db t.value.position t.value.state (t.value.draws ++ further))
+abbrev pub advance_on : Game → List ℕ → Traced Step RoundEnd → Traced Step RoundEnd
+advance_on game further t = after t.events (advance game t.value.position t.value.state (t.value.draws ++ further))
 
-advance_on-after : (db : Database) (further : List ℕ) (es : List Step) (t : Traced Step RoundEnd) → advance_on db further (after es t) ≡ after es (advance_on db further t)
-advance_on-after db further es t = sym (after-after es t.events (advance db t.value.position t.value.state (t.value.draws ++ further)))
+advance_on-after : (game : Game) (further : List ℕ) (es : List Step) (t : Traced Step RoundEnd) → advance_on game further (after es t) ≡ after es (advance_on game further t)
+advance_on-after game further es t = sym (after-after es t.events (advance game t.value.position t.value.state (t.value.draws ++ further)))
 
-to_prompt-resumed : (halt : Halt) (db : Database) (further : List ℕ) (es : List Step) (s : State) (draws : List ℕ)
+to_prompt-resumed : (halt : Halt) (game : Game) (further : List ℕ) (es : List Step) (s : State) (draws : List ℕ)
     → let t : Traced Step AutoOutcome = traced es (record { state = s; draws = draws; halt = halt }) in
-    to_prompt db (resume db further t) ≡ advance_on db further (to_prompt db t)
-to_prompt-resumed Through db further es s draws =
-    sym (after-nothing (es ++ (prompted Through db s draws).events) (record { position = Line; state = unmarked s; draws = draws ++ further }))
-to_prompt-resumed (Waits head) db further es s draws =
-    to_prompt-after db es (automatic db (groups_from db head) s (draws ++ further))
-    ∙ ap (λ fs. after fs (to_prompt db (automatic db (groups_from db head) s (draws ++ further)))) (sym (append-nil es))
-to_prompt-resumed (AtEnd ending) db further es s draws =
+    to_prompt game (resume game further t) ≡ advance_on game further (to_prompt game t)
+to_prompt-resumed Through game further es s draws =
+    sym (after-nothing (es ++ (prompted Through game s draws).events) (record { position = Line; state = unmarked s; draws = draws ++ further }))
+to_prompt-resumed (Waits head) game further es s draws =
+    to_prompt-after game es (automatic game (groups_from game.db head) s (draws ++ further))
+    ∙ ap (λ fs. after fs (to_prompt game (automatic game (groups_from game.db head) s (draws ++ further)))) (sym (append-nil es))
+to_prompt-resumed (AtEnd ending) game further es s draws =
     sym (after-nothing (es ++ []) (record { position = Over ending; state = s; draws = draws ++ further }))
 
-automatic-on : (db : Database) (line : ℕ) (s : State) (draws further : List ℕ)
-    → to_prompt db (automatic db (groups_from db line) s (draws ++ further))
-    ≡ advance_on db further (to_prompt db (automatic db (groups_from db line) s draws))
-automatic-on db line s draws further =
-    let gs = groups_from db line in
-    let t = automatic db gs s draws in
-    ap (to_prompt db) (automatic-resume db gs further (StandFromHeads-groups_of db line (drop line db.actions) refl) s draws)
-    ∙ to_prompt-resumed t.value.halt db further t.events t.value.state t.value.draws
+automatic-on : (game : Game) (line : ℕ) (s : State) (draws further : List ℕ)
+    → to_prompt game (automatic game (groups_from game.db line) s (draws ++ further))
+    ≡ advance_on game further (to_prompt game (automatic game (groups_from game.db line) s draws))
+automatic-on game line s draws further =
+    let gs = groups_from game.db line in
+    let t = automatic game gs s draws in
+    ap (to_prompt game) (automatic-resume game gs further (StandFromHeads-groups_of game.db line (drop line game.db.actions) refl) s draws)
+    ∙ to_prompt-resumed t.value.halt game further t.events t.value.state t.value.draws
 
-pub advance-on : (db : Database) (position : Position) (s : State) (draws further : List ℕ)
-    → advance db position s (draws ++ further) ≡ advance_on db further (advance db position s draws)
-advance-on db Fresh s draws further =
-    let first = said_steps (look_due db s) in
-    ap (after first) (automatic-on db 0 (unmarked s) draws further)
-    ∙ sym (advance_on-after db further first (to_prompt db (automatic db (groups_from db 0) (unmarked s) draws)))
-advance-on db (Draw head) s draws further = automatic-on db head s draws further
-advance-on db Line s draws further = refl
-advance-on db (Over ending) s draws further = refl
+pub advance-on : (game : Game) (position : Position) (s : State) (draws further : List ℕ)
+    → advance game position s (draws ++ further) ≡ advance_on game further (advance game position s draws)
+advance-on game Fresh s draws further =
+    let first = said_steps (look_due game s) in
+    ap (after first) (automatic-on game 0 (unmarked s) draws further)
+    ∙ sym (advance_on-after game further first (to_prompt game (automatic game (groups_from game.db 0) (unmarked s) draws)))
+advance-on game (Draw head) s draws further = automatic-on game head s draws further
+advance-on game Line s draws further = refl
+advance-on game (Over ending) s draws further = refl
 
 -- ---- the play
 
-with_line-after : (position : Position) (db : Database) (line : List ℕ) (lines : List (List ℕ)) (es : List Step) (t : Traced Step RoundEnd)
+with_line-after : (position : Position) (game : Game) (line : List ℕ) (lines : List (List ℕ)) (es : List Step) (t : Traced Step RoundEnd)
     (next : Position → State → List ℕ → Traced Step PlayEnd)
-    → with_line position db line lines (after es t) next ≡ after es (with_line position db line lines t next)
-with_line-after Line db line lines es t next = sym (after-after es t.events _)
-with_line-after Fresh db line lines es t next = refl
-with_line-after (Draw head) db line lines es t next = refl
-with_line-after (Over ending) db line lines es t next = refl
+    → with_line position game line lines (after es t) next ≡ after es (with_line position game line lines t next)
+with_line-after Line game line lines es t next = sym (after-after es t.events _)
+with_line-after Fresh game line lines es t next = refl
+with_line-after (Draw head) game line lines es t next = refl
+with_line-after (Over ending) game line lines es t next = refl
 
 -- where a play stands before a line is taken, it may as well begin
-pub go-advance : (db : Database) (position : Position) (s : State) (lines : List (List ℕ)) (draws further : List ℕ)
-    → let t = advance db position s draws in
-    go db position s lines (draws ++ further) ≡ after t.events (go db t.value.position t.value.state lines (t.value.draws ++ further))
+pub go-advance : (game : Game) (position : Position) (s : State) (lines : List (List ℕ)) (draws further : List ℕ)
+    → let t = advance game position s draws in
+    go game position s lines (draws ++ further) ≡ after t.events (go game t.value.position t.value.state lines (t.value.draws ++ further))
 unfolding go
-go-advance db position s [] draws further = ap (stopped []) (advance-on db position s draws further)
-go-advance db position s (line ∷ lines) draws further =
-    let t = advance db position s draws in
-    let u = advance db t.value.position t.value.state (t.value.draws ++ further) in
-    let next = λ (p : Position) (r : State) (ds : List ℕ). go db p r lines ds in
-    ap (λ v. with_line v.value.position db line lines v next) (advance-on db position s draws further)
-    ∙ with_line-after u.value.position db line lines t.events u next
+go-advance game position s [] draws further = ap (stopped []) (advance-on game position s draws further)
+go-advance game position s (line ∷ lines) draws further =
+    let t = advance game position s draws in
+    let u = advance game t.value.position t.value.state (t.value.draws ++ further) in
+    let next = λ (p : Position) (r : State) (ds : List ℕ). go game p r lines ds in
+    ap (λ v. with_line v.value.position game line lines v next) (advance-on game position s draws further)
+    ∙ with_line-after u.value.position game line lines t.events u next
 
 -- the rest of a play, with more lines and draws
-abbrev pub go_on : Database → List (List ℕ) → List ℕ → Traced Step PlayEnd → Traced Step PlayEnd
-go_on db more further t = after t.events (go db t.value.position t.value.state (t.value.lines ++ more) (t.value.draws ++ further))
+abbrev pub go_on : Game → List (List ℕ) → List ℕ → Traced Step PlayEnd → Traced Step PlayEnd
+go_on game more further t = after t.events (go game t.value.position t.value.state (t.value.lines ++ more) (t.value.draws ++ further))
 
-go_on-after : (db : Database) (more : List (List ℕ)) (further : List ℕ) (es : List Step) (t : Traced Step PlayEnd) → go_on db more further (after es t) ≡ after es (go_on db more further t)
-go_on-after db more further es t = sym (after-after es t.events (go db t.value.position t.value.state (t.value.lines ++ more) (t.value.draws ++ further)))
+go_on-after : (game : Game) (more : List (List ℕ)) (further : List ℕ) (es : List Step) (t : Traced Step PlayEnd) → go_on game more further (after es t) ≡ after es (go_on game more further t)
+go_on-after game more further es t = sym (after-after es t.events (go game t.value.position t.value.state (t.value.lines ++ more) (t.value.draws ++ further)))
 
-abbrev GoesOnFromLine : Database → List (List ℕ) → List (List ℕ) → List ℕ → Type 0
-GoesOnFromLine db lines more further = (position : Position) (s : State) (draws : List ℕ)
-    → go db position s (lines ++ more) (draws ++ further) ≡ go_on db more further (go db position s lines draws)
+abbrev GoesOnFromLine : Game → List (List ℕ) → List (List ℕ) → List ℕ → Type 0
+GoesOnFromLine game lines more further = (position : Position) (s : State) (draws : List ℕ)
+    → go game position s (lines ++ more) (draws ++ further) ≡ go_on game more further (go game position s lines draws)
 
-at_line : (position : Position) (db : Database) (line : List ℕ) (lines more : List (List ℕ)) (further : List ℕ) (es : List Step) (s : State) (draws : List ℕ)
-    → GoesOnFromLine db lines more further
-    → after es (go db position s (line ∷ (lines ++ more)) (draws ++ further))
-    ≡ go_on db more further (with_line position db line lines (traced es (record { position = position; state = s; draws = draws })) (λ p r ds. go db p r lines ds))
+at_line : (position : Position) (game : Game) (line : List ℕ) (lines more : List (List ℕ)) (further : List ℕ) (es : List Step) (s : State) (draws : List ℕ)
+    → GoesOnFromLine game lines more further
+    → after es (go game position s (line ∷ (lines ++ more)) (draws ++ further))
+    ≡ go_on game more further (with_line position game line lines (traced es (record { position = position; state = s; draws = draws })) (λ p r ds. go game p r lines ds))
 unfolding go
-at_line Line db line lines more further es s draws on =
-    let a = answer db line s in
-    let rest = go db a.value.position a.value.state lines draws in
+at_line Line game line lines more further es s draws on =
+    let a = answer game line s in
+    let rest = go game a.value.position a.value.state lines draws in
     ap (λ u. after es (after a.events u)) (on a.value.position a.value.state draws)
-    ∙ sym (go_on-after db more further es (after a.events rest) ∙ ap (after es) (go_on-after db more further a.events rest))
-at_line Fresh db line lines more further es s draws on = refl
-at_line (Draw head) db line lines more further es s draws on = refl
-at_line (Over ending) db line lines more further es s draws on = refl
+    ∙ sym (go_on-after game more further es (after a.events rest) ∙ ap (after es) (go_on-after game more further a.events rest))
+at_line Fresh game line lines more further es s draws on = refl
+at_line (Draw head) game line lines more further es s draws on = refl
+at_line (Over ending) game line lines more further es s draws on = refl
 
 -- lines first, since the play is by the lines that are left
-pub go-splits : (db : Database) (lines more : List (List ℕ)) (further : List ℕ) → GoesOnFromLine db lines more further
+pub go-splits : (game : Game) (lines more : List (List ℕ)) (further : List ℕ) → GoesOnFromLine game lines more further
 unfolding go
-go-splits db [] more further position s draws = go-advance db position s more draws further
-go-splits db (line ∷ lines) more further position s draws =
-    let t = advance db position s draws in
-    go-advance db position s (line ∷ (lines ++ more)) draws further
-    ∙ at_line t.value.position db line lines more further t.events t.value.state t.value.draws (go-splits db lines more further)
+go-splits game [] more further position s draws = go-advance game position s more draws further
+go-splits game (line ∷ lines) more further position s draws =
+    let t = advance game position s draws in
+    go-advance game position s (line ∷ (lines ++ more)) draws further
+    ∙ at_line t.value.position game line lines more further t.events t.value.state t.value.draws (go-splits game lines more further)
 
 -- ---- the end
 
-go-over : (db : Database) (ending : ℕ) (s : State) (lines : List (List ℕ)) (draws : List ℕ)
-    → go db (Over ending) s lines draws ≡ traced [] (record { position = Over ending; state = s; lines = lines; draws = draws })
+go-over : (game : Game) (ending : ℕ) (s : State) (lines : List (List ℕ)) (draws : List ℕ)
+    → go game (Over ending) s lines draws ≡ traced [] (record { position = Over ending; state = s; lines = lines; draws = draws })
 unfolding go
-go-over db ending s [] draws = refl
-go-over db ending s (line ∷ lines) draws = refl
+go-over game ending s [] draws = refl
+go-over game ending s (line ∷ lines) draws = refl
 
-over-on : (db : Database) (more : List (List ℕ)) (further : List ℕ) (ending : ℕ) (t : Traced Step PlayEnd)
-    → t.value.position ≡ Over ending → go_on db more further t ≡ with_more more further t
-over-on db more further ending t e =
-    ap (λ p. after t.events (go db p t.value.state (t.value.lines ++ more) (t.value.draws ++ further))) e
-    ∙ ap (after t.events) (go-over db ending t.value.state (t.value.lines ++ more) (t.value.draws ++ further))
+over-on : (game : Game) (more : List (List ℕ)) (further : List ℕ) (ending : ℕ) (t : Traced Step PlayEnd)
+    → t.value.position ≡ Over ending → go_on game more further t ≡ with_more more further t
+over-on game more further ending t e =
+    ap (λ p. after t.events (go game p t.value.state (t.value.lines ++ more) (t.value.draws ++ further))) e
+    ∙ ap (after t.events) (go-over game ending t.value.state (t.value.lines ++ more) (t.value.draws ++ further))
     ∙ after-nothing t.events (record { position = Over ending; state = t.value.state; lines = t.value.lines ++ more; draws = t.value.draws ++ further })
     ∙ ap (λ p. traced t.events (record { position = p; state = t.value.state; lines = t.value.lines ++ more; draws = t.value.draws ++ further })) (sym e)
 
-pub go-stays_over : (db : Database) (position : Position) (s : State) (lines more : List (List ℕ)) (draws further : List ℕ) (ending : ℕ)
-    → (go db position s lines draws).value.position ≡ Over ending
-    → go db position s (lines ++ more) (draws ++ further) ≡ with_more more further (go db position s lines draws)
-go-stays_over db position s lines more draws further ending e =
-    go-splits db lines more further position s draws ∙ over-on db more further ending (go db position s lines draws) e
+pub go-stays_over : (game : Game) (position : Position) (s : State) (lines more : List (List ℕ)) (draws further : List ℕ) (ending : ℕ)
+    → (go game position s lines draws).value.position ≡ Over ending
+    → go game position s (lines ++ more) (draws ++ further) ≡ with_more more further (go game position s lines draws)
+go-stays_over game position s lines more draws further ending e =
+    go-splits game lines more further position s draws ∙ over-on game more further ending (go game position s lines draws) e

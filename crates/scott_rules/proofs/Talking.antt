@@ -5,6 +5,7 @@ use Rattle.std.specs.List.{list_all}
 use Rattle.adv_io.specs.History.{lines_taken, draws_taken}
 use Rattle.scott_types.specs.declared.parts.Item.{Item}
 use Rattle.scott_types.specs.declared.states.State.{State}
+use Rattle.scott_types.specs.declared.styles.Style.{Style}
 use Rattle.scott_types.specs.declared.commands.Heard.{Heard}
 use Rattle.scott_types.specs.declared.commands.Heard.TheVariants.{Blank, Unknown, Command}
 use Rattle.scott_types.specs.declared.commands.Column.TheVariants.{Nouns}
@@ -16,8 +17,9 @@ use Rattle.scott_types.specs.declared.endings.Transfer.{Transfer}
 use Rattle.scott_types.specs.declared.endings.Transfer.TheVariants.{PickUp, PutDown}
 use Rattle.scott_types.specs.declared.phrases.Phrase.TheVariants.{TooMuch, ItemDone, DarkGet, BeyondPower, Done as DonePhrase, WhatItem, BrokenNeck, NoExitThere, Moved, DarkMove, NeedDirection, Prompt}
 use Rattle.scott_types.specs.Action.{is_zero_action}
-use Rattle.scott_types.specs.Database.{Database, action_at, room_at}
-use Rattle.scott_types.specs.Phrase.{text_of}
+use Rattle.scott_types.specs.Style.{Game}
+use Rattle.scott_types.specs.Database.{action_at, room_at}
+use Rattle.scott_types.specs.Phrase.{text_of, text_in}
 use Rattle.scott_types.specs.Room.{exit_of}
 use Rattle.scott_types.specs.State.{is_dark}
 use Rattle.scott_types.specs.ItemText.{get_word, shown}
@@ -93,27 +95,27 @@ note-talks : (zero : Bool) (line : ℕ) → Talks (cond zero [] (Noted line ∷ 
 note-talks true line = refl
 note-talks false line = refl
 
-try_action-talks : (db : Database) (noun : List ℕ) (line : ℕ) (s : State) → Talks (try_action db noun line s).events
-try_action-talks db noun line s =
-    Talks-append (note_of (action_at db line) line) (said_steps (action_result db noun line s).events)
-    (note-talks (is_zero_action (action_at db line)) line) (Talks-said_steps (action_result db noun line s).events)
+try_action-talks : (game : Game) (noun : List ℕ) (line : ℕ) (s : State) → Talks (try_action game noun line s).events
+try_action-talks game noun line s =
+    Talks-append (note_of (action_at game.db line) line) (said_steps (action_result game noun line s).events)
+    (note-talks (is_zero_action (action_at game.db line)) line) (Talks-said_steps (action_result game noun line s).events)
 
-tail_tried-talks : (db : Database) (noun lines : List ℕ) → AlwaysTalks (tail_tried db noun lines)
-tail_tried-talks db noun [] s = refl
-tail_tried-talks db noun (line ∷ lines) s =
-    Talks-and_then (tail_action db noun line s) (tail_tried db noun lines) (try_action-talks db noun line s) (tail_tried-talks db noun lines)
+tail_tried-talks : (game : Game) (noun lines : List ℕ) → AlwaysTalks (tail_tried game noun lines)
+tail_tried-talks game noun [] s = refl
+tail_tried-talks game noun (line ∷ lines) s =
+    Talks-and_then (tail_action game noun line s) (tail_tried game noun lines) (try_action-talks game noun line s) (tail_tried-talks game noun lines)
 
-after_head-talks : (ran : Ran) (db : Database) (noun tail : List ℕ) (t : Traced Step ActionOutcome) → Talks t.events → Talks (after_head ran db noun tail t).events
-after_head-talks (Passed true) db noun tail t h =
-    Talks-append t.events (tail_tried db noun tail t.value.state).events h (tail_tried-talks db noun tail t.value.state)
-after_head-talks (Passed false) db noun tail t h = h
-after_head-talks Not db noun tail t h = h
-after_head-talks (Ended ending) db noun tail t h = h
+after_head-talks : (ran : Ran) (game : Game) (noun tail : List ℕ) (t : Traced Step ActionOutcome) → Talks t.events → Talks (after_head ran game noun tail t).events
+after_head-talks (Passed true) game noun tail t h =
+    Talks-append t.events (tail_tried game noun tail t.value.state).events h (tail_tried-talks game noun tail t.value.state)
+after_head-talks (Passed false) game noun tail t h = h
+after_head-talks Not game noun tail t h = h
+after_head-talks (Ended ending) game noun tail t h = h
 
-pub group_tried-talks : (db : Database) (noun : List ℕ) (g : Group) (s : State) → Talks (group_tried db noun g s).events
-group_tried-talks db noun g s =
-    let head = try_action db noun g.head s in
-    after_head-talks head.value.ran db noun g.tail head (try_action-talks db noun g.head s)
+pub group_tried-talks : (game : Game) (noun : List ℕ) (g : Group) (s : State) → Talks (group_tried game noun g s).events
+group_tried-talks game noun g s =
+    let head = try_action game noun g.head s in
+    after_head-talks head.value.ran game noun g.tail head (try_action-talks game noun g.head s)
 
 -- ---- the search
 
@@ -122,120 +124,120 @@ search_after-talks Not t next h rest = Talks-append t.events (next t.value.state
 search_after-talks (Passed more) t next h rest = h
 search_after-talks (Ended ending) t next h rest = h
 
-search_group-talks : (b : Bool) (db : Database) (typed : List ℕ) (g : Group) (s : State) (next : State → Traced Step SearchOutcome) → AlwaysTalks next → Talks (search_group b db typed g s next).events
-search_group-talks true db typed g s next rest =
-    let t = group_tried db typed g s in search_after-talks t.value.ran t next (group_tried-talks db typed g s) rest
-search_group-talks false db typed g s next rest = rest s
+search_group-talks : (b : Bool) (game : Game) (typed : List ℕ) (g : Group) (s : State) (next : State → Traced Step SearchOutcome) → AlwaysTalks next → Talks (search_group b game typed g s next).events
+search_group-talks true game typed g s next rest =
+    let t = group_tried game typed g s in search_after-talks t.value.ran t next (group_tried-talks game typed g s) rest
+search_group-talks false game typed g s next rest = rest s
 
-pub search_result-talks : (db : Database) (typed : List ℕ) (verb : ℕ) (noun : Option ℕ) (gs : List Group) → AlwaysTalks (search_result db typed verb noun gs)
-search_result-talks db typed verb noun [] s = refl
-search_result-talks db typed verb noun (g ∷ gs) s =
-    search_group-talks (is_for verb noun g) db typed g s (search_result db typed verb noun gs) (search_result-talks db typed verb noun gs)
+pub search_result-talks : (game : Game) (typed : List ℕ) (verb : ℕ) (noun : Option ℕ) (gs : List Group) → AlwaysTalks (search_result game typed verb noun gs)
+search_result-talks game typed verb noun [] s = refl
+search_result-talks game typed verb noun (g ∷ gs) s =
+    search_group-talks (is_for verb noun g) game typed g s (search_result game typed verb noun gs) (search_result-talks game typed verb noun gs)
 
 -- ---- getting and dropping
 
-all_moved-talks : (b : Bool) (t : Transfer) (i : ℕ) (item : Item) (s : State) (next : State → Traced Step AllOutcome) → AlwaysTalks next → Talks (all_moved b t i item s next).events
-all_moved-talks true t i item s next rest = Talks-append (said_steps (text_of TooMuch)) [] (Talks-said_steps (text_of TooMuch)) refl
-all_moved-talks false t i item s next rest =
+all_moved-talks : (b : Bool) (style : Style) (t : Transfer) (i : ℕ) (item : Item) (s : State) (next : State → Traced Step AllOutcome) → AlwaysTalks next → Talks (all_moved b style t i item s next).events
+all_moved-talks true style t i item s next rest = Talks-append (said_steps (text_in style TooMuch)) [] (Talks-said_steps (text_in style TooMuch)) refl
+all_moved-talks false style t i item s next rest =
     let said = shown item.text ++ text_of ItemDone in
     Talks-append (said_steps said) (next (transferred t i s)).events (Talks-said_steps said) (rest (transferred t i s))
 
-all_after-talks : (found : Found) (t : Transfer) (db : Database) (i : ℕ) (item : Item) (s : State) (next : State → Traced Step AllOutcome) → AlwaysTalks next → Talks (all_after found t db i item s next).events
-all_after-talks (Over ending) t db i item s next rest = refl
-all_after-talks Done t db i item s next rest = all_moved-talks (is_refused t db s) t i item s next rest
-all_after-talks Matched t db i item s next rest = all_moved-talks (is_refused t db s) t i item s next rest
-all_after-talks NoMatch t db i item s next rest = all_moved-talks (is_refused t db s) t i item s next rest
+all_after-talks : (found : Found) (t : Transfer) (game : Game) (i : ℕ) (item : Item) (s : State) (next : State → Traced Step AllOutcome) → AlwaysTalks next → Talks (all_after found t game i item s next).events
+all_after-talks (Over ending) t game i item s next rest = refl
+all_after-talks Done t game i item s next rest = all_moved-talks (is_refused t game.db s) game.style t i item s next rest
+all_after-talks Matched t game i item s next rest = all_moved-talks (is_refused t game.db s) game.style t i item s next rest
+all_after-talks NoMatch t game i item s next rest = all_moved-talks (is_refused t game.db s) game.style t i item s next rest
 
-all_item-talks : (b : Bool) (t : Transfer) (db : Database) (typed : List ℕ) (i : ℕ) (item : Item) (s : State) (next : State → Traced Step AllOutcome) → AlwaysTalks next → Talks (all_item b t db typed i item s next).events
-all_item-talks true t db typed i item s next rest =
-    let noun = which db Nouns (get_word item.text) in
-    let found = search_result db typed (verb_for t) noun (groups db) s in
-    Talks-append found.events (all_after found.value.found t db i item found.value.state next).events
-    (search_result-talks db typed (verb_for t) noun (groups db) s)
-    (all_after-talks found.value.found t db i item found.value.state next rest)
-all_item-talks false t db typed i item s next rest = rest s
+all_item-talks : (b : Bool) (t : Transfer) (game : Game) (typed : List ℕ) (i : ℕ) (item : Item) (s : State) (next : State → Traced Step AllOutcome) → AlwaysTalks next → Talks (all_item b t game typed i item s next).events
+all_item-talks true t game typed i item s next rest =
+    let noun = which game.db Nouns (get_word item.text) in
+    let found = search_result game typed (verb_for t) noun (groups game.db) s in
+    Talks-append found.events (all_after found.value.found t game i item found.value.state next).events
+    (search_result-talks game typed (verb_for t) noun (groups game.db) s)
+    (all_after-talks found.value.found t game i item found.value.state next rest)
+all_item-talks false t game typed i item s next rest = rest s
 
-all_items-talks : (t : Transfer) (db : Database) (typed : List ℕ) (i : ℕ) (items : List Item) → AlwaysTalks (all_items t db typed i items)
-all_items-talks t db typed i [] s = refl
-all_items-talks t db typed i (item ∷ items) s =
-    all_item-talks (is_taken t i item s) t db typed i item s (all_items t db typed (i + 1) items) (all_items-talks t db typed (i + 1) items)
+all_items-talks : (t : Transfer) (game : Game) (typed : List ℕ) (i : ℕ) (items : List Item) → AlwaysTalks (all_items t game typed i items)
+all_items-talks t game typed i [] s = refl
+all_items-talks t game typed i (item ∷ items) s =
+    all_item-talks (is_taken t i item s) t game typed i item s (all_items t game typed (i + 1) items) (all_items-talks t game typed (i + 1) items)
 
-all_from-talks : (b : Bool) (t : Transfer) (db : Database) (typed : List ℕ) (s : State) → Talks (all_from b t db typed s).events
-all_from-talks true t db typed s = Talks-said_steps (text_of DarkGet)
-all_from-talks false t db typed s =
-    let w = all_items t db typed 0 db.items s in
+all_from-talks : (b : Bool) (t : Transfer) (game : Game) (typed : List ℕ) (s : State) → Talks (all_from b t game typed s).events
+all_from-talks true t game typed s = Talks-said_steps (text_of DarkGet)
+all_from-talks false t game typed s =
+    let w = all_items t game typed 0 game.db.items s in
     let said = cond w.value.any_taken [] (none_taken t) in
-    Talks-append w.events (said_steps said) (all_items-talks t db typed 0 db.items s) (Talks-said_steps said)
+    Talks-append w.events (said_steps said) (all_items-talks t game typed 0 game.db.items s) (Talks-said_steps said)
 
-one_moved-talks : (t : Transfer) (item : Option ℕ) (s : State) → Talks (one_moved t item s).events
-one_moved-talks t None s = Talks-said_steps (text_of BeyondPower)
-one_moved-talks t (Some item) s = Talks-said_steps (text_of DonePhrase)
+one_moved-talks : (style : Style) (t : Transfer) (item : Option ℕ) (s : State) → Talks (one_moved style t item s).events
+one_moved-talks style t None s = Talks-said_steps (text_in style BeyondPower)
+one_moved-talks style t (Some item) s = Talks-said_steps (text_of DonePhrase)
 
-one_from-talks : (b : Bool) (t : Transfer) (db : Database) (noun : ℕ) (s : State) → Talks (one_from b t db noun s).events
-one_from-talks true t db noun s = Talks-said_steps (text_of TooMuch)
-one_from-talks false t db noun s = one_moved-talks t (item_named t db.header.length (root db noun) 0 db.items s) s
+one_from-talks : (b : Bool) (t : Transfer) (game : Game) (noun : ℕ) (s : State) → Talks (one_from b t game noun s).events
+one_from-talks true t game noun s = Talks-said_steps (text_in game.style TooMuch)
+one_from-talks false t game noun s = one_moved-talks game.style t (item_named t game.db.header.length (root game.db noun) 0 game.db.items s) s
 
-one_transferred-talks : (t : Transfer) (db : Database) (noun : Option ℕ) (s : State) → Talks (one_transferred t db noun s).events
-one_transferred-talks t db None s = Talks-said_steps (text_of WhatItem)
-one_transferred-talks t db (Some noun) s = one_from-talks (is_refused t db s) t db noun s
+one_transferred-talks : (t : Transfer) (game : Game) (noun : Option ℕ) (s : State) → Talks (one_transferred t game noun s).events
+one_transferred-talks t game None s = Talks-said_steps (text_of WhatItem)
+one_transferred-talks t game (Some noun) s = one_from-talks (is_refused t game.db s) t game noun s
 
-transfer-talks : (t : Transfer) (db : Database) (typed : List ℕ) (noun : Option ℕ) (s : State) → Talks (transfer t db typed noun s).events
-transfer-talks t db typed noun s =
-    Talks-cond (is_all typed) (all_transferred t db typed s) (one_transferred t db noun s)
-    (all_from-talks (is_too_dark t s) t db typed s) (one_transferred-talks t db noun s)
+transfer-talks : (t : Transfer) (game : Game) (typed : List ℕ) (noun : Option ℕ) (s : State) → Talks (transfer t game typed noun s).events
+transfer-talks t game typed noun s =
+    Talks-cond (is_all typed) (all_transferred t game typed s) (one_transferred t game noun s)
+    (all_from-talks (is_too_dark t s) t game typed s) (one_transferred-talks t game noun s)
 
 -- ---- commands
 
-no_way-talks : (b : Bool) (s : State) → Talks (no_way b s).events
-no_way-talks true s = Talks-said_steps (text_of BrokenNeck)
-no_way-talks false s = Talks-said_steps (text_of NoExitThere)
+no_way-talks : (style : Style) (b : Bool) (s : State) → Talks (no_way style b s).events
+no_way-talks style true s = Talks-said_steps (text_in style BrokenNeck)
+no_way-talks style false s = Talks-said_steps (text_in style NoExitThere)
 
-way-talks : (room : ℕ) (s : State) → Talks (way room s).events
-way-talks room s =
-    Talks-cond (eqb room 0) (no_way (is_dark s) s) (traced_text (text_of Moved) (goes_on (moved_to room s))) (no_way-talks (is_dark s) s) (Talks-said_steps (text_of Moved))
+way-talks : (style : Style) (room : ℕ) (s : State) → Talks (way style room s).events
+way-talks style room s =
+    Talks-cond (eqb room 0) (no_way style (is_dark s) s) (traced_text (text_of Moved) (goes_on (moved_to room s))) (no_way-talks style (is_dark s) s) (Talks-said_steps (text_of Moved))
 
-walk_result-talks : (db : Database) (noun : ℕ) (s : State) → Talks (walk_result db noun s).events
-walk_result-talks db noun s =
+walk_result-talks : (game : Game) (noun : ℕ) (s : State) → Talks (walk_result game noun s).events
+walk_result-talks game noun s =
     let said = cond (is_dark s) (text_of DarkMove) [] in
-    let room = exit_of (length db.rooms) (room_at db s.room).exits (noun - 1) in
-    Talks-append (said_steps said) (way room s).events (Talks-said_steps said) (way-talks room s)
+    let room = exit_of (length game.db.rooms) (room_at game.db s.room).exits (noun - 1) in
+    Talks-append (said_steps said) (way game.style room s).events (Talks-said_steps said) (way-talks game.style room s)
 
-unmatched-talks : (db : Database) (typed : List ℕ) (verb : ℕ) (noun : Option ℕ) (found : Found) (s : State) → Talks (unmatched db typed verb noun found s).events
-unmatched-talks db typed verb noun found s =
-    let refused = traced_text (not_done found) (goes_on s) in
-    let dropped = transfer PutDown db typed noun s in
-    Talks-cond (eqb verb get_verb) (transfer PickUp db typed noun s) (cond (eqb verb drop_verb) dropped refused)
-    (transfer-talks PickUp db typed noun s)
-    (Talks-cond (eqb verb drop_verb) dropped refused (transfer-talks PutDown db typed noun s) (Talks-said_steps (not_done found)))
+unmatched-talks : (game : Game) (typed : List ℕ) (verb : ℕ) (noun : Option ℕ) (found : Found) (s : State) → Talks (unmatched game typed verb noun found s).events
+unmatched-talks game typed verb noun found s =
+    let refused = traced_text (not_done game.style found) (goes_on s) in
+    let dropped = transfer PutDown game typed noun s in
+    Talks-cond (eqb verb get_verb) (transfer PickUp game typed noun s) (cond (eqb verb drop_verb) dropped refused)
+    (transfer-talks PickUp game typed noun s)
+    (Talks-cond (eqb verb drop_verb) dropped refused (transfer-talks PutDown game typed noun s) (Talks-said_steps (not_done game.style found)))
 
-by_found-talks : (found : Found) (db : Database) (typed : List ℕ) (verb : ℕ) (noun : Option ℕ) (s : State) → Talks (by_found found db typed verb noun s).events
-by_found-talks (Over ending) db typed verb noun s = refl
-by_found-talks Done db typed verb noun s = refl
-by_found-talks Matched db typed verb noun s = unmatched-talks db typed verb noun Matched s
-by_found-talks NoMatch db typed verb noun s = unmatched-talks db typed verb noun NoMatch s
+by_found-talks : (found : Found) (game : Game) (typed : List ℕ) (verb : ℕ) (noun : Option ℕ) (s : State) → Talks (by_found found game typed verb noun s).events
+by_found-talks (Over ending) game typed verb noun s = refl
+by_found-talks Done game typed verb noun s = refl
+by_found-talks Matched game typed verb noun s = unmatched-talks game typed verb noun Matched s
+by_found-talks NoMatch game typed verb noun s = unmatched-talks game typed verb noun NoMatch s
 
-by_actions-talks : (db : Database) (typed : List ℕ) (verb : ℕ) (noun : Option ℕ) (s : State) → Talks (by_actions db typed verb noun s).events
-by_actions-talks db typed verb noun s =
-    let t = search_result db typed verb noun (groups db) s in
-    Talks-append t.events (by_found t.value.found db typed verb noun t.value.state).events
-    (search_result-talks db typed verb noun (groups db) s) (by_found-talks t.value.found db typed verb noun t.value.state)
+by_actions-talks : (game : Game) (typed : List ℕ) (verb : ℕ) (noun : Option ℕ) (s : State) → Talks (by_actions game typed verb noun s).events
+by_actions-talks game typed verb noun s =
+    let t = search_result game typed verb noun (groups game.db) s in
+    Talks-append t.events (by_found t.value.found game typed verb noun t.value.state).events
+    (search_result-talks game typed verb noun (groups game.db) s) (by_found-talks t.value.found game typed verb noun t.value.state)
 
-going-talks : (db : Database) (typed : List ℕ) (noun : Option ℕ) (s : State) → Talks (going db typed noun s).events
-going-talks db typed None s = Talks-said_steps (text_of NeedDirection)
-going-talks db typed (Some noun) s =
-    Talks-cond (is_direction noun) (walk_result db noun s) (by_actions db typed go_verb (Some noun) s) (walk_result-talks db noun s) (by_actions-talks db typed go_verb (Some noun) s)
+going-talks : (game : Game) (typed : List ℕ) (noun : Option ℕ) (s : State) → Talks (going game typed noun s).events
+going-talks game typed None s = Talks-said_steps (text_of NeedDirection)
+going-talks game typed (Some noun) s =
+    Talks-cond (is_direction noun) (walk_result game noun s) (by_actions game typed go_verb (Some noun) s) (walk_result-talks game noun s) (by_actions-talks game typed go_verb (Some noun) s)
 
-command_result-talks : (db : Database) (typed : List ℕ) (verb : ℕ) (noun : Option ℕ) (s : State) → Talks (command_result db typed verb noun s).events
-command_result-talks db typed verb noun s =
-    Talks-cond (eqb verb go_verb) (going db typed noun s) (by_actions db typed verb noun s) (going-talks db typed noun s) (by_actions-talks db typed verb noun s)
+command_result-talks : (game : Game) (typed : List ℕ) (verb : ℕ) (noun : Option ℕ) (s : State) → Talks (command_result game typed verb noun s).events
+command_result-talks game typed verb noun s =
+    Talks-cond (eqb verb go_verb) (going game typed noun s) (by_actions game typed verb noun s) (going-talks game typed noun s) (by_actions-talks game typed verb noun s)
 
-turn_ended-talks : (over : Option ℕ) (s : State) → Talks (turn_ended over s).events
-turn_ended-talks None s = Talks-said_steps (light_counted s).events
-turn_ended-talks (Some ending) s = refl
+turn_ended-talks : (style : Style) (over : Option ℕ) (s : State) → Talks (turn_ended style over s).events
+turn_ended-talks style None s = Talks-said_steps (light_counted style s).events
+turn_ended-talks style (Some ending) s = refl
 
-pub by_heard-talks : (h : Heard) (db : Database) (line : List ℕ) (s : State) → Talks (by_heard h db line s).events
-by_heard-talks Blank db line s = Talks-said_steps ([] ++ text_of Prompt)
-by_heard-talks (Unknown start size) db line s = Talks-said_steps (unknown_word (word_at line (start, size)) ++ text_of Prompt)
-by_heard-talks (Command verb noun) db line s =
-    let t = command_result db (typed_noun line) verb noun s in
-    Talks-append t.events (turn_ended t.value.over t.value.state).events (command_result-talks db (typed_noun line) verb noun s) (turn_ended-talks t.value.over t.value.state)
+pub by_heard-talks : (h : Heard) (game : Game) (line : List ℕ) (s : State) → Talks (by_heard h game line s).events
+by_heard-talks Blank game line s = Talks-said_steps ([] ++ text_of Prompt)
+by_heard-talks (Unknown start size) game line s = Talks-said_steps (unknown_word (word_at line (start, size)) ++ text_of Prompt)
+by_heard-talks (Command verb noun) game line s =
+    let t = command_result game (typed_noun line) verb noun s in
+    Talks-append t.events (turn_ended game.style t.value.over t.value.state).events (command_result-talks game (typed_noun line) verb noun s) (turn_ended-talks game.style t.value.over t.value.state)

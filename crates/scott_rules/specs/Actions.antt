@@ -7,6 +7,7 @@ use Rattle.scott_types.specs.declared.states.State.{State}
 use Rattle.scott_types.specs.declared.endings.Ran.{Ran}
 use Rattle.scott_types.specs.declared.endings.Ran.TheVariants.{Not, Passed, Over}
 use Rattle.scott_types.specs.Database.{Database, action_at}
+use Rattle.scott_types.specs.Style.{Game}
 use Rattle.scott_types.specs.Condition.{condition_of}
 use Rattle.scott_types.specs.Opcode.{opcode_of}
 use Rattle.scott_types.specs.Action.{argument_of, condition_code, parameters, opcode_numbers, is_zero_action}
@@ -45,17 +46,17 @@ abbrev pub ran_to : Bool → Traced ℕ Outcome → Traced ℕ ActionOutcome
 ran_to more t = traced t.events (record { state = t.value.state; ran = ran_of t.value.over more })
 
 -- a line whose conditions hold does its opcodes; any other does nothing
-abbrev pub performed : Bool → Database → List ℕ → Action → State → Traced ℕ ActionOutcome
-performed true db noun a s = ran_to (goes_on_after a) (run_opcodes db noun (map opcode_of (opcode_numbers a)) (parameters a) s)
-performed false db noun a s = traced [] (record { state = s; ran = Not })
+abbrev pub performed : Bool → Game → List ℕ → Action → State → Traced ℕ ActionOutcome
+performed true game noun a s = ran_to (goes_on_after a) (run_opcodes game noun (map opcode_of (opcode_numbers a)) (parameters a) s)
+performed false game noun a s = traced [] (record { state = s; ran = Not })
 
-abbrev pub action_result : Database → List ℕ → ℕ → State → Traced ℕ ActionOutcome
-action_result db noun line s = performed (passes db s (action_at db line)) db noun (action_at db line) s
+abbrev pub action_result : Game → List ℕ → ℕ → State → Traced ℕ ActionOutcome
+action_result game noun line s = performed (passes game.db s (action_at game.db line)) game noun (action_at game.db line) s
 
 -- an action that is tried is noted by its number, unless it is all zeros
 abbrev pub note_of : Action → ℕ → List Step
 note_of a line = if is_zero_action a then [] else Noted line ∷ []
 
 -- the same as steps of a play, in which the action is noted whether or not it passes
-abbrev pub try_action : Database → List ℕ → ℕ → State → Traced Step ActionOutcome
-try_action db noun line s = after (note_of (action_at db line) line) (as_steps (action_result db noun line s))
+abbrev pub try_action : Game → List ℕ → ℕ → State → Traced Step ActionOutcome
+try_action game noun line s = after (note_of (action_at game.db line) line) (as_steps (action_result game noun line s))

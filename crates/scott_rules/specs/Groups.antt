@@ -7,6 +7,7 @@ use Rattle.scott_types.specs.declared.endings.Ran.TheVariants.{Not, Passed, Over
 use Rattle.scott_types.specs.declared.endings.Halt.{Halt}
 use Rattle.scott_types.specs.declared.endings.Halt.TheVariants.{Through, Waits, Over as AtEnd}
 use Rattle.scott_types.specs.Database.{Database}
+use Rattle.scott_types.specs.Style.{Game}
 use Rattle.scott_types.specs.Action.{verb_of, noun_of}
 use Rattle.adv_io.specs.Steps.{Drew, Step, Traced, after, traced}
 use Rattle.scott_rules.specs.Outcomes.{Outcome, goes_on, and_then}
@@ -47,13 +48,13 @@ over_of (Over ending) = Some ending
 abbrev pub outcome_of : ActionOutcome → Outcome
 outcome_of o = record { state = o.state; over = over_of o.ran }
 
-abbrev pub tail_action : Database → List ℕ → ℕ → State → Traced Step Outcome
-tail_action db noun line s = let t = try_action db noun line s in traced t.events (outcome_of t.value)
+abbrev pub tail_action : Game → List ℕ → ℕ → State → Traced Step Outcome
+tail_action game noun line s = let t = try_action game noun line s in traced t.events (outcome_of t.value)
 
 -- each line of a tail is tried, whatever the others did, until the game is over
-abbrev pub tail_tried : Database → List ℕ → List ℕ → State → Traced Step Outcome
-tail_tried db noun [] s = traced [] (goes_on s)
-tail_tried db noun (line ∷ lines) s = and_then (tail_action db noun line s) (tail_tried db noun lines)
+abbrev pub tail_tried : Game → List ℕ → List ℕ → State → Traced Step Outcome
+tail_tried game noun [] s = traced [] (goes_on s)
+tail_tried game noun (line ∷ lines) s = and_then (tail_action game noun line s) (tail_tried game noun lines)
 
 abbrev pub passed_or_over : Option ℕ → Ran
 passed_or_over None = Passed true
@@ -63,14 +64,14 @@ abbrev pub with_tail : Traced Step Outcome → Traced Step ActionOutcome
 with_tail t = traced t.events (record { state = t.value.state; ran = passed_or_over t.value.over })
 
 -- the tail is tried where the head passed and goes on
-abbrev pub after_head : Ran → Database → List ℕ → List ℕ → Traced Step ActionOutcome → Traced Step ActionOutcome
-after_head (Passed true) db noun tail t = after t.events (with_tail (tail_tried db noun tail t.value.state))
-after_head _ db noun tail t = t
+abbrev pub after_head : Ran → Game → List ℕ → List ℕ → Traced Step ActionOutcome → Traced Step ActionOutcome
+after_head (Passed true) game noun tail t = after t.events (with_tail (tail_tried game noun tail t.value.state))
+after_head _ game noun tail t = t
 
-abbrev pub group_tried : Database → List ℕ → Group → State → Traced Step ActionOutcome
-group_tried db noun g s =
-    let head = try_action db noun g.head s in
-    after_head head.value.ran db noun g.tail head
+abbrev pub group_tried : Game → List ℕ → Group → State → Traced Step ActionOutcome
+group_tried game noun g s =
+    let head = try_action game noun g.head s in
+    after_head head.value.ran game noun g.tail head
 
 -- ---- the automatic step
 
@@ -85,20 +86,20 @@ auto_after None t draws next = after t.events (next t.value.state draws)
 auto_after (Some ending) t draws next = traced t.events (record { state = t.value.state; draws = draws; halt = AtEnd ending })
 
 -- a group is tried where the draw is at most its noun; no line was typed
-abbrev pub auto_tried : Bool → Database → Group → State → List ℕ → (State → List ℕ → Traced Step AutoOutcome) → Traced Step AutoOutcome
-auto_tried true db g s draws next = let t = group_tried db [] g s in auto_after (over_of t.value.ran) t draws next
-auto_tried false db g s draws next = next s draws
+abbrev pub auto_tried : Bool → Game → Group → State → List ℕ → (State → List ℕ → Traced Step AutoOutcome) → Traced Step AutoOutcome
+auto_tried true game g s draws next = let t = group_tried game [] g s in auto_after (over_of t.value.ran) t draws next
+auto_tried false game g s draws next = next s draws
 
 -- a group takes one draw, and waits for it where none is left
-abbrev pub auto_drawn : Database → Group → State → List ℕ → (State → List ℕ → Traced Step AutoOutcome) → Traced Step AutoOutcome
-auto_drawn db g s [] next = traced [] (record { state = s; draws = []; halt = Waits g.head })
-auto_drawn db g s (draw ∷ draws) next = after (Drew draw ∷ []) (auto_tried (nat_le draw (noun_of g.vocab)) db g s draws next)
+abbrev pub auto_drawn : Game → Group → State → List ℕ → (State → List ℕ → Traced Step AutoOutcome) → Traced Step AutoOutcome
+auto_drawn game g s [] next = traced [] (record { state = s; draws = []; halt = Waits g.head })
+auto_drawn game g s (draw ∷ draws) next = after (Drew draw ∷ []) (auto_tried (nat_le draw (noun_of g.vocab)) game g s draws next)
 
-abbrev pub auto_group : Bool → Database → Group → State → List ℕ → (State → List ℕ → Traced Step AutoOutcome) → Traced Step AutoOutcome
-auto_group true db g s draws next = auto_drawn db g s draws next
-auto_group false db g s draws next = next s draws
+abbrev pub auto_group : Bool → Game → Group → State → List ℕ → (State → List ℕ → Traced Step AutoOutcome) → Traced Step AutoOutcome
+auto_group true game g s draws next = auto_drawn game g s draws next
+auto_group false game g s draws next = next s draws
 
 -- the groups of verb 0, in order
-abbrev pub automatic : Database → List Group → State → List ℕ → Traced Step AutoOutcome
-automatic db [] s draws = traced [] (record { state = s; draws = draws; halt = Through })
-automatic db (g ∷ gs) s draws = auto_group (verb_of g.vocab == 0) db g s draws (automatic db gs)
+abbrev pub automatic : Game → List Group → State → List ℕ → Traced Step AutoOutcome
+automatic game [] s draws = traced [] (record { state = s; draws = draws; halt = Through })
+automatic game (g ∷ gs) s draws = auto_group (verb_of g.vocab == 0) game g s draws (automatic game gs)

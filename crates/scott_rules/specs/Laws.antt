@@ -1,7 +1,7 @@
--- The laws of the rules, in the subject's own words.
+-- The laws of the rules, in the subject's own words, for every style.
 use Rattle.std.specs.Prelude.{ℕ, ◌≡◌, ◌≢◌, ◌<◌, ◌≤◌, ◌++◌, List, [], length, slice_index_or, IsTrue, IsFalse, MatchOption}
-use Rattle.adv_io.specs.History.{lines_taken, draws_taken}
 use Rattle.scott_types.specs.declared.states.State.{State}
+use Rattle.scott_types.specs.declared.styles.Style.{Style}
 use Rattle.scott_types.specs.declared.commands.Column.{Column}
 use Rattle.scott_types.specs.declared.endings.Ran.TheVariants.{Not}
 use Rattle.scott_types.specs.declared.endings.Transfer.{Transfer}
@@ -9,10 +9,11 @@ use Rattle.scott_types.specs.declared.endings.Position.{Position}
 use Rattle.scott_types.specs.declared.endings.Position.TheVariants.{Fresh, Over}
 use Rattle.scott_types.specs.declared.opcodes.Opcode.{Opcode}
 use Rattle.scott_types.specs.Database.{Database}
+use Rattle.scott_types.specs.Style.{Game}
 use Rattle.scott_types.specs.Limits.{KeepsLimits}
 use Rattle.scott_types.specs.ItemText.{is_starred}
 use Rattle.scott_types.specs.State.{Fits}
-use Rattle.adv_io.specs.Steps.{Spends, Step, Traced, after, trace_of, traced}
+use Rattle.adv_io.specs.Steps.{Spends, Step, Traced, after, traced}
 use Rattle.scott_rules.specs.Words.{is_typed, spelling, entries_of, which}
 use Rattle.scott_rules.specs.Actions.{ActionOutcome, action_result}
 use Rattle.scott_rules.specs.Light.{light_counted}
@@ -61,27 +62,27 @@ pub record DoesNothing (s : State) (t : Traced ℕ ActionOutcome) : Type 0 where
 
 -- a line that doesn't pass says nothing and changes nothing
 abbrev pub FailedActionDoesNothing : Type 0
-FailedActionDoesNothing = (db : Database) (noun : List ℕ) (line : ℕ) (s : State)
-    → (action_result db noun line s).value.ran ≡ Not → DoesNothing s (action_result db noun line s)
+FailedActionDoesNothing = (game : Game) (noun : List ℕ) (line : ℕ) (s : State)
+    → (action_result game noun line s).value.ran ≡ Not → DoesNothing s (action_result game noun line s)
 
 -- ---- plays
 
 -- a play that stopped, gone on with more lines and draws, is the play on the joined lists
 abbrev pub PlaySplits : Type 0
-PlaySplits = (db : Database) (position : Position) (s : State) (lines more : List (List ℕ)) (draws further : List ℕ)
-    → go db position s (lines ++ more) (draws ++ further)
-    ≡ after (go db position s lines draws).events
-    (go db (go db position s lines draws).value.position (go db position s lines draws).value.state
-    ((go db position s lines draws).value.lines ++ more) ((go db position s lines draws).value.draws ++ further))
+PlaySplits = (game : Game) (position : Position) (s : State) (lines more : List (List ℕ)) (draws further : List ℕ)
+    → go game position s (lines ++ more) (draws ++ further)
+    ≡ after (go game position s lines draws).events
+    (go game (go game position s lines draws).value.position (go game position s lines draws).value.state
+    ((go game position s lines draws).value.lines ++ more) ((go game position s lines draws).value.draws ++ further))
 
 -- what a play takes and draws, followed by what is left, is what there was
 abbrev pub PlaySpends : Type 0
-PlaySpends = (db : Database) (position : Position) (s : State) (lines : List (List ℕ)) (draws : List ℕ)
-    → let t = go db position s lines draws in Spends lines draws t.events t.value.lines t.value.draws
+PlaySpends = (game : Game) (position : Position) (s : State) (lines : List (List ℕ)) (draws : List ℕ)
+    → let t = go game position s lines draws in Spends lines draws t.events t.value.lines t.value.draws
 
 -- a turn of the light leaves a state that fits
 abbrev pub LightFits : Type 0
-LightFits = (db : Database) (s : State) → KeepsLimits db → Fits db s → Fits db (light_counted s).value
+LightFits = (db : Database) (style : Style) (s : State) → KeepsLimits db → Fits db s → Fits db (light_counted style s).value
 
 -- an opcode leaves a state that fits
 abbrev pub OpcodeFits : Type 0
@@ -89,7 +90,7 @@ OpcodeFits = (db : Database) (opcode : Opcode) (p q : ℕ) (s : State) → Keeps
 
 -- an action line leaves a state that fits
 abbrev pub ActionFits : Type 0
-ActionFits = (db : Database) (noun : List ℕ) (line : ℕ) (s : State) → KeepsLimits db → Fits db s → Fits db (action_result db noun line s).value.state
+ActionFits = (game : Game) (noun : List ℕ) (line : ℕ) (s : State) → KeepsLimits game.db → Fits game.db s → Fits game.db (action_result game noun line s).value.state
 
 -- an item that is got or dropped leaves a state that fits
 abbrev pub TransferFits : Type 0
@@ -97,17 +98,17 @@ TransferFits = (db : Database) (t : Transfer) (item : ℕ) (s : State) → Keeps
 
 -- a walk in a direction leaves a state that fits
 abbrev pub WalkFits : Type 0
-WalkFits = (db : Database) (noun : ℕ) (s : State) → KeepsLimits db → Fits db s → Fits db (walk_result db noun s).value.state
+WalkFits = (game : Game) (noun : ℕ) (s : State) → KeepsLimits game.db → Fits game.db s → Fits game.db (walk_result game noun s).value.state
 
 -- every state that a play leaves fits its database
 abbrev pub PlayFits : Type 0
-PlayFits = (db : Database) (position : Position) (s : State) (lines : List (List ℕ)) (draws : List ℕ)
-    → KeepsLimits db → Fits db s → Fits db (go db position s lines draws).value.state
+PlayFits = (game : Game) (position : Position) (s : State) (lines : List (List ℕ)) (draws : List ℕ)
+    → KeepsLimits game.db → Fits game.db s → Fits game.db (go game position s lines draws).value.state
 
 -- a play stops at a prompt, at a draw or at the game's end, and never where a round begins
 abbrev pub PlayStops : Type 0
-PlayStops = (db : Database) (position : Position) (s : State) (lines : List (List ℕ)) (draws : List ℕ)
-    → (go db position s lines draws).value.position ≢ Fresh
+PlayStops = (game : Game) (position : Position) (s : State) (lines : List (List ℕ)) (draws : List ℕ)
+    → (go game position s lines draws).value.position ≢ Fresh
 
 -- the same play, with more lines and draws left
 abbrev pub with_more : List (List ℕ) → List ℕ → Traced Step PlayEnd → Traced Step PlayEnd
@@ -115,9 +116,9 @@ with_more more further t = traced t.events (record t.value { lines = t.value.lin
 
 -- an ending stays: more lines and draws are left untouched
 abbrev pub EndingStays : Type 0
-EndingStays = (db : Database) (position : Position) (s : State) (lines more : List (List ℕ)) (draws further : List ℕ) (ending : ℕ)
-    → (go db position s lines draws).value.position ≡ Over ending
-    → go db position s (lines ++ more) (draws ++ further) ≡ with_more more further (go db position s lines draws)
+EndingStays = (game : Game) (position : Position) (s : State) (lines more : List (List ℕ)) (draws further : List ℕ) (ending : ℕ)
+    → (go game position s lines draws).value.position ≡ Over ending
+    → go game position s (lines ++ more) (draws ++ further) ≡ with_more more further (go game position s lines draws)
 
 -- ---- endings
 
@@ -132,14 +133,14 @@ EndsWell _ = Unit
 
 -- what is done up to the prompt ends a game with 1, 2 or 3
 abbrev pub AdvanceEndsWell : Type 0
-AdvanceEndsWell = (db : Database) (position : Position) (s : State) (draws : List ℕ)
-    → EndsWell position → EndsWell (advance db position s draws).value.position
+AdvanceEndsWell = (game : Game) (position : Position) (s : State) (draws : List ℕ)
+    → EndsWell position → EndsWell (advance game position s draws).value.position
 
 -- the answer to a line ends a game with 1, 2 or 3
 abbrev pub AnswerEndsWell : Type 0
-AnswerEndsWell = (db : Database) (line : List ℕ) (s : State) → EndsWell (answer db line s).value.position
+AnswerEndsWell = (game : Game) (line : List ℕ) (s : State) → EndsWell (answer game line s).value.position
 
 -- a play ends a game with 1, 2 or 3
 abbrev pub EndingsAreThree : Type 0
-EndingsAreThree = (db : Database) (position : Position) (s : State) (lines : List (List ℕ)) (draws : List ℕ)
-    → EndsWell position → EndsWell (go db position s lines draws).value.position
+EndingsAreThree = (game : Game) (position : Position) (s : State) (lines : List (List ℕ)) (draws : List ℕ)
+    → EndsWell position → EndsWell (go game position s lines draws).value.position

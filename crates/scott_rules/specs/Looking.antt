@@ -1,17 +1,19 @@
--- What a look, the inventory and the score say.
-use Rattle.std.specs.Prelude.{ℕ, ◌*◌, ◌==◌, ◌&&◌, Bool, not, List, [], ◌∷◌, ◌++◌, map, filter, flat_map, zip, drop, length, count_by, decimal, ℤ, pos, int_div, if◌then◌else◌}
+-- What a look, the inventory and the score say, in a style.
+use Rattle.std.specs.Prelude.{ℕ, ◌*◌, ◌==◌, ◌&&◌, Bool, not, List, [], ◌∷◌, ◌++◌, map, filter, zip, drop, length, count_by, decimal, ℤ, pos, int_div, if◌then◌else◌}
 use Rattle.adv_io.specs.Text.{joined, joined_or}
 use Rattle.std.specs.Ordering.{int_eq}
 use Rattle.std.specs.Fmt.{signed_decimal}
 use Rattle.scott_types.specs.declared.parts.Item.{Item}
 use Rattle.scott_types.specs.declared.states.State.{State}
 use Rattle.scott_types.specs.declared.phrases.Phrase.{Phrase}
+use Rattle.scott_types.specs.declared.styles.Style.{Style}
 use Rattle.scott_types.specs.declared.phrases.Phrase.TheVariants.{TooDark, InA, ObviousExits, North, South, East, West, Up, Down, NoExits, BetweenExits, ListEnd, AlsoSee, BetweenItems, CarryingList, NothingCarried, Stored, Rating, WellDone, GameOver, Newline}
 use Rattle.scott_types.specs.Database.{Database, room_at}
 use Rattle.scott_types.specs.ItemText.{is_starred, shown, is_treasure}
 use Rattle.scott_types.specs.Room.{room_beyond}
 use Rattle.scott_types.specs.State.{is_dark, carried_place}
-use Rattle.scott_types.specs.Phrase.{text_of}
+use Rattle.scott_types.specs.Phrase.{text_of, text_in}
+use Rattle.scott_types.specs.Style.{Game}
 
 -- ---- lists in a text
 
@@ -22,8 +24,8 @@ chosen passes text entries partners = map (λ pair. text pair.0) (filter (λ pai
 -- ---- the look
 
 -- a room's text, with `I'm in a` unless it begins with `*`
-abbrev pub described : List ℕ → List ℕ
-described text = if is_starred text then drop 1 text else text_of InA ++ text
+abbrev pub described : Style → List ℕ → List ℕ
+described style text = if is_starred text then drop 1 text else text_in style InA ++ text
 
 abbrev pub directions : List Phrase
 directions = North ∷ South ∷ East ∷ West ∷ Up ∷ Down ∷ []
@@ -41,22 +43,24 @@ items_at_place items places place = chosen (λ at. at == place) (λ item. shown 
 abbrev pub items_at : Database → State → ℕ → List (List ℕ)
 items_at db s place = items_at_place db.items s.places.items place
 
-abbrev pub items_seen : List (List ℕ) → List ℕ
-items_seen [] = []
-items_seen (text ∷ texts) = text_of AlsoSee ++ (joined (text_of BetweenItems) (text ∷ texts) ++ text_of Newline)
+abbrev pub items_seen : Style → List (List ℕ) → List ℕ
+items_seen style [] = []
+items_seen style (text ∷ texts) = text_in style AlsoSee ++ (joined (text_of BetweenItems) (text ∷ texts) ++ text_of Newline)
 
-abbrev pub seen_in_light : Database → State → List ℕ
-seen_in_light db s =
-    described (room_at db s.room).text ++ (exits_listed (exit_names db s.room) ++ items_seen (items_at db s s.room))
+abbrev pub seen_in_light : Game → State → List ℕ
+seen_in_light game s =
+    described game.style (room_at game.db s.room).text
+    ++ (exits_listed (exit_names game.db s.room) ++ items_seen game.style (items_at game.db s s.room))
 
-abbrev pub looked : Database → State → List ℕ
-looked db s = if is_dark s then text_of TooDark else seen_in_light db s
+abbrev pub looked : Game → State → List ℕ
+looked game s = if is_dark s then text_in game.style TooDark else seen_in_light game s
 
 -- ---- the inventory
 
-abbrev pub inventory : Database → State → List ℕ
-inventory db s =
-    text_of CarryingList ++ (joined_or (text_of NothingCarried) (text_of BetweenItems) (items_at db s carried_place) ++ text_of ListEnd)
+abbrev pub inventory : Game → State → List ℕ
+inventory game s =
+    text_in game.style CarryingList
+    ++ (joined_or (text_of NothingCarried) (text_of BetweenItems) (items_at game.db s carried_place) ++ text_of ListEnd)
 
 -- ---- the score
 
@@ -86,13 +90,13 @@ abbrev pub praise : Bool → List ℕ
 praise all = if all then text_of WellDone ++ text_of GameOver else []
 
 -- the texts of a score, around its two numbers
-abbrev pub score_around : List ℕ → List ℕ → Bool → List ℕ
-score_around stored hundredths full =
-    text_of Stored ++ (stored ++ (text_of Rating ++ (hundredths ++ (text_of ListEnd ++ praise full))))
+abbrev pub score_around : Style → List ℕ → List ℕ → Bool → List ℕ
+score_around style stored hundredths full =
+    text_in style Stored ++ (stored ++ (text_of Rating ++ (hundredths ++ (text_of ListEnd ++ praise full))))
 
-abbrev pub score_text : ℤ → ℕ → List ℕ
-score_text treasures stored =
-    score_around (decimal stored) (signed_decimal (rate treasures stored)) (is_full_score treasures stored)
+abbrev pub score_text : Style → ℤ → ℕ → List ℕ
+score_text style treasures stored =
+    score_around style (decimal stored) (signed_decimal (rate treasures stored)) (is_full_score treasures stored)
 
-abbrev pub scored : Database → State → List ℕ
-scored db s = score_text db.header.treasures (stored_count db s)
+abbrev pub scored : Game → State → List ℕ
+scored game s = score_text game.style game.db.header.treasures (stored_count game.db s)

@@ -20,7 +20,8 @@ use Rattle.scott_types.specs.declared.phrases.Phrase.TheVariants.{TooMuch, Dead,
 use Rattle.scott_types.specs.declared.phrases.Phrase.TheVariants as phrase
 use Rattle.scott_types.specs.Database.{Database}
 use Rattle.scott_types.specs.Opcode.{uses}
-use Rattle.scott_types.specs.Phrase.{text_of}
+use Rattle.scott_types.specs.Phrase.{text_of, text_in}
+use Rattle.scott_types.specs.Style.{Game}
 use Rattle.scott_types.specs.State.{has_item, place_of, is_here, carried_count, carried_place, lamp, dark_flag, out_flag, with_place, with_flag, is_room_of}
 use Rattle.adv_io.specs.Steps.{Traced, traced}
 use Rattle.scott_rules.specs.Outcomes.{Outcome, goes_on, and_then}
@@ -102,14 +103,14 @@ abbrev pub said_message : Database → ℕ → List ℕ
 said_message db message =
     if nat_lt message (length db.messages) then slice_index_or db.messages message [] ++ text_of phrase.Newline else []
 
-abbrev pub talk : Database → List ℕ → TalkOp → State → List ℕ
-talk db noun Look s = looked db s
-talk db noun Inventory s = inventory db s
-talk db noun Save s = text_of NoSaving
-talk db noun ShowCounter s = signed_decimal s.counter
-talk db noun Noun s = noun
-talk db noun NounLine s = noun ++ text_of phrase.Newline
-talk db noun Newline s = text_of phrase.Newline
+abbrev pub talk : Game → List ℕ → TalkOp → State → List ℕ
+talk game noun Look s = looked game s
+talk game noun Inventory s = inventory game s
+talk game noun Save s = text_of NoSaving
+talk game noun ShowCounter s = signed_decimal s.counter
+talk game noun Noun s = noun
+talk game noun NounLine s = noun ++ text_of phrase.Newline
+talk game noun Newline s = text_of phrase.Newline
 
 -- ---- one opcode
 
@@ -132,14 +133,14 @@ changed db Die p q s = dead db s
 changed db _ p q s = s
 
 -- what it says, of the state that it leaves, where the hands were full before it or not
-abbrev pub opcode_text : Database → List ℕ → Opcode → Bool → State → List ℕ
-opcode_text db noun (Say message) full s = said_message db message
-opcode_text db noun Get full s = if full then text_of TooMuch else []
-opcode_text db noun (Talk op) full s = talk db noun op s
-opcode_text db noun Score full s = scored db s
-opcode_text db noun Die full s = text_of Dead ++ looked db s
-opcode_text db noun Finish full s = text_of GameOver
-opcode_text db noun _ full s = []
+abbrev pub opcode_text : Game → List ℕ → Opcode → Bool → State → List ℕ
+opcode_text game noun (Say message) full s = said_message game.db message
+opcode_text game noun Get full s = if full then text_in game.style TooMuch else []
+opcode_text game noun (Talk op) full s = talk game noun op s
+opcode_text game noun Score full s = scored game s
+opcode_text game noun Die full s = text_in game.style Dead ++ looked game s
+opcode_text game noun Finish full s = text_of GameOver
+opcode_text game noun _ full s = []
 
 -- the endings: an opcode ended the game, the player fell in the dark, all treasures are stored
 abbrev pub by_opcode : ℕ
@@ -158,10 +159,10 @@ ending db Finish s = Some by_opcode
 ending db _ s = None
 
 -- what an opcode does
-abbrev pub opcode_effect : Database → List ℕ → Opcode → ℕ → ℕ → State → Traced ℕ Outcome
-opcode_effect db noun opcode p q s =
-    let after = changed db opcode p q s in
-    traced (opcode_text db noun opcode (is_full db s) after) (record { state = after; over = ending db opcode after })
+abbrev pub opcode_effect : Game → List ℕ → Opcode → ℕ → ℕ → State → Traced ℕ Outcome
+opcode_effect game noun opcode p q s =
+    let after = changed game.db opcode p q s in
+    traced (opcode_text game noun opcode (is_full game.db s) after) (record { state = after; over = ending game.db opcode after })
 
 -- ---- one opcode after another
 
@@ -171,11 +172,11 @@ takes db s Get = if is_full db s then 0 else 1
 takes db s opcode = uses opcode
 
 -- an opcode with the next of the parameters, each 0 where none is left
-abbrev pub op : Database → List ℕ → Opcode → List ℕ → State → Traced ℕ Outcome
-op db noun opcode params s = opcode_effect db noun opcode (slice_index params 0) (slice_index params 1) s
+abbrev pub op : Game → List ℕ → Opcode → List ℕ → State → Traced ℕ Outcome
+op game noun opcode params s = opcode_effect game noun opcode (slice_index params 0) (slice_index params 1) s
 
 -- opcodes in order, each with the parameters that those before it left, until the game is over
-abbrev pub run_opcodes : Database → List ℕ → List Opcode → List ℕ → State → Traced ℕ Outcome
-run_opcodes db noun [] params s = traced [] (goes_on s)
-run_opcodes db noun (opcode ∷ opcodes) params s =
-    and_then (op db noun opcode params s) (run_opcodes db noun opcodes (drop (takes db s opcode) params))
+abbrev pub run_opcodes : Game → List ℕ → List Opcode → List ℕ → State → Traced ℕ Outcome
+run_opcodes game noun [] params s = traced [] (goes_on s)
+run_opcodes game noun (opcode ∷ opcodes) params s =
+    and_then (op game noun opcode params s) (run_opcodes game noun opcodes (drop (takes game.db s opcode) params))

@@ -5,7 +5,7 @@ use Rattle.scott_types.specs.declared.endings.Ran.{Ran}
 use Rattle.scott_types.specs.declared.endings.Ran.TheVariants.{Not, Passed, Over as Ended}
 use Rattle.scott_types.specs.declared.endings.Found.{Found}
 use Rattle.scott_types.specs.declared.endings.Found.TheVariants.{Over, Done, Matched, NoMatch}
-use Rattle.scott_types.specs.Database.{Database}
+use Rattle.scott_types.specs.Style.{Game}
 use Rattle.scott_types.specs.Action.{verb_of, noun_of}
 use Rattle.adv_io.specs.Steps.{Step, Traced, after, traced}
 use Rattle.scott_rules.specs.Actions.{ActionOutcome}
@@ -36,11 +36,11 @@ search_after Not t next = after t.events (matched (next t.value.state))
 search_after (Passed more) t next = traced t.events (record { state = t.value.state; found = Done })
 search_after (Ended ending) t next = traced t.events (record { state = t.value.state; found = Over ending })
 
-abbrev pub search_group : Bool → Database → List ℕ → Group → State → (State → Traced Step SearchOutcome) → Traced Step SearchOutcome
-search_group true db typed g s next = let t = group_tried db typed g s in search_after t.value.ran t next
-search_group false db typed g s next = next s
+abbrev pub search_group : Bool → Game → List ℕ → Group → State → (State → Traced Step SearchOutcome) → Traced Step SearchOutcome
+search_group true game typed g s next = let t = group_tried game typed g s in search_after t.value.ran t next
+search_group false game typed g s next = next s
 
 -- the groups for a verb and a noun are tried in order, up to the first head that passes
-abbrev pub search_result : Database → List ℕ → ℕ → Option ℕ → List Group → State → Traced Step SearchOutcome
-search_result db typed verb noun [] s = traced [] (record { state = s; found = NoMatch })
-search_result db typed verb noun (g ∷ gs) s = search_group (is_for verb noun g) db typed g s (search_result db typed verb noun gs)
+abbrev pub search_result : Game → List ℕ → ℕ → Option ℕ → List Group → State → Traced Step SearchOutcome
+search_result game typed verb noun [] s = traced [] (record { state = s; found = NoMatch })
+search_result game typed verb noun (g ∷ gs) s = search_group (is_for verb noun g) game typed g s (search_result game typed verb noun gs)

@@ -2,7 +2,7 @@
 //! nothing, and is proved by computing the play.
 ghost use Rattle.scott_types.specs.Limits.{KeepsLimits};
 ghost use Rattle.scott_rules.specs.Games.{hill};
-ghost use Rattle.scott_rules.specs.Worked.{WordsHeard, HallAndHill, BlankLineAsksAgain, OneOfEach, RefusedGetLeavesItsParameter, CounterIsCapped, MessageIsSaid, DrawsPassAHeadOver, DrawsTryAllHeads, DrawsRunOut, ActionsNoted, GetAllEndsTheGame, GetAndDrop, ScoreGoesOn, FullScoreEnds, LightRunsOut, LightGrowsDim, DarkIsDangerous, ConditionFails, MissingParameterIsZero};
+ghost use Rattle.scott_rules.specs.Worked.{WordsHeard, HallAndHill, BlankLineAsksAgain, OneOfEach, RefusedGetLeavesItsParameter, CounterIsCapped, MessageIsSaid, DrawsPassAHeadOver, DrawsTryAllHeads, DrawsRunOut, ActionsNoted, GetAllEndsTheGame, GetAndDrop, ScoreGoesOn, FullScoreEnds, LightRunsOut, LightGrowsDim, DarkIsDangerous, ConditionFails, MissingParameterIsZero, EachStyle};
 
 /// The game of the hall and the hill is a database: its parts keep the limits.
 pub fn hill_keeps_limits()
@@ -107,4 +107,9 @@ pub fn condition_fails()
 /// A parameter that no condition gives is 0.
 pub fn missing_parameter_is_zero()
     ensures { MissingParameterIsZero }
+{}
+
+/// Two plays in each style: what is said where there is no way, and how a light runs low and out.
+pub fn each_style()
+    ensures { EachStyle }
 {}

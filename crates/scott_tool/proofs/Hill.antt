@@ -17,6 +17,7 @@ use Rattle.scott_rules.specs.Play as rules
 use Rattle.scott_rules.specs.Play.{go}
 use Rattle.adv_io.specs.Steps.{trace_of}
 use Rattle.scott_types.specs.Database.{Database}
+use Rattle.scott_types.specs.Style.{plain_style, plain}
 use Rattle.scott_types.specs.Limits.{KeepsLimits}
 use Rattle.scott_types.specs.Phrase.{text_of}
 use Rattle.scott_tool.specs.Play.{Played}
@@ -24,7 +25,7 @@ use Rattle.scott_tool.specs.Promises.{HasPlayed}
 use Rattle.scott_tool.specs.Worked.{hill_words, hill_lines, HasHill, hill_steps, hill_history}
 
 -- whatever the draws, none is taken
-hill_play : (draws : List ℕ) → (rules.play hill hill_lines draws).events ≡ hill_steps
+hill_play : (draws : List ℕ) → (rules.play (plain hill) hill_lines draws).events ≡ hill_steps
 unfolding go text_of
 hill_play draws = refl
 
@@ -37,18 +38,18 @@ module _ (one : OneDatabase) (written : WrittenTextIsText) (keeps : KeepsLimits 
   some_same : {X : Type 0} (a b : X) → Some a ≡ Some b → a ≡ b
   some_same a b e = cc
 
-  hill_played : (files : Files) (source : DrawSource) (old new : ConsoleView) → HasHill files → Played files hill_lines (codes "t.dat") source old new → new.history ≡ grown old.history hill_history
+  hill_played : (files : Files) (source : DrawSource) (old new : ConsoleView) → HasHill files → Played files hill_lines (codes "t.dat") source plain_style old new → new.history ≡ grown old.history hill_history
   hill_played files source old new there p =
       let bytes = some_same p.bytes (canon hill) (sym p.there ∙ there) in
       let db = hill_read p.bytes p.db bytes p.text in
-      p.seen ∙ ap (λ d. grown old.history (shown (trace_of (rules.play d hill_lines p.draws).events))) db ∙ ap (λ steps. grown old.history (shown (trace_of steps))) (hill_play p.draws)
+      p.seen ∙ ap (λ d. grown old.history (shown (trace_of (rules.play (plain d) hill_lines p.draws).events))) db ∙ ap (λ steps. grown old.history (shown (trace_of steps))) (hill_play p.draws)
 
   -- what the clause of `play` says of these words, this game and these lines
   pub hill_seen : {Z : Type 0} (words : List (String Z)) (shelf shelf' : Shelved) (console console' : Recorded) (status : ℕ)
       → map string_bytes words ≡ hill_words → HasHill shelf.files → console.left ≡ hill_lines
       → (status ≡ 0 → HasPlayed (stock_of shelf) (seen_of console) (seen_of console') (asked_by words)) → status ≡ 0 → console'.history ≡ console.history ++ hill_history
   hill_seen words shelf shelf' console console' status is there lines played zero =
-      let asks : asked_by words ≡ Some (play (codes "t.dat") (seeded 1)) = ap request_in is in
-      let p = played zero (codes "t.dat") (seeded 1) asks in
-      let q = subst (λ (ls : List (List ℕ)). Played shelf.files ls (codes "t.dat") (seeded 1) (seen_of console) (seen_of console')) lines p in
+      let asks : asked_by words ≡ Some (play (codes "t.dat") (seeded 1) plain_style) = ap request_in is in
+      let p = played zero (codes "t.dat") (seeded 1) plain_style asks in
+      let q = subst (λ (ls : List (List ℕ)). Played shelf.files ls (codes "t.dat") (seeded 1) plain_style (seen_of console) (seen_of console')) lines p in
       some_same console'.history (console.history ++ hill_history) (hill_played shelf.files (seeded 1) (seen_of console) (seen_of console') there q)

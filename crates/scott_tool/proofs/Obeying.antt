@@ -57,14 +57,14 @@ refusal_not (unwritten name) n (inr (inr e)) f = omega arith
 nothing_done : (shelf : ShelfView) (expected : Result Task Refusal) (status : ℕ) → (status ≡ 0 → ⊥) → Leaves shelf shelf expected status
 nothing_done shelf (Ok (reporting db)) status not_0 = refl
 nothing_done shelf (Ok (storing name bytes)) status not_0 = record { stored = λ e. absurd (not_0 e); stay = inr (inl refl) }
-nothing_done shelf (Ok (playing db draws)) status not_0 = refl
+nothing_done shelf (Ok (playing style db draws)) status not_0 = refl
 nothing_done shelf (Err refusal) status not_0 = refl
 
 -- and where what was done is all said
 said_stays : (shelf : ShelfView) (task : Task) (status : ℕ) (events : List Event) (lines : List (List ℕ)) → Does task lines (done events) → Leaves shelf shelf (Ok task) status
 said_stays shelf (reporting db) status events lines does = refl
 said_stays shelf (storing name bytes) status events lines does = absurd (let stored = ap (λ o. o.stored) does in cc)
-said_stays shelf (playing db draws) status events lines does = refl
+said_stays shelf (playing style db draws) status events lines does = refl
 
 -- what concludes and stores nothing ends so
 concluded : (shelf : ShelfView) (old new : ConsoleView) (o : Outcome) (status : ℕ) → o.stored ≡ None → Concludes old new o status → Ends shelf shelf old new o status

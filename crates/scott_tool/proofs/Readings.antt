@@ -16,6 +16,7 @@ use Rattle.source_reader.specs.Text.{SourceText, TextFault, source_in}
 use Rattle.source_reader.specs.declared.tree.Source.{Source}
 use Rattle.scott_requests.specs.Settings.{DrawSource, listed, seeded}
 use Rattle.scott_requests.specs.Request.{Request, check, compile, decompile, play}
+use Rattle.scott_types.specs.declared.styles.Style.{Style}
 use Rattle.scott_types.specs.Database.{Database}
 use Rattle.scott_tool.specs.Steps.{◌>>=◌}
 use Rattle.scott_tool.specs.Refusal.{Refusal, Unfit, refusing, content_status}
@@ -100,11 +101,11 @@ report_of db = Ok (reporting db)
 abbrev store_of : List ℕ → (Database → List ℕ) → Database → Result Task Unfit
 store_of name text db = Ok (storing name (text db))
 
-abbrev play_of : Database → List ℕ → Result Task Unfit
-play_of db draws = Ok (playing db draws)
+abbrev play_of : Style → Database → List ℕ → Result Task Unfit
+play_of style db draws = Ok (playing style db draws)
 
-abbrev with_draws : DrawSource → List ℕ → Database → Result Task Unfit
-with_draws source bytes db = draws_from source bytes >>= play_of db
+abbrev with_draws : DrawSource → List ℕ → Style → Database → Result Task Unfit
+with_draws source bytes style db = draws_from source bytes >>= play_of style db
 
 pub fails : Laws → (request : Request) (texts : Texts) (u : Unfit) → work request texts ≡ Err u → Fails request texts u
 fails laws (check game) texts u e =
@@ -122,11 +123,11 @@ fails laws (decompile game source) texts u e =
       | inl d ↦ (let f = database_unfit game (database_in texts.main) u d in bad_database (database_load game) f.0 refl f.1 f.2)
       | inr d ↦ absurd (let g = d.2 in cc)
     ]
-fails laws (play game source) texts u e =
-    elim (bind-err (database_of_file game texts.main) (with_draws source texts.draws) u e) [
+fails laws (play game source style) texts u e =
+    elim (bind-err (database_of_file game texts.main) (with_draws source texts.draws style) u e) [
       | inl d ↦ (let f = database_unfit game (database_in texts.main) u d in bad_database (database_load game) f.0 refl f.1 f.2)
       | inr d ↦
-          elim (bind-err (draws_from source texts.draws) (play_of d.0) u d.2) [
+          elim (bind-err (draws_from source texts.draws) (play_of style d.0) u d.2) [
             | inl r ↦ (let f = draws_unfit source texts.draws u r in bad_draws f.0 f.1 f.2 f.3 f.4)
             | inr r ↦ absurd (let g = r.2 in cc)
           ]
@@ -201,13 +202,13 @@ module _ (files : Files) where
   accepted laws (decompile game source) h =
       comes (decompile game source) (record { main = h.0; draws = [] }) (storing source (plain h.1))
       (loaded-there files (database_load game) h.0 h.2) refl (ap (λ r. r >>= store_of source plain) (game_reads laws game h.0 h.1 h.3))
-  accepted laws (play game (seeded seed)) h =
+  accepted laws (play game (seeded seed) style) h =
       let g = h.0 in
-      comes (play game (seeded seed)) (record { main = g.0; draws = [] }) _
-      (loaded-there files (database_load game) g.0 g.2) refl (ap (λ r. r >>= with_draws (seeded seed) []) (game_reads laws game g.0 g.1 g.3))
-  accepted laws (play game (listed name)) h =
+      comes (play game (seeded seed) style) (record { main = g.0; draws = [] }) _
+      (loaded-there files (database_load game) g.0 g.2) refl (ap (λ r. r >>= with_draws (seeded seed) [] style) (game_reads laws game g.0 g.1 g.3))
+  accepted laws (play game (listed name) style) h =
       let g = h.0 in
       let d = h.1 in
-      comes (play game (listed name)) (record { main = g.0; draws = d.0 }) (playing g.1 d.1)
+      comes (play game (listed name) style) (record { main = g.0; draws = d.0 }) (playing style g.1 d.1)
       (loaded-there files (database_load game) g.0 g.2) (loaded-there files _ d.0 d.2)
-      (ap (λ r. r >>= with_draws (listed name) d.0) (game_reads laws game g.0 g.1 g.3) ∙ ap (λ r. draws_or_unfit name r >>= play_of g.1) d.3)
+      (ap (λ r. r >>= with_draws (listed name) d.0 style) (game_reads laws game g.0 g.1 g.3) ∙ ap (λ r. draws_or_unfit name r >>= play_of style g.1) d.3)

@@ -60,7 +60,7 @@ pub data Tells (ShelfFailed ConsoleFailed : Type 0) (expected : Result Task Unfi
 pub task_0 : (task : Task) (status : ℕ) → Contains (task_statuses task) status → status ≡ 0
 task_0 (reporting db) status h = sym (only 0 status h)
 task_0 (storing name bytes) status h = sym (only 0 status h)
-task_0 (playing db draws) status h = sym (only 0 status h)
+task_0 (playing style db draws) status h = sym (only 0 status h)
 
 by_expected : (S F : Type 0) (expected : Result Task Unfit) (status : ℕ) → Contains (statuses_of (refusing expected)) status → Tells S F expected status
 by_expected S F (Ok task) status h = of_task task refl (task_0 task status h)
@@ -75,4 +75,4 @@ tells S F expected status (inr (inr (inr h))) = of_shelf h.0 h.1
 pub task_has_0 : (task : Task) → Contains (task_statuses task) 0
 task_has_0 (reporting db) = first 0
 task_has_0 (storing name bytes) = first 0
-task_has_0 (playing db draws) = first 0
+task_has_0 (playing style db draws) = first 0

@@ -5,7 +5,9 @@ use Rattle.adv_check.specs.Report.{report_text}
 use Rattle.adv_draws.specs.Listed.{listed_draws}
 use Rattle.adv_io.specs.Console.{ConsoleView}
 use Rattle.std.specs.FinMap.{insert}
+use Rattle.scott_types.specs.declared.styles.Style.{Style}
 use Rattle.scott_types.specs.Database.{Database}
+use Rattle.scott_types.specs.Style.{in_style}
 use Rattle.adv_io.specs.Faults.{Rose}
 use Rattle.adv_io.specs.History.{says, grown, shown}
 use Rattle.adv_io.specs.Shelf.{Files, ShelfView, with_file}
@@ -248,16 +250,16 @@ module _ (shelf shelf' : ShelfView) (console console' : ConsoleView) (status : �
       let is : o ≡ done (says (report_text d.0)) = subst (λ (t : Task). Does t lines o) (sym same) does in
       record { bytes = texts.main; db = d.0; there = m.0; text = m.1; shown = grew ∙ ap (λ x. grown console.history x.events) is }
 
-  played_by : (laws : Laws) (game : List ℕ) (source : DrawSource) (texts : Texts) (files : Files) (lines : List (List ℕ)) → texts_of files (play game source) ≡ Ok texts
-      → (task : Task) (o : Outcome) → work (play game source) texts ≡ Ok task → Does task lines o → console'.history ≡ grown console.history o.events
-      → Played files lines game source console console'
-  played_by laws game source texts files lines e task o w does grew =
-      let d = bind-ok (database_of_file game texts.main) (λ db. draws_from source texts.draws >>= λ draws. Ok (playing db draws)) task w in
-      let r = bind-ok (draws_from source texts.draws) (λ draws. Ok (playing d.0 draws)) task d.2 in
-      let l = texts-loaded files (play game source) texts e in
+  played_by : (laws : Laws) (game : List ℕ) (source : DrawSource) (style : Style) (texts : Texts) (files : Files) (lines : List (List ℕ)) → texts_of files (play game source style) ≡ Ok texts
+      → (task : Task) (o : Outcome) → work (play game source style) texts ≡ Ok task → Does task lines o → console'.history ≡ grown console.history o.events
+      → Played files lines game source style console console'
+  played_by laws game source style texts files lines e task o w does grew =
+      let d = bind-ok (database_of_file game texts.main) (λ db. draws_from source texts.draws >>= λ draws. Ok (playing style db draws)) task w in
+      let r = bind-ok (draws_from source texts.draws) (λ draws. Ok (playing style d.0 draws)) task d.2 in
+      let l = texts-loaded files (play game source style) texts e in
       let m = main_is files laws game texts.main d.0 l.0 d.1 in
-      let same : playing d.0 r.0 ≡ task = (let f = r.2 in cc) in
-      let is : o ≡ done (shown (trace_of (rules.play d.0 lines r.0).events)) = subst (λ (t : Task). Does t lines o) (sym same) does in
+      let same : playing style d.0 r.0 ≡ task = (let f = r.2 in cc) in
+      let is : o ≡ done (shown (trace_of (rules.play (in_style style d.0) lines r.0).events)) = subst (λ (t : Task). Does t lines o) (sym same) does in
       record {
         bytes = texts.main;
         db = d.0;
@@ -313,10 +315,10 @@ module _ (shelf shelf' : ShelfView) (console console' : ConsoleView) (status : �
       by (Err u) h = h
   keeps_name (compile source game) texts leaves = kept_as game canon (compiled_from source texts.main) leaves
   keeps_name (decompile game source) texts leaves = kept_as source plain (database_of_file game texts.main) leaves
-  keeps_name (play game source) texts leaves = by (database_of_file game texts.main) (draws_from source texts.draws) leaves
+  keeps_name (play game source style) texts leaves = by (database_of_file game texts.main) (draws_from source texts.draws) leaves
     where
       by : (read : Result Database Unfit) (listed : Result (List ℕ) Unfit)
-          → Leaves shelf shelf' (refusing (read >>= λ db. listed >>= λ draws. Ok (playing db draws))) status → shelf'.files ≡ shelf.files
+          → Leaves shelf shelf' (refusing (read >>= λ db. listed >>= λ draws. Ok (playing style db draws))) status → shelf'.files ≡ shelf.files
       by (Ok db) (Ok draws) h = h
       by (Ok db) (Err u) h = h
       by (Err u) listed h = h
@@ -348,9 +350,9 @@ module _ (shelf shelf' : ShelfView) (console console' : ConsoleView) (status : �
             let m = made (decompile game source) texts (subst P is there) (subst Q is obeys) zero in
             known_files (decompile game source) texts (subst P is there) (subst Q is obeys) (λ files. Decompiled files game source shelf'.files)
             (λ files known f. decompiled_by laws game source texts files known f m.0 m.1 m.2 zero);
-        played = λ zero game source e.
-            let is : request ≡ play game source = cc in
-            known_both (play game source) texts (subst P is there) (subst Q is obeys) (λ files lines. Played files lines game source console console') zero
-            (λ files lines f d. played_by laws game source texts files lines f d.0 d.1 d.2 d.3 d.4);
+        played = λ zero game source style e.
+            let is : request ≡ play game source style = cc in
+            known_both (play game source style) texts (subst P is there) (subst Q is obeys) (λ files lines. Played files lines game source style console console') zero
+            (λ files lines f d. played_by laws game source style texts files lines f d.0 d.1 d.2 d.3 d.4);
         counts = record { shelf_later = obeys.shelf_later; console_later = obeys.later; steady = obeys.steady };
       }

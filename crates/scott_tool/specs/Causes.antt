@@ -74,4 +74,4 @@ IsAccepted files None = ⊥
 IsAccepted files (Some (check game)) = IsGame files game
 IsAccepted files (Some (compile source game)) = IsSource files source
 IsAccepted files (Some (decompile game source)) = IsGame files game
-IsAccepted files (Some (play game source)) = IsGame files game × HasDraws files (draws_load source)
+IsAccepted files (Some (play game source style)) = IsGame files game × HasDraws files (draws_load source)

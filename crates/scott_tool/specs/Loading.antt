@@ -30,20 +30,20 @@ abbrev pub main_of : Request → Option Load
 main_of (check game) = Some (database_load game)
 main_of (compile source game) = Some (source_load source)
 main_of (decompile game source) = Some (database_load game)
-main_of (play game source) = Some (database_load game)
+main_of (play game source style) = Some (database_load game)
 
 abbrev pub draws_of : Request → Option Load
 draws_of (check game) = None
 draws_of (compile source game) = None
 draws_of (decompile game source) = None
-draws_of (play game source) = draws_load source
+draws_of (play game source style) = draws_load source
 
 -- the name of the file that a request stores
 abbrev pub stores : Request → Option (List ℕ)
 stores (check game) = None
 stores (compile source game) = Some game
 stores (decompile game source) = Some source
-stores (play game source) = None
+stores (play game source style) = None
 
 -- one of the files that a request loads
 abbrev pub IsLoad : Request → Load → Type 0

@@ -36,7 +36,7 @@ pub record Keeps (shelf shelf' : ShelfView) (name bytes : List ℕ) (status : �
 abbrev pub Leaves : (shelf shelf' : ShelfView) → Result Task Refusal → (status : ℕ) → Type 0
 Leaves shelf shelf' (Ok (reporting db)) status = shelf'.files ≡ shelf.files
 Leaves shelf shelf' (Ok (storing name bytes)) status = Keeps shelf shelf' name bytes status
-Leaves shelf shelf' (Ok (playing db draws)) status = shelf'.files ≡ shelf.files
+Leaves shelf shelf' (Ok (playing style db draws)) status = shelf'.files ≡ shelf.files
 Leaves shelf shelf' (Err refusal) status = shelf'.files ≡ shelf.files
 
 -- what a call promises that does what is expected

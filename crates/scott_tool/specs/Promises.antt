@@ -4,6 +4,7 @@ use Rattle.adv_io.specs.Console.{ConsoleView}
 use Rattle.adv_io.specs.Faults.{Rose}
 use Rattle.adv_io.specs.Shelf.{Files, ShelfView, with_file}
 use Rattle.scott_requests.specs.Settings.{DrawSource}
+use Rattle.scott_types.specs.declared.styles.Style.{Style}
 use Rattle.scott_requests.specs.Request.{Request, check, compile, decompile, play}
 use Rattle.scott_tool.specs.Refusal.{no_request, unread}
 use Rattle.scott_tool.specs.Outcome.{statuses, refused, Concludes, Loses}
@@ -82,8 +83,8 @@ HasDecompiled shelf shelf' asked =
 
 abbrev pub HasPlayed : ShelfView → (console console' : ConsoleView) → Option Request → Type 0
 HasPlayed shelf console console' asked =
-    (game : List ℕ) (source : DrawSource) → asked ≡ Some (play game source)
-    → IfKnown shelf console (λ files lines. Played files lines game source console console')
+    (game : List ℕ) (source : DrawSource) (style : Style) → asked ≡ Some (play game source style)
+    → IfKnown shelf console (λ files lines. Played files lines game source style console console')
 
 -- ---- counts of faults
 

@@ -8,7 +8,9 @@ use Rattle.scott_format.specs.Canon.{canon}
 use Rattle.scott_requests.specs.Request.{Request, check, compile, decompile, play}
 use Rattle.scott_rules.specs.Play as rules
 use Rattle.adv_io.specs.Steps.{trace_of}
+use Rattle.scott_types.specs.declared.styles.Style.{Style}
 use Rattle.scott_types.specs.Database.{Database}
+use Rattle.scott_types.specs.Style.{in_style}
 use Rattle.scott_tool.specs.Steps.{◌>>=◌}
 use Rattle.scott_tool.specs.Refusal.{Refusal, Unfit, no_request, refusing, status_of}
 use Rattle.scott_tool.specs.Outcome.{Outcome, done, keeping, refused}
@@ -17,23 +19,24 @@ use Rattle.scott_tool.specs.Check.{database_of_file}
 use Rattle.scott_tool.specs.Compile.{compiled_from}
 use Rattle.scott_tool.specs.Play.{draws_from}
 
--- a database is to be reported on, bytes are to be stored under a name, or a database is to be played with these draws
+-- a database is to be reported on, bytes are to be stored under a name, or a database is to be played in this
+-- style with these draws
 pub data Task : Type 0 where
   reporting : Database → Task
   storing : List ℕ → List ℕ → Task
-  playing : Database → List ℕ → Task
+  playing : Style → Database → List ℕ → Task
 
 -- what a task does, by the lines that are left
 abbrev pub Does : Task → List (List ℕ) → Outcome → Type 0
 Does (reporting db) lines o = o ≡ done (says (report_text db))
 Does (storing name bytes) lines o = o ≡ keeping name bytes
-Does (playing db draws) lines o = o ≡ done (shown (trace_of (rules.play db lines draws).events))
+Does (playing style db draws) lines o = o ≡ done (shown (trace_of (rules.play (in_style style db) lines draws).events))
 
 -- the statuses with which it can end
 abbrev pub task_statuses : Task → List ℕ
 task_statuses (reporting db) = 0 ∷ []
 task_statuses (storing name bytes) = 0 ∷ []
-task_statuses (playing db draws) = 0 ∷ []
+task_statuses (playing style db draws) = 0 ∷ []
 
 -- The task of a request, by what was loaded; or the first content that is refused, the database before the draws.
 abbrev pub work : Request → Texts → Result Task Unfit
@@ -46,10 +49,10 @@ work (compile source game) texts = do
 work (decompile game source) texts = do
   db ← database_of_file game texts.main
   Ok (storing source (plain db))
-work (play game source) texts = do
+work (play game source style) texts = do
   db ← database_of_file game texts.main
   draws ← draws_from source texts.draws
-  Ok (playing db draws)
+  Ok (playing style db draws)
 
 -- ---- what is expected of the words, by the files that there are
 

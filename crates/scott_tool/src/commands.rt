@@ -37,6 +37,6 @@ pub fn work<S: Shelf, C: Console>(
         Request::Check(game) => check(alloc, game, texts, console),
         Request::Compile(source, game) => compile(alloc, source, game, texts, shelf, console),
         Request::Decompile(game, source) => decompile(alloc, game, source, texts, shelf, console),
-        Request::Play(game, source) => play(alloc, game, source, texts, console),
+        Request::Play(game, source, style) => play(alloc, game, source, style, texts, console),
     }
 }

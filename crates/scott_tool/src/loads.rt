@@ -70,7 +70,7 @@ fn main_of(request: Request<'_>) -> Option<Load<'_>>
         Request::Check(game) => Some(database_load(game)),
         Request::Compile(source, _) => Some(source_load(source)),
         Request::Decompile(game, _) => Some(database_load(game)),
-        Request::Play(game, _) => Some(database_load(game)),
+        Request::Play(game, _, _) => Some(database_load(game)),
     }
 }
 
@@ -82,7 +82,7 @@ fn draws_of(request: Request<'_>) -> Option<Load<'_>>
         Request::Check(_) => None,
         Request::Compile(_, _) => None,
         Request::Decompile(_, _) => None,
-        Request::Play(_, source) => draws_load(source),
+        Request::Play(_, source, _) => draws_load(source),
     }
 }
 

@@ -8,7 +8,7 @@ use Rattle.adv_io.specs.declared.events.Event.TheVariants.{Say}
 use Rattle.adv_io.proofs.Histories.{says-append}
 use Rattle.scott_types.specs.declared.states.State.{State}
 use Rattle.scott_types.specs.declared.endings.Position.{Position}
-use Rattle.scott_types.specs.Database.{Database}
+use Rattle.scott_types.specs.Style.{Game}
 use Rattle.adv_io.specs.Steps.{Drew, Noted, Said, Step, Took, event_of, shown_of, trace_of}
 use Rattle.scott_rules.specs.Commands.{heard}
 use Rattle.scott_rules.specs.Rounds.{RoundEnd, advance, by_heard}
@@ -50,45 +50,45 @@ shown_of-said (Noted line ∷ es) none = shown_of-said es none
 
 -- ---- a play with one line, or none
 
-module _ (spends : PlaySpends) (db : Database) (position : Position) (s : State) (draws : List ℕ) where
+module _ (spends : PlaySpends) (game : Game) (position : Position) (s : State) (draws : List ℕ) where
   -- without a line
-  pub said-none : shown_of (advance db position s draws).events ≡ said (go db position s [] draws).events
+  pub said-none : shown_of (advance game position s draws).events ≡ said (go game position s [] draws).events
   said-none =
-      let whole = go-ends db position s draws in
-      let spent = (spends db position s [] draws).lines_spent in
-      let none : takes (advance db position s draws).events ≡ 0 =
-      let same : takes (go db position s [] draws).events ≡ takes (advance db position s draws).events = ap (λ w. takes w.events) whole in
-      omega (arith, length-append (lines_taken (trace_of (go db position s [] draws).events)) (go db position s [] draws).value.lines, ap length spent, same) in
-      shown_of-said (advance db position s draws).events none ∙ ap (λ w. said w.events) (sym whole)
+      let whole = go-ends game position s draws in
+      let spent = (spends game position s [] draws).lines_spent in
+      let none : takes (advance game position s draws).events ≡ 0 =
+      let same : takes (go game position s [] draws).events ≡ takes (advance game position s draws).events = ap (λ w. takes w.events) whole in
+      omega (arith, length-append (lines_taken (trace_of (go game position s [] draws).events)) (go game position s [] draws).value.lines, ap length spent, same) in
+      shown_of-said (advance game position s draws).events none ∙ ap (λ w. said w.events) (sym whole)
 
   -- with one that the play doesn't take
-  pub said-dropped : (line : List ℕ) → is_prompt (advance db position s draws).value.position ≡ false
-      → shown_of ((advance db position s draws).events ++ []) ≡ said (go db position s (line ∷ []) draws).events
+  pub said-dropped : (line : List ℕ) → is_prompt (advance game position s draws).value.position ≡ false
+      → shown_of ((advance game position s draws).events ++ []) ≡ said (go game position s (line ∷ []) draws).events
   said-dropped line stops =
-      let whole = go-stops db position s (line ∷ []) draws stops in
-      let spent = (spends db position s (line ∷ []) draws).lines_spent in
-      let left : length (go db position s (line ∷ []) draws).value.lines ≡ 1 = ap (λ w. length w.value.lines) whole in
-      let same : takes (go db position s (line ∷ []) draws).events ≡ takes (advance db position s draws).events = ap (λ w. takes w.events) whole in
-      let none : takes (advance db position s draws).events ≡ 0 =
-      omega (arith, length-append (lines_taken (trace_of (go db position s (line ∷ []) draws).events)) (go db position s (line ∷ []) draws).value.lines, ap length spent, same, left) in
-      ap shown_of (append-nil (advance db position s draws).events) ∙ shown_of-said (advance db position s draws).events none ∙ ap (λ w. said w.events) (sym whole)
+      let whole = go-stops game position s (line ∷ []) draws stops in
+      let spent = (spends game position s (line ∷ []) draws).lines_spent in
+      let left : length (go game position s (line ∷ []) draws).value.lines ≡ 1 = ap (λ w. length w.value.lines) whole in
+      let same : takes (go game position s (line ∷ []) draws).events ≡ takes (advance game position s draws).events = ap (λ w. takes w.events) whole in
+      let none : takes (advance game position s draws).events ≡ 0 =
+      omega (arith, length-append (lines_taken (trace_of (go game position s (line ∷ []) draws).events)) (go game position s (line ∷ []) draws).value.lines, ap length spent, same, left) in
+      ap shown_of (append-nil (advance game position s draws).events) ∙ shown_of-said (advance game position s draws).events none ∙ ap (λ w. said w.events) (sym whole)
 
   -- with one that is answered
-  pub said-answered : (line : List ℕ) → is_prompt (advance db position s draws).value.position ≡ true
-      → shown_of ((advance db position s draws).events ++ (after_line true db line (advance db position s draws).value.position (advance db position s draws).value.state (advance db position s draws).value.draws).events)
-      ≡ said (go db position s (line ∷ []) draws).events
+  pub said-answered : (line : List ℕ) → is_prompt (advance game position s draws).value.position ≡ true
+      → shown_of ((advance game position s draws).events ++ (after_line true game line (advance game position s draws).value.position (advance game position s draws).value.state (advance game position s draws).value.draws).events)
+      ≡ said (go game position s (line ∷ []) draws).events
   said-answered line at =
-      let up = (advance db position s draws).events in
-      let v = (advance db position s draws).value in
-      let a = by_heard (heard db line) db line v.state in
-      let next = (advance db a.value.position a.value.state v.draws).events in
-      let last = go-ends db a.value.position a.value.state v.draws in
-      let whole : (go db position s (line ∷ []) draws).events ≡ up ++ ((Took line ∷ a.events) ++ next) =
-      ap (λ w. w.events) (go-answers db position s line [] draws at) ∙ ap (λ w. up ++ ((Took line ∷ a.events) ++ w.events)) last in
-      let spent = (spends db position s (line ∷ []) draws).lines_spent in
-      let same : takes (go db position s (line ∷ []) draws).events ≡ takes up + (takes (Took line ∷ a.events) + takes next) =
+      let up = (advance game position s draws).events in
+      let v = (advance game position s draws).value in
+      let a = by_heard (heard game.db line) game line v.state in
+      let next = (advance game a.value.position a.value.state v.draws).events in
+      let last = go-ends game a.value.position a.value.state v.draws in
+      let whole : (go game position s (line ∷ []) draws).events ≡ up ++ ((Took line ∷ a.events) ++ next) =
+      ap (λ w. w.events) (go-answers game position s line [] draws at) ∙ ap (λ w. up ++ ((Took line ∷ a.events) ++ w.events)) last in
+      let spent = (spends game position s (line ∷ []) draws).lines_spent in
+      let same : takes (go game position s (line ∷ []) draws).events ≡ takes up + (takes (Took line ∷ a.events) + takes next) =
       ap takes whole ∙ takes-append up ((Took line ∷ a.events) ++ next) ∙ ap (λ n. takes up + n) (takes-append (Took line ∷ a.events) next) in
-      let sum = length-append (lines_taken (trace_of (go db position s (line ∷ []) draws).events)) (go db position s (line ∷ []) draws).value.lines in
+      let sum = length-append (lines_taken (trace_of (go game position s (line ∷ []) draws).events)) (go game position s (line ∷ []) draws).value.lines in
       let one = takes-append (Took line ∷ []) a.events in
       let up_none : takes up ≡ 0 = omega (arith, sum, ap length spent, same, one) in
       let after_none : takes (a.events ++ next) ≡ 0 = omega (arith, sum, ap length spent, same, one, takes-append a.events next) in
@@ -99,45 +99,45 @@ module _ (spends : PlaySpends) (db : Database) (position : Position) (s : State)
       ∙ ap said (sym whole)
 
   -- with one that is fed, whether or not it is answered
-  said-fed : (line : List ℕ) (at : Bool) → is_prompt (advance db position s draws).value.position ≡ at
-      → shown_of ((advance db position s draws).events ++ (after_line at db line (advance db position s draws).value.position (advance db position s draws).value.state (advance db position s draws).value.draws).events)
-      ≡ said (go db position s (line ∷ []) draws).events
+  said-fed : (line : List ℕ) (at : Bool) → is_prompt (advance game position s draws).value.position ≡ at
+      → shown_of ((advance game position s draws).events ++ (after_line at game line (advance game position s draws).value.position (advance game position s draws).value.state (advance game position s draws).value.draws).events)
+      ≡ said (go game position s (line ∷ []) draws).events
   said-fed line true is = said-answered line is
   said-fed line false is = said-dropped line is
 
   pub said-some : (line : List ℕ)
-      → shown_of ((advance db position s draws).events ++ (after_line (is_prompt (advance db position s draws).value.position) db line (advance db position s draws).value.position (advance db position s draws).value.state (advance db position s draws).value.draws).events)
-      ≡ said (go db position s (line ∷ []) draws).events
-  said-some line = said-fed line (is_prompt (advance db position s draws).value.position) refl
+      → shown_of ((advance game position s draws).events ++ (after_line (is_prompt (advance game position s draws).value.position) game line (advance game position s draws).value.position (advance game position s draws).value.state (advance game position s draws).value.draws).events)
+      ≡ said (go game position s (line ∷ []) draws).events
+  said-some line = said-fed line (is_prompt (advance game position s draws).value.position) refl
 
   -- the play begins with what is done up to the prompt
-  pub said-prefix : (line : Option (Bor (List ℕ))) → (rest : List Step) × (said (go db position s (given line) draws).events ≡ shown_of ((advance db position s draws).events ++ rest))
-  said-prefix None = ([], sym (ap shown_of (append-nil (advance db position s draws).events) ∙ said-none))
+  pub said-prefix : (line : Option (Bor (List ℕ))) → (rest : List Step) × (said (go game position s (given line) draws).events ≡ shown_of ((advance game position s draws).events ++ rest))
+  said-prefix None = ([], sym (ap shown_of (append-nil (advance game position s draws).events) ∙ said-none))
   said-prefix (Some line) = (_, sym (said-some line.now))
 
 -- ---- what it leaves
 
-pub left-none : (db : Database) (position reached : Position) (s now : State) (draws rest : List ℕ) → (advance db position s draws).value ≡ record { position = reached; state = now; draws = rest }
-    → (go db position s [] draws).value ≡ record { position = reached; state = now; lines = (go db position s [] draws).value.lines; draws = rest }
-left-none db position reached s now draws rest leaves =
-    ap (λ w. w.value) (go-ends db position s draws)
+pub left-none : (game : Game) (position reached : Position) (s now : State) (draws rest : List ℕ) → (advance game position s draws).value ≡ record { position = reached; state = now; draws = rest }
+    → (go game position s [] draws).value ≡ record { position = reached; state = now; lines = (go game position s [] draws).value.lines; draws = rest }
+left-none game position reached s now draws rest leaves =
+    ap (λ w. w.value) (go-ends game position s draws)
     ∙ ap (λ v. record { position = v.position; state = v.state; lines = []; draws = v.draws }) leaves
-    ∙ ap (λ ls. record { position = reached; state = now; lines = ls; draws = rest }) (sym (ap (λ w. w.value.lines) (go-ends db position s draws)))
+    ∙ ap (λ ls. record { position = reached; state = now; lines = ls; draws = rest }) (sym (ap (λ w. w.value.lines) (go-ends game position s draws)))
 
-left-fed : (db : Database) (position : Position) (s : State) (draws line : List ℕ) (at : Bool) → is_prompt (advance db position s draws).value.position ≡ at
-    → (lines : List (List ℕ)) × ((go db position s (line ∷ []) draws).value
-    ≡ stop_at lines (after_line at db line (advance db position s draws).value.position (advance db position s draws).value.state (advance db position s draws).value.draws).value)
-left-fed db position s draws line true is =
-    let v = (advance db position s draws).value in
-    let a = by_heard (heard db line) db line v.state in
-    ([], ap (λ w. w.value) (go-answers db position s line [] draws is) ∙ ap (λ w. w.value) (go-ends db a.value.position a.value.state v.draws))
-left-fed db position s draws line false is = (line ∷ [], ap (λ w. w.value) (go-stops db position s (line ∷ []) draws is))
+left-fed : (game : Game) (position : Position) (s : State) (draws line : List ℕ) (at : Bool) → is_prompt (advance game position s draws).value.position ≡ at
+    → (lines : List (List ℕ)) × ((go game position s (line ∷ []) draws).value
+    ≡ stop_at lines (after_line at game line (advance game position s draws).value.position (advance game position s draws).value.state (advance game position s draws).value.draws).value)
+left-fed game position s draws line true is =
+    let v = (advance game position s draws).value in
+    let a = by_heard (heard game.db line) game line v.state in
+    ([], ap (λ w. w.value) (go-answers game position s line [] draws is) ∙ ap (λ w. w.value) (go-ends game a.value.position a.value.state v.draws))
+left-fed game position s draws line false is = (line ∷ [], ap (λ w. w.value) (go-stops game position s (line ∷ []) draws is))
 
-pub left-some : (db : Database) (position reached : Position) (s now : State) (draws rest line : List ℕ)
-    → (after_line (is_prompt (advance db position s draws).value.position) db line (advance db position s draws).value.position (advance db position s draws).value.state (advance db position s draws).value.draws).value
+pub left-some : (game : Game) (position reached : Position) (s now : State) (draws rest line : List ℕ)
+    → (after_line (is_prompt (advance game position s draws).value.position) game line (advance game position s draws).value.position (advance game position s draws).value.state (advance game position s draws).value.draws).value
     ≡ record { position = reached; state = now; draws = rest }
-    → (go db position s (line ∷ []) draws).value ≡ record { position = reached; state = now; lines = (go db position s (line ∷ []) draws).value.lines; draws = rest }
-left-some db position reached s now draws rest line leaves =
-    let h = left-fed db position s draws line (is_prompt (advance db position s draws).value.position) refl in
-    let is : (go db position s (line ∷ []) draws).value ≡ record { position = reached; state = now; lines = h.0; draws = rest } = h.1 ∙ ap (stop_at h.0) leaves in
+    → (go game position s (line ∷ []) draws).value ≡ record { position = reached; state = now; lines = (go game position s (line ∷ []) draws).value.lines; draws = rest }
+left-some game position reached s now draws rest line leaves =
+    let h = left-fed game position s draws line (is_prompt (advance game position s draws).value.position) refl in
+    let is : (go game position s (line ∷ []) draws).value ≡ record { position = reached; state = now; lines = h.0; draws = rest } = h.1 ∙ ap (stop_at h.0) leaves in
     is ∙ ap (λ ls. record { position = reached; state = now; lines = ls; draws = rest }) (sym (ap (λ v. v.lines) is))

@@ -8,7 +8,7 @@ use Rattle.adv_io.specs.Console.{ConsoleView}
 use Rattle.scott_types.specs.declared.states.State.{State}
 use Rattle.scott_types.specs.declared.endings.Position.{Position}
 use Rattle.scott_types.specs.declared.endings.Ending.{Ending}
-use Rattle.scott_types.specs.Database.{Database}
+use Rattle.scott_types.specs.Style.{Game}
 use Rattle.adv_io.specs.Steps.{after, trace_of}
 use Rattle.scott_rules.specs.Play.{go, ending_of}
 use Rattle.scott_rules.specs.Laws.{PlaySpends, PlaySplits}
@@ -19,14 +19,14 @@ use Rattle.scott_turn.specs.Played.{Plays, GoesOn}
 taken_by : (before now : Supply) (drawn left : List ℕ) → drawn ++ left ≡ before.left → left ≡ now.left → now.taken + length now.left ≡ before.taken + length before.left → now.taken ≡ before.taken + length drawn
 taken_by before now drawn left all is sum = omega (arith, length-append drawn left, ap length all, ap length is)
 
-module _ (old new : ConsoleView) (db : Database) (position : Position) (s : State) (before now : Supply) (last : State) where
+module _ (old new : ConsoleView) (game : Game) (position : Position) (s : State) (before now : Supply) (last : State) where
   -- a play that succeeded
   pub plays_ok : (lines : Option (List (List ℕ))) (reached : Position) (why : Ending) (broken : Bool) → PlaySpends → now.taken + length now.left ≡ before.taken + length before.left → why ≡ ending_of reached
-      → IfSome lines (λ ls. PlaysOut old new (Ok reached) (go db position s ls before.left) last now.left)
-      → IfSome lines (λ ls. Plays old new (Ok why) (go db position s ls before.left) (record { game = db; position = reached; state = last; broken = broken }) before now)
+      → IfSome lines (λ ls. PlaysOut old new (Ok reached) (go game position s ls before.left) last now.left)
+      → IfSome lines (λ ls. Plays old new (Ok why) (go game position s ls before.left) (record { game = game; position = reached; state = last; broken = broken }) before now)
   plays_ok None reached why broken spends sum is as_rules = tt
   plays_ok (Some lines) reached why broken spends sum is as_rules =
-      let t = go db position s lines before.left in
+      let t = go game position s lines before.left in
       record {
         shows = as_rules.shows;
         part = tt;
@@ -35,26 +35,26 @@ module _ (old new : ConsoleView) (db : Database) (position : Position) (s : Stat
           position = sym (ap (λ v. v.position) as_rules.leaves);
           state = sym (ap (λ v. v.state) as_rules.leaves);
           draws = sym (ap (λ v. v.draws) as_rules.leaves);
-          taken = taken_by before now (draws_taken (trace_of t.events)) t.value.draws (spends db position s lines before.left).draws_spent (ap (λ v. v.draws) as_rules.leaves) sum;
+          taken = taken_by before now (draws_taken (trace_of t.events)) t.value.draws (spends game position s lines before.left).draws_spent (ap (λ v. v.draws) as_rules.leaves) sum;
           ending = is ∙ ap (λ v. ending_of v.position) (sym as_rules.leaves);
         };
       }
 
   -- a play that failed
   pub plays_err : (lines : Option (List (List ℕ))) (reached : Position) (broken : Bool) (d fault : ConsoleFault)
-      → IfSome lines (λ ls. PlaysOut old new (Err d) (go db position s ls before.left) last now.left)
-      → IfSome lines (λ ls. Plays old new (Err fault) (go db position s ls before.left) (record { game = db; position = reached; state = last; broken = broken }) before now)
+      → IfSome lines (λ ls. PlaysOut old new (Err d) (go game position s ls before.left) last now.left)
+      → IfSome lines (λ ls. Plays old new (Err fault) (go game position s ls before.left) (record { game = game; position = reached; state = last; broken = broken }) before now)
   plays_err None reached broken d fault as_rules = tt
   plays_err (Some lines) reached broken d fault as_rules = record { shows = tt; part = as_rules.part; lines = tt; leaves = tt }
 
   -- what succeeded goes on as if it had never stopped
   pub goes_on_ok : (lines : Option (List (List ℕ))) (reached : Position) (why : Ending) (broken whole : Bool) → PlaySplits
-      → IfSome lines (λ ls. PlaysOut old new (Ok reached) (go db position s ls before.left) last now.left)
-      → IfSome lines (λ ls. OnOk {E = ConsoleFault} (Ok why) (GoesOn (record { game = db; position = position; state = s; broken = whole }) (record { game = db; position = reached; state = last; broken = broken }) ls before.left (go db position s ls before.left)))
+      → IfSome lines (λ ls. PlaysOut old new (Ok reached) (go game position s ls before.left) last now.left)
+      → IfSome lines (λ ls. OnOk {E = ConsoleFault} (Ok why) (GoesOn (record { game = game; position = position; state = s; broken = whole }) (record { game = game; position = reached; state = last; broken = broken }) ls before.left (go game position s ls before.left)))
   goes_on_ok None reached why broken whole splits as_rules = tt
   goes_on_ok (Some lines) reached why broken whole splits as_rules = λ more further.
-      splits db position s lines more before.left further
-      ∙ ap (λ v. after (go db position s lines before.left).events (go db v.position v.state ((go db position s lines before.left).value.lines ++ more) ((go db position s lines before.left).value.draws ++ further))) as_rules.leaves
+      splits game position s lines more before.left further
+      ∙ ap (λ v. after (go game position s lines before.left).events (go game v.position v.state ((go game position s lines before.left).value.lines ++ more) ((go game position s lines before.left).value.draws ++ further))) as_rules.leaves
 
   pub goes_on_err : (lines : Option (List (List ℕ))) (P : List (List ℕ) → Type 0) (fault : ConsoleFault) → IfSome lines (λ ls. OnOk {T = Ending} (Err fault) (P ls))
   goes_on_err None P fault = tt

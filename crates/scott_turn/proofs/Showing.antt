@@ -7,7 +7,8 @@ use Rattle.std.specs.List.{filter_map}
 use Rattle.adv_io.specs.History.{says, shown_event}
 use Rattle.scott_types.specs.declared.states.State.{State}
 use Rattle.scott_types.specs.Action.{is_zero_action}
-use Rattle.scott_types.specs.Database.{Database, action_at}
+use Rattle.scott_types.specs.Style.{Game}
+use Rattle.scott_types.specs.Database.{action_at}
 use Rattle.adv_io.proofs.Showing.{shown_of-said}
 use Rattle.adv_io.specs.Steps.{Noted, Step, Traced, after, event_of, said_steps, shown_of}
 use Rattle.scott_rules.specs.Outcomes.{Outcome, and_then, then_if_on}
@@ -22,10 +23,10 @@ noted-shown : (zero : Bool) (line : ℕ) (es : List Step) → shown_of (cond zer
 noted-shown true line es = refl
 noted-shown false line es = refl
 
-pub shown_action : (db : Database) (noun : List ℕ) (line : ℕ) (s : State) → shown_of (try_action db noun line s).events ≡ says (action_result db noun line s).events
-shown_action db noun line s =
-    noted-shown (is_zero_action (action_at db line)) line (said_steps (action_result db noun line s).events)
-    ∙ shown_said (action_result db noun line s).events
+pub shown_action : (game : Game) (noun : List ℕ) (line : ℕ) (s : State) → shown_of (try_action game noun line s).events ≡ says (action_result game noun line s).events
+shown_action game noun line s =
+    noted-shown (is_zero_action (action_at game.db line)) line (said_steps (action_result game noun line s).events)
+    ∙ shown_said (action_result game noun line s).events
 
 -- ---- a part that may end the game, and what comes after it
 

@@ -5,7 +5,7 @@ use Rattle.std.proofs.lemmas.List.{append-nil}
 use Rattle.scott_types.specs.declared.states.State.{State}
 use Rattle.scott_types.specs.declared.endings.Ran.{Ran}
 use Rattle.scott_types.specs.declared.endings.Ran.TheVariants.{Not, Passed, Over}
-use Rattle.scott_types.specs.Database.{Database}
+use Rattle.scott_types.specs.Style.{Game}
 use Rattle.adv_io.specs.Steps.{Step, Traced, after}
 use Rattle.scott_rules.specs.Actions.{ActionOutcome, try_action}
 use Rattle.scott_rules.specs.Groups.{Group, tail_action, tail_tried, with_tail, after_head, group_tried}
@@ -14,48 +14,48 @@ use Rattle.scott_turn.proofs.Showing.{after_part, and_then-prefix, and_then-on, 
 
 -- ---- a tail
 
-module _ (db : Database) (noun : List ℕ) (line : ℕ) (s : State) (over : Option ℕ) (is : over ≡ (tail_action db noun line s).value.over) (goes_on : tail_from db line ≡ line ∷ tail_from db (line + 1)) where
+module _ (game : Game) (noun : List ℕ) (line : ℕ) (s : State) (over : Option ℕ) (is : over ≡ (tail_action game noun line s).value.over) (goes_on : tail_from game.db line ≡ line ∷ tail_from game.db (line + 1)) where
   -- after a line that doesn't end the game comes the rest of the tail
-  pub tail-on : is_some over ≡ false → (new : State) → new ≡ (tail_action db noun line s).value.state
-      → tail_tried db noun (tail_from db line) s ≡ after (tail_action db noun line s).events (tail_tried db noun (tail_from db (line + 1)) new)
+  pub tail-on : is_some over ≡ false → (new : State) → new ≡ (tail_action game noun line s).value.state
+      → tail_tried game noun (tail_from game.db line) s ≡ after (tail_action game noun line s).events (tail_tried game noun (tail_from game.db (line + 1)) new)
   tail-on on new state =
-      ap (λ lines. tail_tried db noun lines s) goes_on
-      ∙ and_then-on (tail_action db noun line s) (tail_tried db noun (tail_from db (line + 1))) over is on
-      ∙ ap (λ r. after (tail_action db noun line s).events (tail_tried db noun (tail_from db (line + 1)) r)) (sym state)
+      ap (λ lines. tail_tried game noun lines s) goes_on
+      ∙ and_then-on (tail_action game noun line s) (tail_tried game noun (tail_from game.db (line + 1))) over is on
+      ∙ ap (λ r. after (tail_action game noun line s).events (tail_tried game noun (tail_from game.db (line + 1)) r)) (sym state)
 
   -- a line that ends the game is the whole of what is left
-  pub tail-over : is_some over ≡ true → tail_tried db noun (tail_from db line) s ≡ tail_action db noun line s
+  pub tail-over : is_some over ≡ true → tail_tried game noun (tail_from game.db line) s ≡ tail_action game noun line s
   tail-over ended =
-      ap (λ lines. tail_tried db noun lines s) goes_on
-      ∙ and_then-over (tail_action db noun line s) (tail_tried db noun (tail_from db (line + 1))) over is ended
+      ap (λ lines. tail_tried game noun lines s) goes_on
+      ∙ and_then-over (tail_action game noun line s) (tail_tried game noun (tail_from game.db (line + 1))) over is ended
 
 -- a tail begins with its first line
-pub tail-prefix : (db : Database) (noun : List ℕ) (line : ℕ) (s : State) → tail_from db line ≡ line ∷ tail_from db (line + 1)
-    → (tail_tried db noun (tail_from db line) s).events
-    ≡ (tail_action db noun line s).events ++ after_part (tail_action db noun line s).value.over (tail_action db noun line s) (tail_tried db noun (tail_from db (line + 1)))
-tail-prefix db noun line s goes_on =
-    ap (λ lines. (tail_tried db noun lines s).events) goes_on
-    ∙ and_then-prefix (tail_action db noun line s) (tail_tried db noun (tail_from db (line + 1)))
+pub tail-prefix : (game : Game) (noun : List ℕ) (line : ℕ) (s : State) → tail_from game.db line ≡ line ∷ tail_from game.db (line + 1)
+    → (tail_tried game noun (tail_from game.db line) s).events
+    ≡ (tail_action game noun line s).events ++ after_part (tail_action game noun line s).value.over (tail_action game noun line s) (tail_tried game noun (tail_from game.db (line + 1)))
+tail-prefix game noun line s goes_on =
+    ap (λ lines. (tail_tried game noun lines s).events) goes_on
+    ∙ and_then-prefix (tail_action game noun line s) (tail_tried game noun (tail_from game.db (line + 1)))
 
 -- ---- a group
 
 -- where the head goes on, its tail is after it
-pub group-goes_on : (db : Database) (noun : List ℕ) (g : Group) (s : State) → (try_action db noun g.head s).value.ran ≡ Passed true
-    → group_tried db noun g s ≡ after (try_action db noun g.head s).events (with_tail (tail_tried db noun g.tail (try_action db noun g.head s).value.state))
-group-goes_on db noun g s e = ap (λ ran. after_head ran db noun g.tail (try_action db noun g.head s)) e
+pub group-goes_on : (game : Game) (noun : List ℕ) (g : Group) (s : State) → (try_action game noun g.head s).value.ran ≡ Passed true
+    → group_tried game noun g s ≡ after (try_action game noun g.head s).events (with_tail (tail_tried game noun g.tail (try_action game noun g.head s).value.state))
+group-goes_on game noun g s e = ap (λ ran. after_head ran game noun g.tail (try_action game noun g.head s)) e
 
 -- what comes after the head's own steps
-abbrev pub tail_steps : Ran → Database → List ℕ → Group → Traced Step ActionOutcome → List Step
-tail_steps (Passed true) db noun g t = (tail_tried db noun g.tail t.value.state).events
-tail_steps _ db noun g t = []
+abbrev pub tail_steps : Ran → Game → List ℕ → Group → Traced Step ActionOutcome → List Step
+tail_steps (Passed true) game noun g t = (tail_tried game noun g.tail t.value.state).events
+tail_steps _ game noun g t = []
 
-after_head-prefix : (ran : Ran) (db : Database) (noun : List ℕ) (g : Group) (t : Traced Step ActionOutcome) → (after_head ran db noun g.tail t).events ≡ t.events ++ tail_steps ran db noun g t
-after_head-prefix (Passed true) db noun g t = refl
-after_head-prefix (Passed false) db noun g t = sym (append-nil t.events)
-after_head-prefix Not db noun g t = sym (append-nil t.events)
-after_head-prefix (Over ending) db noun g t = sym (append-nil t.events)
+after_head-prefix : (ran : Ran) (game : Game) (noun : List ℕ) (g : Group) (t : Traced Step ActionOutcome) → (after_head ran game noun g.tail t).events ≡ t.events ++ tail_steps ran game noun g t
+after_head-prefix (Passed true) game noun g t = refl
+after_head-prefix (Passed false) game noun g t = sym (append-nil t.events)
+after_head-prefix Not game noun g t = sym (append-nil t.events)
+after_head-prefix (Over ending) game noun g t = sym (append-nil t.events)
 
 -- a group begins with its head
-pub group-prefix : (db : Database) (noun : List ℕ) (g : Group) (s : State)
-    → (group_tried db noun g s).events ≡ (try_action db noun g.head s).events ++ tail_steps (try_action db noun g.head s).value.ran db noun g (try_action db noun g.head s)
-group-prefix db noun g s = let t = try_action db noun g.head s in after_head-prefix t.value.ran db noun g t
+pub group-prefix : (game : Game) (noun : List ℕ) (g : Group) (s : State)
+    → (group_tried game noun g s).events ≡ (try_action game noun g.head s).events ++ tail_steps (try_action game noun g.head s).value.ran game noun g (try_action game noun g.head s)
+group-prefix game noun g s = let t = try_action game noun g.head s in after_head-prefix t.value.ran game noun g t

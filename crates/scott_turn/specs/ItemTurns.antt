@@ -2,14 +2,16 @@
 use Rattle.std.specs.Prelude.{ℕ, ◌<◌, length, IfSome, Bool, true, false, List, [], ◌++◌, Option, Some, None}
 use Rattle.scott_types.specs.declared.parts.Item.{Item}
 use Rattle.scott_types.specs.declared.states.State.{State}
+use Rattle.scott_types.specs.declared.styles.Style.{Style}
 use Rattle.scott_types.specs.declared.commands.Column.TheVariants.{Nouns}
 use Rattle.scott_types.specs.declared.endings.Found.{Found}
 use Rattle.scott_types.specs.declared.endings.Found.TheVariants.{Over}
 use Rattle.scott_types.specs.declared.endings.Transfer.{Transfer}
 use Rattle.scott_types.specs.declared.phrases.Phrase.TheVariants.{TooMuch, ItemDone}
+use Rattle.scott_types.specs.Style.{Game}
 use Rattle.scott_types.specs.Database.{Database}
 use Rattle.scott_types.specs.ItemText.{shown, get_word}
-use Rattle.scott_types.specs.Phrase.{text_of}
+use Rattle.scott_types.specs.Phrase.{text_of, text_in}
 use Rattle.adv_io.specs.Steps.{Step, Traced, after, traced, traced_text}
 use Rattle.scott_rules.specs.Outcomes.{Outcome}
 use Rattle.scott_rules.specs.Words.{which}
@@ -25,9 +27,9 @@ pub record ItemTurnOutcome : Type 0 where
   pub item_turn : ItemTurn
 
 -- an item that isn't refused is moved, and that is said
-abbrev pub moved_or_not : Bool → Transfer → ℕ → Item → State → Traced Step ItemTurnOutcome
-moved_or_not true t i item s = traced_text (text_of TooMuch) (record { state = s; item_turn = Ended None })
-moved_or_not false t i item s = traced_text (shown item.text ++ text_of ItemDone) (record { state = transferred t i s; item_turn = Moved })
+abbrev pub moved_or_not : Bool → Style → Transfer → ℕ → Item → State → Traced Step ItemTurnOutcome
+moved_or_not true style t i item s = traced_text (text_in style TooMuch) (record { state = s; item_turn = Ended None })
+moved_or_not false style t i item s = traced_text (shown item.text ++ text_of ItemDone) (record { state = transferred t i s; item_turn = Moved })
 
 -- how a search ended the game, if it did
 abbrev pub ending_in : Found → Option ℕ
@@ -35,21 +37,21 @@ ending_in (Over ending) = Some ending
 ending_in _ = None
 
 -- an item's lines, with the verb of getting or dropping and the item's own noun; only an ending of theirs counts
-abbrev pub item_actions : Transfer → Database → List ℕ → Item → State → Traced Step Outcome
-item_actions t db typed item s =
-    let found = search_result db typed (verb_for t) (which db Nouns (get_word item.text)) (groups db) s in
+abbrev pub item_actions : Transfer → Game → List ℕ → Item → State → Traced Step Outcome
+item_actions t game typed item s =
+    let found = search_result game typed (verb_for t) (which game.db Nouns (get_word item.text)) (groups game.db) s in
     traced found.events (record { state = found.value.state; over = ending_in found.value.found })
 
-abbrev pub after_actions : Option ℕ → Transfer → Database → ℕ → Item → State → Traced Step ItemTurnOutcome
-after_actions (Some ending) t db i item s = traced [] (record { state = s; item_turn = Ended (Some ending) })
-after_actions None t db i item s = moved_or_not (is_refused t db s) t i item s
+abbrev pub after_actions : Option ℕ → Transfer → Game → ℕ → Item → State → Traced Step ItemTurnOutcome
+after_actions (Some ending) t game i item s = traced [] (record { state = s; item_turn = Ended (Some ending) })
+after_actions None t game i item s = moved_or_not (is_refused t game.db s) game.style t i item s
 
 -- one item at its turn, taken or not
-abbrev pub item_turn : Bool → Transfer → Database → List ℕ → ℕ → Item → State → Traced Step ItemTurnOutcome
-item_turn true t db typed i item s =
-    let lines = item_actions t db typed item s in
-    after lines.events (after_actions lines.value.over t db i item lines.value.state)
-item_turn false t db typed i item s = traced [] (record { state = s; item_turn = Passed })
+abbrev pub item_turn : Bool → Transfer → Game → List ℕ → ℕ → Item → State → Traced Step ItemTurnOutcome
+item_turn true t game typed i item s =
+    let lines = item_actions t game typed item s in
+    after lines.events (after_actions lines.value.over t game i item lines.value.state)
+item_turn false t game typed i item s = traced [] (record { state = s; item_turn = Passed })
 
 -- what comes after it
 abbrev pub by_item_turn : ItemTurn → Traced Step ItemTurnOutcome → (State → Traced Step AllOutcome) → Traced Step AllOutcome

@@ -9,14 +9,14 @@ use Rattle.scott_types.specs.declared.states.State.{State}
 use Rattle.scott_types.specs.declared.endings.Position.{Position}
 use Rattle.scott_types.specs.declared.endings.Ending.{Ending}
 use Rattle.scott_types.specs.declared.endings.Ending.TheVariants.{Over}
-use Rattle.scott_types.specs.Database.{Database}
+use Rattle.scott_types.specs.Style.{Game}
 use Rattle.adv_io.specs.Steps.{Step, Traced, after, trace_of}
 use Rattle.scott_rules.specs.Play.{PlayEnd, go, ending_of}
 use Rattle.scott_rules.specs.Laws.{IsEnding}
 
 -- the game, where its play stands, and whether a failure of the console broke it
 pub record SessionView : Type 0 where
-  pub game : Database
+  pub game : Game
   pub position : Position
   pub state : State
   pub broken : Bool

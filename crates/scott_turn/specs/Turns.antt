@@ -7,7 +7,7 @@ use Rattle.scott_types.specs.declared.endings.Halt.{Halt}
 use Rattle.scott_types.specs.declared.endings.Halt.TheVariants.{Through, Waits, Over as AtEnd}
 use Rattle.scott_types.specs.declared.endings.Found.{Found}
 use Rattle.scott_types.specs.declared.endings.Found.TheVariants.{Over, Done, Matched, NoMatch}
-use Rattle.scott_types.specs.Database.{Database}
+use Rattle.scott_types.specs.Style.{Game}
 use Rattle.scott_types.specs.Action.{noun_of}
 use Rattle.adv_io.specs.Steps.{Drew, Step, Traced, after, traced}
 use Rattle.scott_rules.specs.Groups.{Group, AutoOutcome, over_of, group_tried}
@@ -20,15 +20,15 @@ halt_of None = Through
 halt_of (Some ending) = AtEnd ending
 
 -- a group that was tried, or not
-abbrev pub entered : Bool → Database → Group → State → List ℕ → Traced Step AutoOutcome
-entered true db g s draws =
-    let t = group_tried db [] g s in traced t.events (record { state = t.value.state; draws = draws; halt = halt_of (over_of t.value.ran) })
-entered false db g s draws = traced [] (record { state = s; draws = draws; halt = Through })
+abbrev pub entered : Bool → Game → Group → State → List ℕ → Traced Step AutoOutcome
+entered true game g s draws =
+    let t = group_tried game [] g s in traced t.events (record { state = t.value.state; draws = draws; halt = halt_of (over_of t.value.ran) })
+entered false game g s draws = traced [] (record { state = s; draws = draws; halt = Through })
 
 -- one automatic group takes its draw, and is tried where that lets it in; `Through` where the step goes on
-abbrev pub auto_turn : Database → Group → State → List ℕ → Traced Step AutoOutcome
-auto_turn db g s [] = traced [] (record { state = s; draws = []; halt = Waits g.head })
-auto_turn db g s (draw ∷ draws) = after (Drew draw ∷ []) (entered (nat_le draw (noun_of g.vocab)) db g s draws)
+abbrev pub auto_turn : Game → Group → State → List ℕ → Traced Step AutoOutcome
+auto_turn game g s [] = traced [] (record { state = s; draws = []; halt = Waits g.head })
+auto_turn game g s (draw ∷ draws) = after (Drew draw ∷ []) (entered (nat_le draw (noun_of g.vocab)) game g s draws)
 
 -- what comes after it
 abbrev pub by_halt : Halt → Traced Step AutoOutcome → (State → List ℕ → Traced Step AutoOutcome) → Traced Step AutoOutcome
@@ -49,10 +49,10 @@ found_of (Passed more) = Done
 found_of (Ended ending) = Over ending
 
 -- one group of the search: `NoMatch` where it isn't for the command, `Matched` where its head didn't pass
-abbrev pub search_turn : Bool → Database → List ℕ → Group → State → Traced Step SearchOutcome
-search_turn true db typed g s =
-    let t = group_tried db typed g s in traced t.events (record { state = t.value.state; found = found_of t.value.ran })
-search_turn false db typed g s = traced [] (record { state = s; found = NoMatch })
+abbrev pub search_turn : Bool → Game → List ℕ → Group → State → Traced Step SearchOutcome
+search_turn true game typed g s =
+    let t = group_tried game typed g s in traced t.events (record { state = t.value.state; found = found_of t.value.ran })
+search_turn false game typed g s = traced [] (record { state = s; found = NoMatch })
 
 -- what comes after it
 abbrev pub by_turn : Found → Traced Step SearchOutcome → (State → Traced Step SearchOutcome) → Traced Step SearchOutcome

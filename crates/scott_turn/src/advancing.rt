@@ -16,7 +16,7 @@ use crate::saying::say_text;
 use adv_draws::Draws;
 use adv_io::{Console, ConsoleFault};
 use scott_light::look;
-use scott_types::{Db, Halt, Phrase, Position, State};
+use scott_types::{Halt, Phrase, Position, State};
 
 // Clears the mark that the room is to be described.
 fn unmark(state: &mut State) -> bool
@@ -30,50 +30,58 @@ fn unmark(state: &mut State) -> bool
 
 // A look where one is due.
 #[tactic(auto, using(crate::proofs::Showing::shown_said))]
-fn look_if_due<C: Console>(db: &Db, state: &mut State, console: &mut C) -> Result<(), ConsoleFault>
-    requires { Fits db.now state.old }
+fn look_if_due<C: Console>(
+    game: &Game,
+    state: &mut State,
+    console: &mut C,
+) -> Result<(), ConsoleFault>
+    requires { Fits game.now.db state.old }
     ensures spoken { Speaks (C.seen console.old) (C.seen console.new) result
-        (shown_of (said_steps (look_due db.now state.old))) }
+        (shown_of (said_steps (look_due game.now state.old))) }
     ensures state { state.new ≡ unmarked state.old }
-    ensures fits { Fits db.now state.new }
+    ensures fits { Fits game.now.db state.new }
 {
     if unmark(state) {
-        look(db, state, console)
+        look(game.db(), game.style(), state, console)
     } else {
         say_text(&[], console)
     }
 }
 
 // A look where one is due, and the prompt.
-fn prompt<C: Console>(db: &Db, state: &mut State, console: &mut C) -> Result<Position, ConsoleFault>
-    requires { Fits db.now state.old }
+fn prompt<C: Console>(
+    game: &Game,
+    state: &mut State,
+    console: &mut C,
+) -> Result<Position, ConsoleFault>
+    requires { Fits game.now.db state.old }
     ensures spoken { Speaks (C.seen console.old) (C.seen console.new) result
-        (shown_of (said_steps (look_due db.now state.old ++ text_of Prompt))) }
+        (shown_of (said_steps (look_due game.now state.old ++ text_of Prompt))) }
     ensures state { state.new ≡ unmarked state.old }
     ensures position { IfOk result (λ position. position ≡ Position.Line) }
-    ensures fits { Fits db.now state.new }
+    ensures fits { Fits game.now.db state.new }
 {
-    look_if_due(db, state, console)?;
+    look_if_due(game, state, console)?;
     say_text(Phrase::Prompt.text(), console)?;
     Ok(Position::Line)
 }
 
 // What follows the automatic step: the prompt, where the step came through.
 fn go_to_prompt<C: Console>(
-    db: &Db,
+    game: &Game,
     state: &mut State,
     halt: Halt,
     console: &mut C,
 ) -> Result<Position, ConsoleFault>
-    requires { Fits db.now state.old }
+    requires { Fits game.now.db state.old }
     ensures spoken { Speaks (C.seen console.old) (C.seen console.new) result
-        (shown_of (prompted halt db.now state.old []).events) }
-    ensures left { IfOk result (λ position. (prompted halt db.now state.old []).value
+        (shown_of (prompted halt game.now state.old []).events) }
+    ensures left { IfOk result (λ position. (prompted halt game.now state.old []).value
         ≡ record { position = position; state = state.new; draws = [] }) }
-    ensures fits { Fits db.now state.new }
+    ensures fits { Fits game.now.db state.new }
 {
     match halt {
-        Halt::Through => prompt(db, state, console),
+        Halt::Through => prompt(game, state, console),
         Halt::Waits(head) => Ok(Position::Draw(head)),
         Halt::Over(ending) => Ok(Position::Over(ending)),
     }
@@ -87,19 +95,19 @@ fn advance_from<C: Console>(
     draws: &mut Draws,
     console: &mut C,
 ) -> Result<Position, ConsoleFault>
-    requires { Fits game.now state.old }
+    requires { Fits game.now.db state.old }
     ensures spoken { Speaks (C.seen console.old) (C.seen console.new) result
         (shown_of (to_prompt game.now
-        (automatic game.now (groups_from game.now from) state.old draws.old.left)).events) }
+        (automatic game.now (groups_from game.now.db from) state.old draws.old.left)).events) }
     ensures left { IfOk result
         (λ position. (to_prompt game.now
-        (automatic game.now (groups_from game.now from) state.old draws.old.left)).value
+        (automatic game.now (groups_from game.now.db from) state.old draws.old.left)).value
         ≡ record { position = position; state = state.new; draws = draws.new.left }) }
     ensures taken { supplied draws.new ≡ supplied draws.old }
-    ensures fits { Fits game.now state.new }
+    ensures fits { Fits game.now.db state.new }
 {
     let halt = automatic(game, state, from, draws, console)?;
-    go_to_prompt(game.db(), state, halt, console)
+    go_to_prompt(game, state, halt, console)
 }
 
 // A round begins.
@@ -109,16 +117,16 @@ fn begin<C: Console>(
     draws: &mut Draws,
     console: &mut C,
 ) -> Result<Position, ConsoleFault>
-    requires { Fits game.now state.old }
+    requires { Fits game.now.db state.old }
     ensures spoken { Speaks (C.seen console.old) (C.seen console.new) result
         (shown_of (advance game.now Position.Fresh state.old draws.old.left).events) }
     ensures left { IfOk result (λ position.
         (advance game.now Position.Fresh state.old draws.old.left).value
         ≡ record { position = position; state = state.new; draws = draws.new.left }) }
     ensures taken { supplied draws.new ≡ supplied draws.old }
-    ensures fits { Fits game.now state.new }
+    ensures fits { Fits game.now.db state.new }
 {
-    look_if_due(game.db(), state, console)?;
+    look_if_due(game, state, console)?;
     advance_from(game, state, 0, draws, console)
 }
 
@@ -133,14 +141,14 @@ pub fn advance<C: Console>(
     draws: &mut Draws,
     console: &mut C,
 ) -> Result<Position, ConsoleFault>
-    requires { Fits game.now state.old }
+    requires { Fits game.now.db state.old }
     ensures spoken { Speaks (C.seen console.old) (C.seen console.new) result
         (shown_of (advance game.now position state.old draws.old.left).events) }
     ensures left { IfOk result (λ reached.
         (advance game.now position state.old draws.old.left).value
         ≡ record { position = reached; state = state.new; draws = draws.new.left }) }
     ensures taken { supplied draws.new ≡ supplied draws.old }
-    ensures fits { Fits game.now state.new }
+    ensures fits { Fits game.now.db state.new }
 {
     match position {
         Position::Fresh => begin(game, state, draws, console),

@@ -57,13 +57,13 @@ fn all_items<C: Console>(
     typed: &[u8],
     console: &mut C,
 ) -> Result<AllResult, ConsoleFault>
-    requires { Fits game.now state.old }
+    requires { Fits game.now.db state.old }
     ensures spoken { Speaks (C.seen console.old) (C.seen console.new) result
-        (shown_of (all_items transfer game.now typed.now 0 game.now.items state.old).events) }
+        (shown_of (all_items transfer game.now typed.now 0 game.now.db.items state.old).events) }
     ensures left { IfOk result (λ all_result.
-        (all_items transfer game.now typed.now 0 game.now.items state.old).value
+        (all_items transfer game.now typed.now 0 game.now.db.items state.old).value
         ≡ record { state = state.new; over = all_result.over; any_taken = all_result.any_taken }) }
-    ensures fits { Fits game.now state.new }
+    ensures fits { Fits game.now.db state.new }
 {
     let mut any_taken = false;
     for i in 0..game.db().items().len() {
@@ -121,12 +121,12 @@ fn transfer_all_items<C: Console>(
     typed: &[u8],
     console: &mut C,
 ) -> Result<Option<u8>, ConsoleFault>
-    requires { Fits game.now state.old }
+    requires { Fits game.now.db state.old }
     ensures spoken { Speaks (C.seen console.old) (C.seen console.new) result
         (shown_of (all_from false transfer game.now typed.now state.old).events) }
     ensures left { IfOk result (λ over. (all_from false transfer game.now typed.now state.old).value
         ≡ record { state = state.new; over = over }) }
-    ensures fits { Fits game.now state.new }
+    ensures fits { Fits game.now.db state.new }
 {
     let all_result = all_items(game, state, transfer, typed, console)?;
     say_text(text_after(all_result, transfer), console)?;
@@ -144,13 +144,13 @@ pub fn transfer_all<C: Console>(
     typed: &[u8],
     console: &mut C,
 ) -> Result<Option<u8>, ConsoleFault>
-    requires { Fits game.now state.old }
+    requires { Fits game.now.db state.old }
     ensures spoken { Speaks (C.seen console.old) (C.seen console.new) result
         (shown_of (all_transferred transfer game.now typed.now state.old).events) }
     ensures left { IfOk result
         (λ over. (all_transferred transfer game.now typed.now state.old).value
         ≡ record { state = state.new; over = over }) }
-    ensures fits { Fits game.now state.new }
+    ensures fits { Fits game.now.db state.new }
 {
     if is_too_dark(state, transfer) {
         say_only(Phrase::DarkGet.text(), console)

@@ -15,27 +15,27 @@ use crate::games::Game;
 use crate::searching::Command;
 use adv_io::{Console, ConsoleFault, Line, say_all};
 use scott_light::count_light;
-use scott_types::{Db, Heard, Phrase, Position, State};
+use scott_types::{Heard, Phrase, Position, State};
 use scott_vocab::{command, typed_noun, word_at};
 
 // After a command the light burns, where the game goes on, and a round begins.
 #[tactic(auto, using(crate::proofs::Showing::shown_said))]
 fn end_turn<C: Console>(
-    db: &Db,
+    game: &Game,
     state: &mut State,
     over: Option<u8>,
     console: &mut C,
 ) -> Result<Position, ConsoleFault>
-    requires { Fits db.now state.old }
+    requires { Fits game.now.db state.old }
     ensures spoken { Speaks (C.seen console.old) (C.seen console.new) result
-        (shown_of (turn_ended over state.old).events) }
-    ensures left { IfOk result (λ position. (turn_ended over state.old).value
+        (shown_of (turn_ended game.now.style over state.old).events) }
+    ensures left { IfOk result (λ position. (turn_ended game.now.style over state.old).value
         ≡ record { position = position; state = state.new }) }
-    ensures fits { Fits db.now state.new }
+    ensures fits { Fits game.now.db state.new }
 {
     match over {
         None => {
-            count_light(db, state, console)?;
+            count_light(game.db(), game.style(), state, console)?;
             Ok(Position::Fresh)
         }
         Some(ending) => Ok(Position::Over(ending)),
@@ -50,19 +50,19 @@ fn do_turn<C: Console>(
     typed: &[u8],
     console: &mut C,
 ) -> Result<Position, ConsoleFault>
-    requires fits { Fits game.now state.old }
-    requires there { IsEntry game.now command.noun }
+    requires fits { Fits game.now.db state.old }
+    requires there { IsEntry game.now.db command.noun }
     ensures spoken { Speaks (C.seen console.old) (C.seen console.new) result
-        (shown_of (command_done
+        (shown_of (command_done game.now.style
         (command_result game.now typed.now command.verb command.noun state.old)).events) }
     ensures left { IfOk result
-        (λ position. (command_done
+        (λ position. (command_done game.now.style
         (command_result game.now typed.now command.verb command.noun state.old)).value
         ≡ record { position = position; state = state.new }) }
-    ensures fits { Fits game.now state.new }
+    ensures fits { Fits game.now.db state.new }
 {
     let over = do_command(game, state, command, typed, console)?;
-    end_turn(game.db(), state, over, console)
+    end_turn(game, state, over, console)
 }
 
 // Asks again after a blank line.
@@ -100,13 +100,13 @@ pub fn answer<C: Console>(
     line: &Line,
     console: &mut C,
 ) -> Result<Position, ConsoleFault>
-    requires { Fits game.now state.old }
+    requires { Fits game.now.db state.old }
     ensures spoken { Speaks (C.seen console.old) (C.seen console.new) result
-        (shown_of (by_heard (heard game.now line.now) game.now line.now state.old).events) }
+        (shown_of (by_heard (heard game.now.db line.now) game.now line.now state.old).events) }
     ensures left { IfOk result
-        (λ position. (by_heard (heard game.now line.now) game.now line.now state.old).value
+        (λ position. (by_heard (heard game.now.db line.now) game.now line.now state.old).value
         ≡ record { position = position; state = state.new }) }
-    ensures fits { Fits game.now state.new }
+    ensures fits { Fits game.now.db state.new }
 {
     match command(game, line) {
         Heard::Blank => ask_again(console),

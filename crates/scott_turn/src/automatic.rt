@@ -38,27 +38,27 @@ fn lets_in(db: &Db, head: u16, draw: u8) -> bool
 
 // Tries the group of a head where its draw lets it in, and answers how far the step came.
 fn enter<C: Console>(
-    db: &Db,
+    game: &Game,
     state: &mut State,
     head: u16,
     draw: u8,
     console: &mut C,
 ) -> Result<Halt, ConsoleFault>
-    requires fits { Fits db.now state.old }
-    requires there { head < length db.now.actions }
-    ensures spoken { let b = nat_le draw (noun_of (action_at db.now head).vocab) in
+    requires fits { Fits game.now.db state.old }
+    requires there { head < length game.now.db.actions }
+    ensures spoken { let b = nat_le draw (noun_of (action_at game.now.db head).vocab) in
         Speaks (C.seen console.old) (C.seen console.new) result
-        (shown_of (entered b db.now (group_at db.now head) state.old []).events) }
-    ensures state { let b = nat_le draw (noun_of (action_at db.now head).vocab) in
+        (shown_of (entered b game.now (group_at game.now.db head) state.old []).events) }
+    ensures state { let b = nat_le draw (noun_of (action_at game.now.db head).vocab) in
         OnOk result (state.new
-        ≡ (entered b db.now (group_at db.now head) state.old []).value.state) }
-    ensures halt { let b = nat_le draw (noun_of (action_at db.now head).vocab) in
+        ≡ (entered b game.now (group_at game.now.db head) state.old []).value.state) }
+    ensures halt { let b = nat_le draw (noun_of (action_at game.now.db head).vocab) in
         IfOk result (λ halt.
-        halt ≡ (entered b db.now (group_at db.now head) state.old []).value.halt) }
-    ensures fits { Fits db.now state.new }
+        halt ≡ (entered b game.now (group_at game.now.db head) state.old []).value.halt) }
+    ensures fits { Fits game.now.db state.new }
 {
-    if lets_in(db, head, draw) {
-        let ran = try_group(db, state, head, &[], console)?;
+    if lets_in(game.db(), head, draw) {
+        let ran = try_group(game, state, head, &[], console)?;
         Ok(halt_of(ran))
     } else {
         Ok(Halt::Through)
@@ -73,24 +73,25 @@ fn auto_turn<C: Console>(
     draws: &mut Draws,
     console: &mut C,
 ) -> Result<Halt, ConsoleFault>
-    requires fits { Fits game.now state.old }
-    requires there { head < length game.now.actions }
+    requires fits { Fits game.now.db state.old }
+    requires there { head < length game.now.db.actions }
     ensures spoken { Speaks (C.seen console.old) (C.seen console.new) result
-        (shown_of (auto_turn game.now (group_at game.now head) state.old draws.old.left).events) }
+        (shown_of (auto_turn game.now
+        (group_at game.now.db head) state.old draws.old.left).events) }
     ensures state { OnOk result
         (state.new ≡ (auto_turn game.now
-        (group_at game.now head) state.old draws.old.left).value.state) }
+        (group_at game.now.db head) state.old draws.old.left).value.state) }
     ensures halt { IfOk result
         (λ halt. halt ≡ (auto_turn game.now
-        (group_at game.now head) state.old draws.old.left).value.halt) }
+        (group_at game.now.db head) state.old draws.old.left).value.halt) }
     ensures draws { draws.new.left
-        ≡ (auto_turn game.now (group_at game.now head) state.old draws.old.left).value.draws }
+        ≡ (auto_turn game.now (group_at game.now.db head) state.old draws.old.left).value.draws }
     ensures taken { supplied draws.new ≡ supplied draws.old }
-    ensures fits { Fits game.now state.new }
+    ensures fits { Fits game.now.db state.new }
 {
     match draws.next() {
         None => Ok(Halt::Waits(head)),
-        Some(draw) => enter(game.db(), state, head, draw, console),
+        Some(draw) => enter(game, state, head, draw, console),
     }
 }
 
@@ -116,15 +117,15 @@ pub fn automatic<C: Console>(
     draws: &mut Draws,
     console: &mut C,
 ) -> Result<Halt, ConsoleFault>
-    requires { Fits game.now state.old }
+    requires { Fits game.now.db state.old }
     ensures spoken { Speaks (C.seen console.old) (C.seen console.new) result
         (shown_of (automatic game.now
-        (groups_from game.now from) state.old draws.old.left).events) }
+        (groups_from game.now.db from) state.old draws.old.left).events) }
     ensures left { IfOk result
-        (λ halt. (automatic game.now (groups_from game.now from) state.old draws.old.left).value
+        (λ halt. (automatic game.now (groups_from game.now.db from) state.old draws.old.left).value
         ≡ record { state = state.new; draws = draws.new.left; halt = halt }) }
     ensures taken { supplied draws.new ≡ supplied draws.old }
-    ensures fits { Fits game.now state.new }
+    ensures fits { Fits game.now.db state.new }
 {
     let mut next = game.first_head(AUTOMATIC, from);
     while let Some(head) = next {

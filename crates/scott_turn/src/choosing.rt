@@ -9,6 +9,7 @@ ghost use Rattle.scott_vocab.specs.Heard.{IsEntry};
 ghost use Rattle.adv_io.specs.Steps.{shown_of};
 ghost use Rattle.scott_turn.specs.ItemTurns.{IsItem};
 
+use crate::games::Game;
 use crate::saying::say_only;
 use crate::transferring::{is_at_hand, is_refused, transfer_item};
 use adv_io::{Console, ConsoleFault};
@@ -62,24 +63,24 @@ fn item_for(db: &Db, state: &State, transfer: Transfer, noun: u16) -> Option<u8>
 // Gets or drops an item, or says that it can't be done where there is none.
 #[tactic(auto, using(crate::proofs::Showing::shown_said))]
 fn move_one<C: Console>(
-    db: &Db,
+    game: &Game,
     state: &mut State,
     transfer: Transfer,
     item: Option<u8>,
     console: &mut C,
 ) -> Result<Option<u8>, ConsoleFault>
-    requires fits { Fits db.now state.old }
-    requires there { IsItem db.now item }
+    requires fits { Fits game.now.db state.old }
+    requires there { IsItem game.now.db item }
     ensures spoken { Speaks (C.seen console.old) (C.seen console.new) result
-        (shown_of (one_moved transfer item state.old).events) }
-    ensures left { IfOk result (λ over. (one_moved transfer item state.old).value
+        (shown_of (one_moved game.now.style transfer item state.old).events) }
+    ensures left { IfOk result (λ over. (one_moved game.now.style transfer item state.old).value
         ≡ record { state = state.new; over = over }) }
-    ensures fits { Fits db.now state.new }
+    ensures fits { Fits game.now.db state.new }
 {
     match item {
-        None => say_only(Phrase::BeyondPower.text(), console),
+        None => say_only(Phrase::BeyondPower.text_in(game.style()), console),
         Some(item) => {
-            transfer_item(db, state, transfer, item);
+            transfer_item(game.db(), state, transfer, item);
             say_only(Phrase::Done.text(), console)
         }
     }
@@ -87,26 +88,26 @@ fn move_one<C: Console>(
 
 // Gets or drops the item that a noun names, unless no more can be got.
 fn move_named<C: Console>(
-    db: &Db,
+    game: &Game,
     state: &mut State,
     transfer: Transfer,
     noun: u16,
     console: &mut C,
 ) -> Result<Option<u8>, ConsoleFault>
-    requires fits { Fits db.now state.old }
-    requires there { noun < length db.now.words }
+    requires fits { Fits game.now.db state.old }
+    requires there { noun < length game.now.db.words }
     ensures spoken { Speaks (C.seen console.old) (C.seen console.new) result
-        (shown_of (one_transferred transfer db.now (Some noun) state.old).events) }
+        (shown_of (one_transferred transfer game.now (Some noun) state.old).events) }
     ensures left { IfOk result
-        (λ over. (one_transferred transfer db.now (Some noun) state.old).value
+        (λ over. (one_transferred transfer game.now (Some noun) state.old).value
         ≡ record { state = state.new; over = over }) }
-    ensures fits { Fits db.now state.new }
+    ensures fits { Fits game.now.db state.new }
 {
-    if is_refused(db, state, transfer) {
-        say_only(Phrase::TooMuch.text(), console)
+    if is_refused(game.db(), state, transfer) {
+        say_only(Phrase::TooMuch.text_in(game.style()), console)
     } else {
-        let item = item_for(db, state, transfer, noun);
-        move_one(db, state, transfer, item, console)
+        let item = item_for(game.db(), state, transfer, noun);
+        move_one(game, state, transfer, item, console)
     }
 }
 
@@ -115,22 +116,22 @@ fn move_named<C: Console>(
 /// The console's fault alone is a refusal; the state fits then too. docs/TURN.md, "Get and drop", has the
 /// rule.
 pub fn transfer_one<C: Console>(
-    db: &Db,
+    game: &Game,
     state: &mut State,
     transfer: Transfer,
     noun: Option<u16>,
     console: &mut C,
 ) -> Result<Option<u8>, ConsoleFault>
-    requires fits { Fits db.now state.old }
-    requires there { IsEntry db.now noun }
+    requires fits { Fits game.now.db state.old }
+    requires there { IsEntry game.now.db noun }
     ensures spoken { Speaks (C.seen console.old) (C.seen console.new) result
-        (shown_of (one_transferred transfer db.now noun state.old).events) }
-    ensures left { IfOk result (λ over. (one_transferred transfer db.now noun state.old).value
+        (shown_of (one_transferred transfer game.now noun state.old).events) }
+    ensures left { IfOk result (λ over. (one_transferred transfer game.now noun state.old).value
         ≡ record { state = state.new; over = over }) }
-    ensures fits { Fits db.now state.new }
+    ensures fits { Fits game.now.db state.new }
 {
     match noun {
         None => say_only(Phrase::WhatItem.text(), console),
-        Some(noun) => move_named(db, state, transfer, noun, console),
+        Some(noun) => move_named(game, state, transfer, noun, console),
     }
 }

@@ -15,7 +15,7 @@ use crate::searching::{Command, search};
 use crate::walking::walk;
 use adv_io::{Console, ConsoleFault};
 use scott_types::verbs::{DROP, GET, GO};
-use scott_types::{Found, Phrase, State, Transfer};
+use scott_types::{Found, Phrase, State, Style, Transfer};
 use scott_vocab::is_direction;
 
 // Whether all is meant.
@@ -34,28 +34,28 @@ fn transfer<C: Console>(
     typed: &[u8],
     console: &mut C,
 ) -> Result<Option<u8>, ConsoleFault>
-    requires fits { Fits game.now state.old }
-    requires there { IsEntry game.now noun }
+    requires fits { Fits game.now.db state.old }
+    requires there { IsEntry game.now.db noun }
     ensures spoken { Speaks (C.seen console.old) (C.seen console.new) result
         (shown_of (got_or_dropped transfer game.now typed.now noun state.old).events) }
     ensures left { IfOk result
         (λ over. (got_or_dropped transfer game.now typed.now noun state.old).value
         ≡ record { state = state.new; over = over }) }
-    ensures fits { Fits game.now state.new }
+    ensures fits { Fits game.now.db state.new }
 {
     if is_all(typed) {
         transfer_all(game, state, transfer, typed, console)
     } else {
-        transfer_one(game.db(), state, transfer, noun, console)
+        transfer_one(game, state, transfer, noun, console)
     }
 }
 
 // What is said of a command that wasn't done.
-fn not_done(found: Found) -> &'static [u8]
-    ensures { result.now ≡ not_done found }
+fn not_done(style: Style, found: Found) -> &'static [u8]
+    ensures { result.now ≡ not_done style found }
 {
     match found {
-        Found::Matched => Phrase::NotYet.text(),
+        Found::Matched => Phrase::NotYet.text_in(style),
         _ => Phrase::NotUnderstood.text(),
     }
 }
@@ -69,21 +69,21 @@ fn do_unmatched<C: Console>(
     found: Found,
     console: &mut C,
 ) -> Result<Option<u8>, ConsoleFault>
-    requires fits { Fits game.now state.old }
-    requires there { IsEntry game.now command.noun }
+    requires fits { Fits game.now.db state.old }
+    requires there { IsEntry game.now.db command.noun }
     ensures spoken { Speaks (C.seen console.old) (C.seen console.new) result
         (shown_of (unmatched game.now typed.now command.verb command.noun found state.old).events) }
     ensures left { IfOk result
         (λ over. (unmatched game.now typed.now command.verb command.noun found state.old).value
         ≡ record { state = state.new; over = over }) }
-    ensures fits { Fits game.now state.new }
+    ensures fits { Fits game.now.db state.new }
 {
     if command.verb == GET {
         transfer(game, state, Transfer::PickUp, command.noun, typed, console)
     } else if command.verb == DROP {
         transfer(game, state, Transfer::PutDown, command.noun, typed, console)
     } else {
-        say_only(not_done(found), console)
+        say_only(not_done(game.style(), found), console)
     }
 }
 
@@ -96,14 +96,14 @@ fn finish_command<C: Console>(
     found: Found,
     console: &mut C,
 ) -> Result<Option<u8>, ConsoleFault>
-    requires fits { Fits game.now state.old }
-    requires there { IsEntry game.now command.noun }
+    requires fits { Fits game.now.db state.old }
+    requires there { IsEntry game.now.db command.noun }
     ensures spoken { Speaks (C.seen console.old) (C.seen console.new) result
         (shown_of (by_found found game.now typed.now command.verb command.noun state.old).events) }
     ensures left { IfOk result
         (λ over. (by_found found game.now typed.now command.verb command.noun state.old).value
         ≡ record { state = state.new; over = over }) }
-    ensures fits { Fits game.now state.new }
+    ensures fits { Fits game.now.db state.new }
 {
     match found {
         Found::Over(ending) => Ok(Some(ending)),
@@ -121,14 +121,14 @@ fn do_by_actions<C: Console>(
     typed: &[u8],
     console: &mut C,
 ) -> Result<Option<u8>, ConsoleFault>
-    requires fits { Fits game.now state.old }
-    requires there { IsEntry game.now command.noun }
+    requires fits { Fits game.now.db state.old }
+    requires there { IsEntry game.now.db command.noun }
     ensures spoken { Speaks (C.seen console.old) (C.seen console.new) result
         (shown_of (by_actions game.now typed.now command.verb command.noun state.old).events) }
     ensures left { IfOk result
         (λ over. (by_actions game.now typed.now command.verb command.noun state.old).value
         ≡ record { state = state.new; over = over }) }
-    ensures fits { Fits game.now state.new }
+    ensures fits { Fits game.now.db state.new }
 {
     let found = search(game, state, command, typed, console)?;
     finish_command(game, state, command, typed, found, console)
@@ -142,19 +142,19 @@ fn do_going<C: Console>(
     typed: &[u8],
     console: &mut C,
 ) -> Result<Option<u8>, ConsoleFault>
-    requires fits { Fits game.now state.old }
-    requires there { IsEntry game.now noun }
+    requires fits { Fits game.now.db state.old }
+    requires there { IsEntry game.now.db noun }
     ensures spoken { Speaks (C.seen console.old) (C.seen console.new) result
         (shown_of (going game.now typed.now noun state.old).events) }
     ensures left { IfOk result (λ over. (going game.now typed.now noun state.old).value
         ≡ record { state = state.new; over = over }) }
-    ensures fits { Fits game.now state.new }
+    ensures fits { Fits game.now.db state.new }
 {
     match noun {
         None => say_only(Phrase::NeedDirection.text(), console),
         Some(noun) => {
             if is_direction(noun) {
-                walk(game.db(), state, noun, console)
+                walk(game, state, noun, console)
             } else {
                 let command = Command {
                     verb: GO,
@@ -176,14 +176,14 @@ pub fn do_command<C: Console>(
     typed: &[u8],
     console: &mut C,
 ) -> Result<Option<u8>, ConsoleFault>
-    requires fits { Fits game.now state.old }
-    requires there { IsEntry game.now command.noun }
+    requires fits { Fits game.now.db state.old }
+    requires there { IsEntry game.now.db command.noun }
     ensures spoken { Speaks (C.seen console.old) (C.seen console.new) result
         (shown_of (command_result game.now typed.now command.verb command.noun state.old).events) }
     ensures left { IfOk result
         (λ over. (command_result game.now typed.now command.verb command.noun state.old).value
         ≡ record { state = state.new; over = over }) }
-    ensures fits { Fits game.now state.new }
+    ensures fits { Fits game.now.db state.new }
 {
     if command.verb == GO {
         do_going(game, state, command.noun, typed, console)

@@ -25,14 +25,14 @@ fn answer_and_advance<C: Console>(
     line: &Line,
     console: &mut C,
 ) -> Result<Position, ConsoleFault>
-    requires { Fits game.now state.old }
+    requires { Fits game.now.db state.old }
     ensures spoken { let t = after_line true game.now line.now Position.Line state.old draws.old.left in
         Speaks (C.seen console.old) (C.seen console.new) result (shown_of t.events) }
     ensures left { let t = after_line true game.now line.now Position.Line state.old draws.old.left in
         IfOk result (λ reached. t.value
         ≡ record { position = reached; state = state.new; draws = draws.new.left }) }
     ensures taken { supplied draws.new ≡ supplied draws.old }
-    ensures fits { Fits game.now state.new }
+    ensures fits { Fits game.now.db state.new }
 {
     let position = answer(game, state, line, console)?;
     advance(game, state, position, draws, console)
@@ -47,7 +47,7 @@ fn feed_line<C: Console>(
     line: &Line,
     console: &mut C,
 ) -> Result<Position, ConsoleFault>
-    requires { Fits game.now state.old }
+    requires { Fits game.now.db state.old }
     ensures spoken { let b = is_prompt position in
         Speaks (C.seen console.old) (C.seen console.new) result
         (shown_of (after_line b game.now line.now position state.old draws.old.left).events) }
@@ -56,7 +56,7 @@ fn feed_line<C: Console>(
         (λ reached. (after_line b game.now line.now position state.old draws.old.left).value
         ≡ record { position = reached; state = state.new; draws = draws.new.left }) }
     ensures taken { supplied draws.new ≡ supplied draws.old }
-    ensures fits { Fits game.now state.new }
+    ensures fits { Fits game.now.db state.new }
 {
     if is_prompt(position) {
         answer_and_advance(game, state, draws, line, console)
@@ -78,7 +78,7 @@ pub fn feed<C: Console>(
     line: Option<&Line>,
     console: &mut C,
 ) -> Result<Position, ConsoleFault>
-    requires { Fits game.now state.old }
+    requires { Fits game.now.db state.old }
     ensures spoken { Speaks (C.seen console.old) (C.seen console.new) result
         (said (go game.now position state.old (given line.entry) draws.old.left).events) }
     ensures left { let t = go game.now position state.old (given line.entry) draws.old.left in
@@ -89,7 +89,7 @@ pub fn feed<C: Console>(
           draws = draws.new.left;
         }) }
     ensures taken { supplied draws.new ≡ supplied draws.old }
-    ensures fits { Fits game.now state.new }
+    ensures fits { Fits game.now.db state.new }
 {
     play_spends();
     let reached = advance(game, state, position, draws, console)?;

@@ -2,6 +2,7 @@
 //! one of its verb, and the base entry that each word names.
 ghost use Rattle.std.specs.Prelude.{◌≡◌, ◌≢◌, ◌+◌, ◌<◌, [], length, IfOk, OnOk, MatchOption, nat_eq};
 ghost use Rattle.scott_types.specs.Database.{action_at};
+ghost use Rattle.scott_types.specs.Style.{in_style};
 ghost use Rattle.indexmap.specs.IndexMap.{get};
 ghost use Rattle.scott_types.specs.Action.{verb_of};
 ghost use Rattle.scott_turn.specs.Heads.{groups_for, ComesNext, HasFirsts, IsAfter, IsIndex};
@@ -10,17 +11,20 @@ use crate::heads::next_head;
 use crate::words::WordIndex;
 use adv_io::Memory;
 use indexmap::IndexMap;
-use scott_types::{Column, Db};
+use scott_types::{Column, Db, Style};
 use scott_vocab::Vocabulary;
 use std::alloc::Global;
 use std::marker::Model;
 
-/// A game, with an index of its heads by their verbs, and one of the words of its verbs and nouns.
+/// A database and the style that it is played in, with an index of its heads by their verbs, and one
+/// of the words of its verbs and nouns.
 ///
-/// A clause sees the database alone: the indexes say nothing that its lines and words don't say.
+/// A clause sees the database and the style alone: the indexes say nothing that its lines and words
+/// don't say.
 #[derive(Drop)]
 pub struct Game<'a> {
     db: &'a Db,
+    style: Style,
     // For each verb of a head its first head.
     firsts: IndexMap<u32, u16>,
     // For each line that is a head the next head of its verb after it.
@@ -32,13 +36,13 @@ pub struct Game<'a> {
 impl<'a> Model for Game<'a> {
     ghost use Rattle.std.specs.Prelude.{nat_eq};
     ghost use Rattle.indexmap.specs.IndexMap.{get};
-    ghost use Rattle.scott_types.specs.Database.{Database};
+    ghost use Rattle.scott_types.specs.Style.{Game, in_style};
     ghost use Rattle.scott_turn.specs.Heads.{IsIndex};
     ghost use Rattle.scott_turn.specs.WordIndex.{FindsAllWords};
 
-    ghost Value = { Database };
+    ghost Value = { Game };
 
-    ghost view = { λ g. g.db.now };
+    ghost view = { λ g. in_style g.style g.db.now };
 
     ghost invariant = { λ g. IsIndex g.db.now (get nat_eq g.firsts) g.nexts.items
         × FindsAllWords g.db.now g.verbs g.nouns };
@@ -79,15 +83,17 @@ fn index_heads(alloc: Global, db: &Db) -> Result<(IndexMap<u32, u16>, Vec<Option
 }
 
 impl<'a> Game<'a> {
-    /// The game of a database. Its lines are read once, and the words of each column once.
-    pub fn of(alloc: Global, db: &'a Db) -> Result<Game<'a>, Memory>
-        ensures { IfOk result (λ game. game ≡ db.now) }
+    /// The game of a database, in a style. Its lines are read once, and the words of each column
+    /// once.
+    pub fn of(alloc: Global, db: &'a Db, style: Style) -> Result<Game<'a>, Memory>
+        ensures { IfOk result (λ game. game ≡ in_style style db.now) }
     {
         let verbs = WordIndex::of(alloc, db, Column::Verbs)?;
         let nouns = WordIndex::of(alloc, db, Column::Nouns)?;
         let (firsts, nexts) = index_heads(alloc, db)?;
         Ok(Game {
             db,
+            style,
             firsts,
             nexts,
             verbs,
@@ -97,9 +103,16 @@ impl<'a> Game<'a> {
 
     /// The database of the game.
     pub fn db(&self) -> &'a Db
-        ensures { result.now ≡ self.now }
+        ensures { result.now ≡ self.now.db }
     {
         self.db
+    }
+
+    /// The style that it is played in.
+    pub fn style(&self) -> Style
+        ensures { result ≡ self.now.style }
+    {
+        self.style
     }
 
     /// The first head of a verb, at a line or after it.
@@ -108,7 +121,8 @@ impl<'a> Game<'a> {
     /// goes on that waited for a draw.
     pub fn first_head(&self, verb: u16, from: u16) -> Option<u16>
         ensures { MatchOption result
-            (groups_for self.now verb from ≡ []) (λ head. ComesNext self.now verb from head) }
+            (groups_for self.now.db verb from ≡ [])
+            (λ head. ComesNext self.now.db verb from head) }
     {
         if from == 0 {
             self.firsts.get(&u32::from(verb)).copied()
@@ -119,12 +133,12 @@ impl<'a> Game<'a> {
 
     /// The next head of a head's verb, after it.
     pub fn head_after(&self, head: u16) -> Option<u16>
-        requires there { head < length self.now.actions }
-        requires head { (action_at self.now head).vocab ≢ 0 }
-        ensures { let verb = verb_of (action_at self.now head).vocab in
+        requires there { head < length self.now.db.actions }
+        requires head { (action_at self.now.db head).vocab ≢ 0 }
+        ensures { let verb = verb_of (action_at self.now.db head).vocab in
             MatchOption result
-            (groups_for self.now verb (head + 1) ≡ [])
-            (λ next. ComesNext self.now verb (head + 1) next) }
+            (groups_for self.now.db verb (head + 1) ≡ [])
+            (λ next. ComesNext self.now.db verb (head + 1) next) }
     {
         self.nexts[head as usize]
     }
@@ -132,7 +146,7 @@ impl<'a> Game<'a> {
 
 /// A word is found by one look-up.
 impl<'a> Vocabulary for Game<'a> {
-    ghost db = { λ game. game };
+    ghost db = { λ game. game.db };
 
     fn named(&self, column: Column, word: &[u8]) -> Option<u16> {
         match column {

@@ -5,7 +5,7 @@ ghost use Rattle.adv_io.specs.History.{says};
 ghost use Rattle.adv_io.specs.Console.{Speaks};
 ghost use Rattle.scott_types.specs.declared.phrases.Phrase.TheVariants.{ItemDone, TooMuch};
 ghost use Rattle.scott_types.specs.ItemText.{shown, get_word};
-ghost use Rattle.scott_types.specs.Phrase.{text_of};
+ghost use Rattle.scott_types.specs.Phrase.{text_of, text_in};
 ghost use Rattle.scott_types.specs.State.{Fits};
 ghost use Rattle.scott_rules.specs.Words.{which};
 ghost use Rattle.scott_rules.specs.Transfer.{verb_for, is_taken, is_refused};
@@ -17,7 +17,7 @@ use crate::searching::{Command, search};
 use crate::transferring::{is_at_hand, is_refused, transfer_item};
 use adv_io::{Console, ConsoleFault, say_both};
 use scott_types::verbs::{DROP, GET};
-use scott_types::{Column, Db, Found, Item, Phrase, State, Transfer, get_word, shown};
+use scott_types::{Column, Found, Item, Phrase, State, Style, Transfer, get_word, shown};
 use scott_vocab::Vocabulary;
 
 /// What became of an item at its turn.
@@ -50,9 +50,10 @@ fn verb_for(transfer: Transfer) -> u16
 
 // The command that an item's lines are searched for: the verb, and the item's own noun.
 fn command_for(game: &Game, transfer: Transfer, i: u8) -> Command
-    requires { i < length game.now.items }
+    requires { i < length game.now.db.items }
     ensures verb { result.verb ≡ verb_for transfer }
-    ensures noun { result.noun ≡ which game.now Column.Nouns (get_word (item_at game.now i).text) }
+    ensures noun { result.noun
+        ≡ which game.now.db Column.Nouns (get_word (item_at game.now.db i).text) }
 {
     let item = &game.db().items()[i as usize];
     Command {
@@ -81,15 +82,15 @@ fn try_item_actions<C: Console>(
     typed: &[u8],
     console: &mut C,
 ) -> Result<Option<u8>, ConsoleFault>
-    requires fits { Fits game.now state.old }
-    requires there { i < length game.now.items }
+    requires fits { Fits game.now.db state.old }
+    requires there { i < length game.now.db.items }
     ensures spoken { Speaks (C.seen console.old) (C.seen console.new) result
         (shown_of (item_actions transfer game.now typed.now
-        (item_at game.now i) state.old).events) }
+        (item_at game.now.db i) state.old).events) }
     ensures left { IfOk result
-        (λ over. (item_actions transfer game.now typed.now (item_at game.now i) state.old).value
+        (λ over. (item_actions transfer game.now typed.now (item_at game.now.db i) state.old).value
         ≡ record { state = state.new; over = over }) }
-    ensures fits { Fits game.now state.new }
+    ensures fits { Fits game.now.db state.new }
 {
     let command = command_for(game, transfer, i);
     let found = search(game, state, command, typed, console)?;
@@ -107,65 +108,67 @@ fn say_moved<C: Console>(item: &Item, console: &mut C) -> Result<ItemTurn, Conso
 }
 
 // Says that no more can be carried.
-fn say_too_much<C: Console>(console: &mut C) -> Result<ItemTurn, ConsoleFault>
+fn say_too_much<C: Console>(style: Style, console: &mut C) -> Result<ItemTurn, ConsoleFault>
     ensures spoken { Speaks (C.seen console.old) (C.seen console.new) result
-        (says (text_of TooMuch)) }
+        (says (text_in style TooMuch)) }
     ensures item_turn { IfOk result (λ item_turn. item_turn ≡ ItemTurn.Ended None) }
 {
-    console.say(Phrase::TooMuch.text())?;
+    console.say(Phrase::TooMuch.text_in(style))?;
     Ok(ItemTurn::Ended(None))
 }
 
 // Gets or drops an item that was taken, or refuses it and ends the command.
 #[tactic(auto, using(crate::proofs::Showing::shown_said))]
 fn move_taken<C: Console>(
-    db: &Db,
+    game: &Game,
     state: &mut State,
     transfer: Transfer,
     i: u8,
     console: &mut C,
 ) -> Result<ItemTurn, ConsoleFault>
-    requires fits { Fits db.now state.old }
-    requires there { i < length db.now.items }
-    ensures spoken { let refused = is_refused transfer db.now state.old in
+    requires fits { Fits game.now.db state.old }
+    requires there { i < length game.now.db.items }
+    ensures spoken { let refused = is_refused transfer game.now.db state.old in
         Speaks (C.seen console.old) (C.seen console.new) result
-        (shown_of (moved_or_not refused transfer i (item_at db.now i) state.old).events) }
-    ensures left { let refused = is_refused transfer db.now state.old in
+        (shown_of (moved_or_not refused game.now.style transfer i
+        (item_at game.now.db i) state.old).events) }
+    ensures left { let refused = is_refused transfer game.now.db state.old in
         IfOk result (λ item_turn.
-        (moved_or_not refused transfer i (item_at db.now i) state.old).value
+        (moved_or_not refused game.now.style transfer i (item_at game.now.db i) state.old).value
         ≡ record { state = state.new; item_turn = item_turn }) }
-    ensures fits { Fits db.now state.new }
+    ensures fits { Fits game.now.db state.new }
 {
-    if is_refused(db, state, transfer) {
-        say_too_much(console)
+    if is_refused(game.db(), state, transfer) {
+        say_too_much(game.style(), console)
     } else {
-        let item = &db.items()[i as usize];
-        transfer_item(db, state, transfer, i);
+        let item = &game.db().items()[i as usize];
+        transfer_item(game.db(), state, transfer, i);
         say_moved(item, console)
     }
 }
 
 // What becomes of an item after its lines.
 fn finish_item<C: Console>(
-    db: &Db,
+    game: &Game,
     state: &mut State,
     transfer: Transfer,
     i: u8,
     over: Option<u8>,
     console: &mut C,
 ) -> Result<ItemTurn, ConsoleFault>
-    requires fits { Fits db.now state.old }
-    requires there { i < length db.now.items }
+    requires fits { Fits game.now.db state.old }
+    requires there { i < length game.now.db.items }
     ensures spoken { Speaks (C.seen console.old) (C.seen console.new) result
-        (shown_of (after_actions over transfer db.now i (item_at db.now i) state.old).events) }
+        (shown_of (after_actions over transfer game.now i
+        (item_at game.now.db i) state.old).events) }
     ensures left { IfOk result
-        (λ found. (after_actions over transfer db.now i (item_at db.now i) state.old).value
+        (λ found. (after_actions over transfer game.now i (item_at game.now.db i) state.old).value
         ≡ record { state = state.new; item_turn = found }) }
-    ensures fits { Fits db.now state.new }
+    ensures fits { Fits game.now.db state.new }
 {
     match over {
         Some(ending) => Ok(ItemTurn::Ended(Some(ending))),
-        None => move_taken(db, state, transfer, i, console),
+        None => move_taken(game, state, transfer, i, console),
     }
 }
 
@@ -178,19 +181,19 @@ fn take_item<C: Console>(
     typed: &[u8],
     console: &mut C,
 ) -> Result<ItemTurn, ConsoleFault>
-    requires fits { Fits game.now state.old }
-    requires there { i < length game.now.items }
+    requires fits { Fits game.now.db state.old }
+    requires there { i < length game.now.db.items }
     ensures spoken { Speaks (C.seen console.old) (C.seen console.new) result
         (shown_of (item_turn true transfer game.now typed.now i
-        (item_at game.now i) state.old).events) }
+        (item_at game.now.db i) state.old).events) }
     ensures left { IfOk result
         (λ found. (item_turn true transfer game.now typed.now i
-        (item_at game.now i) state.old).value
+        (item_at game.now.db i) state.old).value
         ≡ record { state = state.new; item_turn = found }) }
-    ensures fits { Fits game.now state.new }
+    ensures fits { Fits game.now.db state.new }
 {
     let over = try_item_actions(game, state, transfer, i, typed, console)?;
-    finish_item(game.db(), state, transfer, i, over, console)
+    finish_item(game, state, transfer, i, over, console)
 }
 
 /// An item's turn, whether or not it is taken.
@@ -204,17 +207,17 @@ pub fn do_item_turn<C: Console>(
     typed: &[u8],
     console: &mut C,
 ) -> Result<ItemTurn, ConsoleFault>
-    requires fits { Fits game.now state.old }
-    requires there { i < length game.now.items }
-    ensures spoken { let any_taken = is_taken transfer i (item_at game.now i) state.old in
+    requires fits { Fits game.now.db state.old }
+    requires there { i < length game.now.db.items }
+    ensures spoken { let any_taken = is_taken transfer i (item_at game.now.db i) state.old in
         Speaks (C.seen console.old) (C.seen console.new) result
         (shown_of (item_turn any_taken transfer game.now typed.now i
-        (item_at game.now i) state.old).events) }
-    ensures left { let any_taken = is_taken transfer i (item_at game.now i) state.old in
+        (item_at game.now.db i) state.old).events) }
+    ensures left { let any_taken = is_taken transfer i (item_at game.now.db i) state.old in
         IfOk result (λ found.
-        (item_turn any_taken transfer game.now typed.now i (item_at game.now i) state.old).value
+        (item_turn any_taken transfer game.now typed.now i (item_at game.now.db i) state.old).value
         ≡ record { state = state.new; item_turn = found }) }
-    ensures fits { Fits game.now state.new }
+    ensures fits { Fits game.now.db state.new }
 {
     let item = &game.db().items()[i as usize];
     if is_taken(state, transfer, i, item) {

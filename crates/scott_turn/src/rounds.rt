@@ -39,7 +39,7 @@ fn answer_next<C: Console>(
     line: &mut Line,
     console: &mut C,
 ) -> Result<Option<Position>, ConsoleFault>
-    requires { Fits game.now state.old }
+    requires { Fits game.now.db state.old }
     ensures as_rules { IfSome (C.seen console.old).left (λ lines.
         AnswersNext (C.seen console.old)
         (C.seen console.new) game.now lines result state.old state.new) }
@@ -47,7 +47,7 @@ fn answer_next<C: Console>(
         IfSome answered (λ _. (C.seen console.new).bound < (C.seen console.old).bound)) }
     ensures bounded { (C.seen console.new).bound ≤ (C.seen console.old).bound }
     ensures cause { HasCause (C.seen console.old).faults (C.seen console.new).faults result }
-    ensures fits { Fits game.now state.new }
+    ensures fits { Fits game.now.db state.new }
     ensures ends { IfOk result (λ answered. IfSome answered EndsWell) }
 {
     answer_ends_well();
@@ -70,7 +70,7 @@ fn go_round<C: Console>(
     line: &mut Line,
     console: &mut C,
 ) -> Result<Round, ConsoleFault>
-    requires fits { Fits game.now state.old }
+    requires fits { Fits game.now.db state.old }
     requires ends { EndsWell position }
     ensures as_rules { IfSome (C.seen console.old).left (λ lines.
         GoesRound (C.seen console.old) (C.seen console.new) result
@@ -81,7 +81,7 @@ fn go_round<C: Console>(
     ensures bounded { (C.seen console.new).bound ≤ (C.seen console.old).bound }
     ensures cause { HasCause (C.seen console.old).faults (C.seen console.new).faults result }
     ensures taken { supplied draws.new ≡ supplied draws.old }
-    ensures fits { Fits game.now state.new }
+    ensures fits { Fits game.now.db state.new }
     ensures ends { IfOk result (λ round. EndsWell round.position) }
 {
     advance_ends_well();
@@ -116,7 +116,7 @@ pub fn play_on<C: Console>(
     draws: &mut Draws,
     console: &mut C,
 ) -> Result<Position, ConsoleFault>
-    requires fits { Fits game.now state.old }
+    requires fits { Fits game.now.db state.old }
     requires ends { EndsWell position }
     ensures as_rules { IfSome (C.seen console.old).left (λ lines.
         PlaysOut (C.seen console.old) (C.seen console.new) result
@@ -125,7 +125,7 @@ pub fn play_on<C: Console>(
     ensures bounded { (C.seen console.new).bound ≤ (C.seen console.old).bound }
     ensures cause { HasCause (C.seen console.old).faults (C.seen console.new).faults result }
     ensures taken { supplied draws.new ≡ supplied draws.old }
-    ensures fits { Fits game.now state.new }
+    ensures fits { Fits game.now.db state.new }
     ensures ends { IfOk result EndsWell }
 {
     let mut line = Line::of(&[]);

@@ -61,21 +61,22 @@ fn search_turn<C: Console>(
     typed: &[u8],
     console: &mut C,
 ) -> Result<Found, ConsoleFault>
-    requires fits { Fits game.now state.old }
-    requires there { head < length game.now.actions }
-    ensures spoken { let b = is_for_noun (noun_of (action_at game.now head).vocab) noun in
+    requires fits { Fits game.now.db state.old }
+    requires there { head < length game.now.db.actions }
+    ensures spoken { let b = is_for_noun (noun_of (action_at game.now.db head).vocab) noun in
         Speaks (C.seen console.old) (C.seen console.new) result
-        (shown_of (search_turn b game.now typed.now (group_at game.now head) state.old).events) }
-    ensures state { let b = is_for_noun (noun_of (action_at game.now head).vocab) noun in
+        (shown_of (search_turn b game.now typed.now (group_at game.now.db head) state.old).events) }
+    ensures state { let b = is_for_noun (noun_of (action_at game.now.db head).vocab) noun in
         OnOk result (state.new
-        ≡ (search_turn b game.now typed.now (group_at game.now head) state.old).value.state) }
-    ensures found { let b = is_for_noun (noun_of (action_at game.now head).vocab) noun in
+        ≡ (search_turn b game.now typed.now (group_at game.now.db head) state.old).value.state) }
+    ensures found { let b = is_for_noun (noun_of (action_at game.now.db head).vocab) noun in
         IfOk result (λ found.
-        found ≡ (search_turn b game.now typed.now (group_at game.now head) state.old).value.found) }
-    ensures fits { Fits game.now state.new }
+        found ≡ (search_turn b game.now typed.now
+        (group_at game.now.db head) state.old).value.found) }
+    ensures fits { Fits game.now.db state.new }
 {
     if is_meant(game.db(), head, noun) {
-        let ran = try_group(game.db(), state, head, typed, console)?;
+        let ran = try_group(game, state, head, typed, console)?;
         Ok(found_of(ran))
     } else {
         Ok(Found::NoMatch)
@@ -114,15 +115,15 @@ pub fn search<C: Console>(
     typed: &[u8],
     console: &mut C,
 ) -> Result<Found, ConsoleFault>
-    requires { Fits game.now state.old }
+    requires { Fits game.now.db state.old }
     ensures spoken { Speaks (C.seen console.old) (C.seen console.new) result
         (shown_of (search_result game.now typed.now command.verb command.noun
-        (groups game.now) state.old).events) }
+        (groups game.now.db) state.old).events) }
     ensures left { IfOk result
         (λ found. (search_result game.now typed.now command.verb command.noun
-        (groups game.now) state.old).value
+        (groups game.now.db) state.old).value
         ≡ record { state = state.new; found = found }) }
-    ensures fits { Fits game.now state.new }
+    ensures fits { Fits game.now.db state.new }
 {
     let mut before = Found::NoMatch;
     let mut next = game.first_head(command.verb, 0);

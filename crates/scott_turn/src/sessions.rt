@@ -3,6 +3,7 @@ ghost use Rattle.std.specs.Prelude.{◌≡◌, ◌≤◌, ◌↔◌, true, false
 ghost use Rattle.adv_io.specs.Console.{Speaks};
 ghost use Rattle.adv_io.specs.Faults.{HasCause};
 ghost use Rattle.scott_types.specs.State.{Fits, start};
+ghost use Rattle.scott_types.specs.Style.{in_style};
 ghost use Rattle.scott_rules.specs.Laws.{EndsWell};
 ghost use Rattle.scott_types.specs.declared.endings.Position.TheVariants.{Fresh};
 ghost use Rattle.scott_rules.specs.Play.{ending_of};
@@ -15,14 +16,14 @@ use crate::rounds::play_on;
 use adv_draws::Draws;
 use adv_io::{Console, ConsoleFault, Line, Memory};
 use scott_rules::laws::{endings_are_three, play_spends, play_splits};
-use scott_types::{Db, Ending, Position, State};
+use scott_types::{Db, Ending, Position, State, Style};
 use std::alloc::Global;
 use std::marker::Model;
 
 /// A game that is being played.
 ///
-/// A clause sees the game, where its play stands, its state, and whether a failure of the console broke
-/// the session.
+/// A clause sees the game with its style, where its play stands, its state, and whether a failure of
+/// the console broke the session.
 #[derive(Drop)]
 pub struct Session<'a> {
     game: Game<'a>,
@@ -41,7 +42,7 @@ impl<'a> Model for Session<'a> {
     ghost view = { λ s.
         record { game = s.game; position = s.position; state = s.state; broken = s.broken } };
 
-    ghost invariant = { λ s. Fits s.game s.state × EndsWell s.position };
+    ghost invariant = { λ s. Fits s.game.db s.state × EndsWell s.position };
 }
 
 // Why a play that stands at a position stopped.
@@ -57,14 +58,15 @@ fn ending_of(position: Position) -> Ending
 }
 
 impl<'a> Session<'a> {
-    /// A session at the beginning of a game. Once it is open it takes no memory.
-    pub fn open(alloc: Global, db: &'a Db) -> Result<Session<'a>, Memory>
-        ensures game { IfOk result (λ session. session.game ≡ db.now) }
+    /// A session at the beginning of a game, in a style that it keeps. Once it is open it takes no
+    /// memory.
+    pub fn open(alloc: Global, db: &'a Db, style: Style) -> Result<Session<'a>, Memory>
+        ensures game { IfOk result (λ session. session.game ≡ in_style style db.now) }
         ensures position { IfOk result (λ session. session.position ≡ Position.Fresh) }
         ensures state { IfOk result (λ session. session.state ≡ start db.now) }
         ensures whole { IfOk result (λ session. session.broken ≡ false) }
     {
-        let game = Game::of(alloc, db)?;
+        let game = Game::of(alloc, db, style)?;
         Ok(Session {
             game,
             position: Position::Fresh,
@@ -153,7 +155,7 @@ impl<'a> Session<'a> {
     /// The state of the play.
     pub fn state(&self) -> &State
         ensures value { result.now ≡ self.now.state }
-        ensures fits { Fits self.now.game self.now.state }
+        ensures fits { Fits self.now.game.db self.now.state }
     {
         &self.state
     }

@@ -7,30 +7,32 @@ ghost use Rattle.scott_rules.specs.Groups.{over_of, tail_action, tail_tried, pas
 ghost use Rattle.adv_io.specs.Steps.{shown_of};
 ghost use Rattle.scott_turn.specs.Heads.{tail_from, group_at};
 
+use crate::games::Game;
 use crate::heads::tail_goes_on;
 use adv_io::{Console, ConsoleFault};
 use scott_actions::perform;
-use scott_types::{Db, Ran, State};
+use scott_types::{Ran, State};
 
 // Tries an action line.
 #[tactic(auto, using(crate::proofs::Showing::shown_action))]
 fn try_action<C: Console>(
-    db: &Db,
+    game: &Game,
     state: &mut State,
     line: u16,
     noun: &[u8],
     console: &mut C,
 ) -> Result<Ran, ConsoleFault>
-    requires fits { Fits db.now state.old }
-    requires there { line < length db.now.actions }
+    requires fits { Fits game.now.db state.old }
+    requires there { line < length game.now.db.actions }
     ensures spoken { Speaks (C.seen console.old) (C.seen console.new) result
-        (shown_of (try_action db.now noun.now line state.old).events) }
+        (shown_of (try_action game.now noun.now line state.old).events) }
     ensures state { OnOk result (state.new
-        ≡ (try_action db.now noun.now line state.old).value.state) }
-    ensures ran { IfOk result (λ ran. ran ≡ (try_action db.now noun.now line state.old).value.ran) }
-    ensures fits { Fits db.now state.new }
+        ≡ (try_action game.now noun.now line state.old).value.state) }
+    ensures ran { IfOk result
+        (λ ran. ran ≡ (try_action game.now noun.now line state.old).value.ran) }
+    ensures fits { Fits game.now.db state.new }
 {
-    perform(db, state, line, noun, console)
+    perform(game.db(), game.style(), state, line, noun, console)
 }
 
 // The ending that a line came to.
@@ -45,47 +47,49 @@ fn over_of(ran: Ran) -> Option<u8>
 
 // Tries a line of a tail, and answers whether it ended the game.
 fn try_tail_action<C: Console>(
-    db: &Db,
+    game: &Game,
     state: &mut State,
     line: u16,
     noun: &[u8],
     console: &mut C,
 ) -> Result<Option<u8>, ConsoleFault>
-    requires fits { Fits db.now state.old }
-    requires there { line < length db.now.actions }
+    requires fits { Fits game.now.db state.old }
+    requires there { line < length game.now.db.actions }
     ensures spoken { Speaks (C.seen console.old) (C.seen console.new) result
-        (shown_of (tail_action db.now noun.now line state.old).events) }
+        (shown_of (tail_action game.now noun.now line state.old).events) }
     ensures state { OnOk result (state.new
-        ≡ (tail_action db.now noun.now line state.old).value.state) }
+        ≡ (tail_action game.now noun.now line state.old).value.state) }
     ensures over { IfOk result
-        (λ over. over ≡ (tail_action db.now noun.now line state.old).value.over) }
-    ensures fits { Fits db.now state.new }
+        (λ over. over ≡ (tail_action game.now noun.now line state.old).value.over) }
+    ensures fits { Fits game.now.db state.new }
 {
-    let ran = try_action(db, state, line, noun, console)?;
+    let ran = try_action(game, state, line, noun, console)?;
     Ok(over_of(ran))
 }
 
 // Tries each line of the tail that goes on at a line, until one ends the game.
 fn try_tail<C: Console>(
-    db: &Db,
+    game: &Game,
     state: &mut State,
     from: u16,
     noun: &[u8],
     console: &mut C,
 ) -> Result<Option<u8>, ConsoleFault>
-    requires { Fits db.now state.old }
+    requires { Fits game.now.db state.old }
     ensures spoken { Speaks (C.seen console.old) (C.seen console.new) result
-        (shown_of (tail_tried db.now noun.now (tail_from db.now from) state.old).events) }
+        (shown_of (tail_tried game.now noun.now (tail_from game.now.db from) state.old).events) }
     ensures state { OnOk result
-        (state.new ≡ (tail_tried db.now noun.now (tail_from db.now from) state.old).value.state) }
+        (state.new
+        ≡ (tail_tried game.now noun.now (tail_from game.now.db from) state.old).value.state) }
     ensures over { IfOk result
-        (λ over. over ≡ (tail_tried db.now noun.now (tail_from db.now from) state.old).value.over) }
-    ensures fits { Fits db.now state.new }
+        (λ over. over
+        ≡ (tail_tried game.now noun.now (tail_from game.now.db from) state.old).value.over) }
+    ensures fits { Fits game.now.db state.new }
 {
-    let _lines = db.actions();
+    let _lines = game.db().actions();
     let mut line = from;
-    while tail_goes_on(db, line) {
-        let over = try_tail_action(db, state, line, noun, console)?;
+    while tail_goes_on(game.db(), line) {
+        let over = try_tail_action(game, state, line, noun, console)?;
         if over.is_some() {
             return Ok(over);
         }
@@ -109,25 +113,26 @@ fn with_tail(over: Option<u8>) -> Ran
 ///
 /// The console's fault alone is a refusal; the state fits then too. docs/TURN.md, "Groups", has the rule.
 pub fn try_group<C: Console>(
-    db: &Db,
+    game: &Game,
     state: &mut State,
     head: u16,
     noun: &[u8],
     console: &mut C,
 ) -> Result<Ran, ConsoleFault>
-    requires fits { Fits db.now state.old }
-    requires there { head < length db.now.actions }
+    requires fits { Fits game.now.db state.old }
+    requires there { head < length game.now.db.actions }
     ensures spoken { Speaks (C.seen console.old) (C.seen console.new) result
-        (shown_of (group_tried db.now noun.now (group_at db.now head) state.old).events) }
+        (shown_of (group_tried game.now noun.now (group_at game.now.db head) state.old).events) }
     ensures state { OnOk result (state.new
-        ≡ (group_tried db.now noun.now (group_at db.now head) state.old).value.state) }
+        ≡ (group_tried game.now noun.now (group_at game.now.db head) state.old).value.state) }
     ensures ran { IfOk result
-        (λ ran. ran ≡ (group_tried db.now noun.now (group_at db.now head) state.old).value.ran) }
-    ensures fits { Fits db.now state.new }
+        (λ ran. ran
+        ≡ (group_tried game.now noun.now (group_at game.now.db head) state.old).value.ran) }
+    ensures fits { Fits game.now.db state.new }
 {
-    let _lines = db.actions();
-    match try_action(db, state, head, noun, console) {
-        Ok(Ran::Passed(true)) => match try_tail(db, state, head + 1, noun, console) {
+    let _lines = game.db().actions();
+    match try_action(game, state, head, noun, console) {
+        Ok(Ran::Passed(true)) => match try_tail(game, state, head + 1, noun, console) {
             Ok(over) => Ok(with_tail(over)),
             Err(fault) => Err(fault),
         },

@@ -10,10 +10,12 @@ ghost use Rattle.scott_rules.specs.Commands.{is_direction};
 ghost use Rattle.scott_rules.specs.Rounds.{way, walk_result};
 ghost use Rattle.adv_io.specs.Steps.{shown_of};
 ghost use Rattle.scott_turn.specs.Ways.{way_text, way_over};
+ghost use Rattle.scott_types.specs.declared.styles.Style.{Style as AnyStyle};
 
+use crate::games::Game;
 use adv_io::{Console, ConsoleFault, say_both};
 use scott_rules::laws::walk_fits;
-use scott_types::{Db, Phrase, State, exit};
+use scott_types::{Phrase, State, Style, exit};
 
 // The warning of a move in the dark.
 fn warning(dark: bool) -> &'static [u8]
@@ -23,15 +25,15 @@ fn warning(dark: bool) -> &'static [u8]
 }
 
 // What is said of a way: that it was gone, or why not.
-fn way_text(dark: bool, room: u8) -> &'static [u8]
-    ensures { result.now ≡ way_text dark room }
+fn way_text(style: Style, dark: bool, room: u8) -> &'static [u8]
+    ensures { result.now ≡ way_text style dark room }
 {
     if room != 0 {
         Phrase::Moved.text()
     } else if dark {
-        Phrase::BrokenNeck.text()
+        Phrase::BrokenNeck.text_in(style)
     } else {
-        Phrase::NoExitThere.text()
+        Phrase::NoExitThere.text_in(style)
     }
 }
 
@@ -44,7 +46,7 @@ fn way_over(dark: bool, room: u8) -> Option<u8>
 
 // The room becomes the one beyond an exit, where there is one.
 fn go(state: &mut State, room: u8)
-    ensures { state.new ≡ (way room state.old).value.state }
+    ensures { (style : AnyStyle) → state.new ≡ (way style room state.old).value.state }
 {
     if room != 0 {
         state.room = room;
@@ -57,23 +59,25 @@ fn go(state: &mut State, room: u8)
 ///
 /// The console's fault alone is a refusal; the state fits then too. docs/TURN.md, "Commands", has the rule.
 pub fn walk<C: Console>(
-    db: &Db,
+    game: &Game,
     state: &mut State,
     noun: u16,
     console: &mut C,
 ) -> Result<Option<u8>, ConsoleFault>
-    requires fits { Fits db.now state.old }
+    requires fits { Fits game.now.db state.old }
     requires direction { IsTrue (is_direction noun) }
     ensures spoken { Speaks (C.seen console.old) (C.seen console.new) result
-        (shown_of (walk_result db.now noun state.old).events) }
-    ensures left { IfOk result (λ over. (walk_result db.now noun state.old).value
+        (shown_of (walk_result game.now noun state.old).events) }
+    ensures left { IfOk result (λ over. (walk_result game.now noun state.old).value
         ≡ record { state = state.new; over = over }) }
-    ensures fits { Fits db.now state.new }
+    ensures fits { Fits game.now.db state.new }
 {
     walk_fits();
+    let db = game.db();
+    let _limits = db.parts();
     let dark = state.is_dark();
     let room = exit(db, state.room, noun as usize - 1);
     go(state, room);
-    say_both(warning(dark), way_text(dark, room), console)?;
+    say_both(warning(dark), way_text(game.style(), dark, room), console)?;
     Ok(way_over(dark, room))
 }

@@ -2,6 +2,7 @@ pub mod Database
 pub mod Limits
 pub mod Condition
 pub mod Opcode
+pub mod Style
 pub mod Phrase
 pub mod ItemText
 pub mod Action

@@ -1,5 +1,5 @@
 -- The limits that every database keeps.
-use Rattle.std.specs.Prelude.{ℕ, ◌≤◌, ◌<◌, ◌≡◌, ◌==◌, ◌||◌, ◌&&◌, Bool, not, List, [], ◌∷◌, length, nat_le, nat_lt, ℤ, pos, negsuc, ◌≤ℤ◌, int_le, IsTrue}
+use Rattle.std.specs.Prelude.{ℕ, ◌≤◌, ◌<◌, ◌≡◌, ◌==◌, ◌&&◌, Bool, List, [], ◌∷◌, length, nat_le, nat_lt, ℤ, pos, negsuc, ◌≤ℤ◌, int_le, IsTrue}
 use Rattle.std.specs.List.{list_all}
 use Rattle.adv_io.specs.Text.{is_text_byte, text_limit}
 use Rattle.scott_types.specs.declared.parts.Header.{Header}

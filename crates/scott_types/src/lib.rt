@@ -18,13 +18,14 @@ pub mod opcodes;
 pub mod parameters;
 pub mod verbs;
 
-// A play: its state, what a line means, how things end, and the fixed texts.
+// A play: its state and style, what a line means, how things end, and the fixed texts.
 pub mod commands;
 pub mod endings;
 mod fitting;
 pub mod phrases;
 pub mod places;
 pub mod states;
+pub mod styles;
 
 // Laws of the above.
 pub mod laws;
@@ -41,4 +42,5 @@ pub use parameters::Parameter;
 pub use parts::{Action, Header, Item, Parts, Room, Trailer, Word};
 pub use phrases::Phrase;
 pub use states::State;
+pub use styles::Style;
 pub use texts::Text;

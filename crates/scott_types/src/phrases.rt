@@ -1,6 +1,8 @@
 //! The fixed texts of the machine, each under a name.
 ghost use Rattle.std.specs.Prelude.{◌≡◌};
-ghost use Rattle.scott_types.specs.Phrase.{text_of};
+ghost use Rattle.scott_types.specs.Phrase.{text_of, second_person, text_in};
+
+use crate::styles::Style;
 
 /// A fixed text that the machine says, or a part of one.
 ///
@@ -29,6 +31,8 @@ pub enum Phrase {
     GameOver,
     LightOut,
     LightDim,
+    LightLasts,
+    LightTurns,
     TooMuch,
     Dead,
     NoSaving,
@@ -53,7 +57,7 @@ pub enum Phrase {
 }
 
 impl Phrase {
-    /// The bytes of the text.
+    /// The bytes of the text, in the plain style.
     #[tactic(auto, unfolding(crate::specs::Phrase::text_of))]
     pub fn text(self) -> &'static [u8]
         ensures { result.now ≡ text_of self }
@@ -81,6 +85,8 @@ impl Phrase {
             Phrase::GameOver => b"The game is now over.\n",
             Phrase::LightOut => b"Your light has run out. ",
             Phrase::LightDim => b"Your light is growing dim. ",
+            Phrase::LightLasts => b"Your light runs out in ",
+            Phrase::LightTurns => b" turns. ",
             Phrase::TooMuch => b"I've too much to carry! ",
             Phrase::Dead => b"I am dead.\n",
             Phrase::NoSaving => b"[Saving is left out.]\n",
@@ -102,6 +108,37 @@ impl Phrase {
             Phrase::WhatItem => b"What ? ",
             Phrase::Done => b"O.K. ",
             Phrase::BeyondPower => b"It's beyond my power to do that. ",
+        }
+    }
+    // The bytes of the text in the second person.
+    #[tactic(auto, unfolding(crate::specs::Phrase::second_person))]
+    fn second_person(self) -> &'static [u8]
+        ensures { result.now ≡ second_person self }
+    {
+        match self {
+            Phrase::TooDark => b"You can't see. It is too dark!\n",
+            Phrase::InA => b"You are in a ",
+            Phrase::AlsoSee => b"\nYou can also see: ",
+            Phrase::CarryingList => b"You are carrying:\n",
+            Phrase::Stored => b"You have stored ",
+            Phrase::TooMuch => b"You have too much to carry! ",
+            Phrase::Dead => b"You are dead.\n",
+            Phrase::BrokenNeck => b"You fell down and broke your neck. ",
+            Phrase::NoExitThere => b"You can't go in that direction. ",
+            Phrase::BeyondPower => b"It's beyond your power to do that. ",
+            Phrase::NotYet => b"You can't do that yet. ",
+            _ => self.text(),
+        }
+    }
+
+    /// The bytes of the text in a style.
+    pub fn text_in(self, style: Style) -> &'static [u8]
+        ensures { result.now ≡ text_in style self }
+    {
+        if style.you {
+            self.second_person()
+        } else {
+            self.text()
         }
     }
 }

@@ -1,5 +1,5 @@
 //! Where items are, and whether it is dark.
-ghost use Rattle.std.specs.Prelude.{◌≡◌, ◌<◌, ◌≤◌, length};
+ghost use Rattle.std.specs.Prelude.{◌≡◌, ◌≢◌, ◌<◌, ◌≤◌, IsTrue, length};
 ghost use Rattle.scott_types.specs.State.{has_item, place_of, is_here, is_carried, is_near, is_dark, carried_count, flag_of};
 
 use crate::states::State;
@@ -26,7 +26,8 @@ impl State {
 
     /// Where an item is: 0 for one that isn't there.
     pub fn place(&self, item: u32) -> u8
-        ensures { result ≡ place_of self.now item }
+        ensures value { result ≡ place_of self.now item }
+        ensures there { result ≢ 0 → IsTrue (has_item self.now item) }
     {
         let places = self.places.as_slice();
         if (item as usize) < places.len() {

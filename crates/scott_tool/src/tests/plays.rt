@@ -228,6 +228,36 @@ const GET_ALL: Case<'static> = Case {
     ..WALK
 };
 
+const YOUR_HALL: &str = "You are in a hall\nObvious exits: North.\n\nYou can also see: Rug\n";
+
+const LAST_TURN: &str = "Your light runs out in 1 turns. ";
+
+// Plays in a style, with their settings in either order.
+const STYLES: [Case<'static>; 3] = [
+    Case {
+        command: "play t.dat style=y",
+        lines: &[b"go south"],
+        said: &[YOUR_HALL, ASK, "You can't go in that direction. ", ASK],
+        ..WALK
+    },
+    Case {
+        command: "play t.dat style=cv",
+        game: File::Of(LIT),
+        lines: &[b"look", b"look", b"look", b"look"],
+        said: &[
+            HALL, ASK, NO, LAST_TURN, ASK, NO, OUT, ASK, NO, ASK, NO, ASK,
+        ],
+        ..WALK
+    },
+    Case {
+        command: "play t.dat style=ycv seed=1",
+        game: File::Of(LIT),
+        lines: &[b"look"],
+        said: &[YOUR_HALL, ASK, NO, LAST_TURN, ASK],
+        ..WALK
+    },
+];
+
 const SHORT: &str = "rooms 3, items 1, lines 1, words 7, messages 1\n";
 
 const REPORTS: [Case<'static>; 2] = [
@@ -250,11 +280,12 @@ const REPORTS: [Case<'static>; 2] = [
 ];
 
 /// Plays and reports.
-pub const ALL: [&[Case<'static>]; 6] = [
+pub const ALL: [&[Case<'static>]; 7] = [
     &SEEDED,
     &DRAWS,
     &ENDINGS,
     &LIGHTS,
+    &STYLES,
     &[BLANK_LINE, GET_ALL],
     &REPORTS,
 ];

@@ -11,7 +11,7 @@ const UNASKED: Case<'static> = Case {
     ..NOTHING
 };
 
-const NO_REQUESTS: [Case<'static>; 6] = [
+const NO_REQUESTS: [Case<'static>; 8] = [
     UNASKED,
     Case {
         command: "play",
@@ -23,6 +23,14 @@ const NO_REQUESTS: [Case<'static>; 6] = [
     },
     Case {
         command: "play t.dat seed=1 seed=2",
+        ..UNASKED
+    },
+    Case {
+        command: "play t.dat style=vy",
+        ..UNASKED
+    },
+    Case {
+        command: "play t.dat style=",
         ..UNASKED
     },
     Case {

@@ -5,7 +5,7 @@ use adv_draws::Draws;
 use adv_io::Line;
 use scott_format::read_db;
 use scott_turn::Session;
-use scott_types::{Ending, Position};
+use scott_types::{Ending, Position, Style};
 use std::process::Abort;
 use std::test::Fail;
 
@@ -16,7 +16,7 @@ fn lines_are_handed_in(rt: HostRuntime) -> Result<(), Fail> {
     let text = T.text(alloc)?;
     assert!(rt; text.len() <= 1_048_576);
     let db = read_db(alloc, text.as_bytes()).ok().ok_or("no database")?;
-    let Ok(mut session) = Session::open(alloc, &db) else {
+    let Ok(mut session) = Session::open(alloc, &db, Style::plain()) else {
         return Err(Fail::from("no session"));
     };
     let mut draws = Draws::seeded(1);

@@ -2,4 +2,4 @@ use Rattle.scott_rules.proofs.Spending.{go-spends}
 use Rattle.scott_rules.proofs.laws.play_spends.Goals as goal
 
 pub returns : goal.returns
-returns c = λ db position s lines draws. go-spends db lines position s draws
+returns c = λ game position s lines draws. go-spends game lines position s draws

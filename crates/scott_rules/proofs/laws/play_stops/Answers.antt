@@ -2,4 +2,4 @@ use Rattle.scott_rules.proofs.Stopping.{go-stops}
 use Rattle.scott_rules.proofs.laws.play_stops.Goals as goal
 
 pub returns : goal.returns
-returns c = λ db position s lines draws. go-stops db lines position s draws
+returns c = λ game position s lines draws. go-stops game lines position s draws

@@ -7,14 +7,14 @@ use Rattle.scott_turn.proofs.advancing.advance_from.Goals as goal
 
 pub returns-clause-spoken : goal.returns-clause-spoken
 returns-clause-spoken g c =
-    let db = c.args.game.now in
-    let t = automatic db (groups_from db c.args.from) c.args.state.now c.args.draws.now.left in
-    steps_then t.events (prompted t.value.halt db t.value.state t.value.draws).events c.in_ok-halt.ensures.spoken
-    (rw (prompted-as_rules db t.value c.automatic.new.state c.automatic.new.draws.left c.in_ok-halt.halt c.in_ok-halt.ensures.left) (rw c.db.ensures at c.go_to_prompt.ensures.spoken))
+    let game = c.args.game.now in
+    let t = automatic game (groups_from game.db c.args.from) c.args.state.now c.args.draws.now.left in
+    steps_then t.events (prompted t.value.halt game t.value.state t.value.draws).events c.in_ok-halt.ensures.spoken
+    (rw (prompted-as_rules game t.value c.automatic.new.state c.automatic.new.draws.left c.in_ok-halt.halt c.in_ok-halt.ensures.left) c.go_to_prompt.ensures.spoken)
 
 pub returns-in_err-halt-clause-spoken : goal.returns-in_err-halt-clause-spoken
 returns-in_err-halt-clause-spoken g c =
-    let db = c.args.game.now in
-    let t = automatic db (groups_from db c.args.from) c.args.state.now c.args.draws.now.left in
+    let game = c.args.game.now in
+    let t = automatic game (groups_from game.db c.args.from) c.args.state.now c.args.draws.now.left in
     let p = err_from_is_err_and c.from_residual.result c.from_residual.ensures.1 in
-    rw (p.1) (steps_stop p.0 t.events (prompted t.value.halt db t.value.state t.value.draws).events c.in_err-halt.ensures.spoken)
+    rw (p.1) (steps_stop p.0 t.events (prompted t.value.halt game t.value.state t.value.draws).events c.in_err-halt.ensures.spoken)

@@ -8,45 +8,45 @@ use Rattle.scott_turn.proofs.all_items.all_items.Goals as goal
 
 pub returns-in_err-item_turn-clause-spoken : goal.returns-in_err-item_turn-clause-spoken
 returns-in_err-item_turn-clause-spoken g c =
-    let db = c.args.game.now in
+    let game = c.args.game.now in
     let i = c.loop-i.i in
-    let there : i < length db.items = omega (arith, ap length (rw c.db.ensures at c.items-i-end.ensures.value)) in
-    let t = turn_of c.args.transfer db c.args.typed.now i c.loop-i.state in
+    let there : i < length game.db.items = omega (arith, ap length (rw c.db.ensures at c.items-i-end.ensures.value)) in
+    let t = turn_of c.args.transfer game c.args.typed.now i c.loop-i.state in
     let p = err_from_is_err_and c.from_residual.result c.from_residual.ensures.1 in
     rw (p.1)
-    (along_stop p.0 t.events (after_item_turn t.value.item_turn t (all_items c.args.transfer db c.args.typed.now (i + 1) (drop (i + 1) db.items))) c.loop-i.invariant.along
-    (all_items-prefix c.args.transfer db c.args.typed.now i c.loop-i.state there c.loop-i.any_taken)
+    (along_stop p.0 t.events (after_item_turn t.value.item_turn t (all_items c.args.transfer game c.args.typed.now (i + 1) (drop (i + 1) game.db.items))) c.loop-i.invariant.along
+    (all_items-prefix c.args.transfer game c.args.typed.now i c.loop-i.state there c.loop-i.any_taken)
     c.in_err-item_turn.ensures.spoken)
 
 pub returns-then-ends_all-clause-spoken : goal.returns-then-ends_all-clause-spoken
 returns-then-ends_all-clause-spoken g c =
-    let db = c.args.game.now in
+    let game = c.args.game.now in
     let i = c.loop-i.i in
-    let there : i < length db.items = omega (arith, ap length (rw c.db.ensures at c.items-i-end.ensures.value)) in
-    along_end (turn_of c.args.transfer db c.args.typed.now i c.loop-i.state).events c.loop-i.invariant.along
-    (ap (λ w. w.events) (all_items-end c.args.transfer db c.args.typed.now i c.loop-i.state there c.in_ok-item_turn.item_turn c.loop-i.any_taken c.do_item_turn.new.state c.in_ok-item_turn.ensures.left (sym c.if-ends_all.ensures)))
+    let there : i < length game.db.items = omega (arith, ap length (rw c.db.ensures at c.items-i-end.ensures.value)) in
+    along_end (turn_of c.args.transfer game c.args.typed.now i c.loop-i.state).events c.loop-i.invariant.along
+    (ap (λ w. w.events) (all_items-end c.args.transfer game c.args.typed.now i c.loop-i.state there c.in_ok-item_turn.item_turn c.loop-i.any_taken c.do_item_turn.new.state c.in_ok-item_turn.ensures.left (sym c.if-ends_all.ensures)))
     (as_ok _ c.in_ok-item_turn.ensures.spoken)
 
 pub returns-then-ends_all-clause-left : goal.returns-then-ends_all-clause-left
 returns-then-ends_all-clause-left g c =
-    let db = c.args.game.now in
+    let game = c.args.game.now in
     let i = c.loop-i.i in
-    let there : i < length db.items = omega (arith, ap length (rw c.db.ensures at c.items-i-end.ensures.value)) in
+    let there : i < length game.db.items = omega (arith, ap length (rw c.db.ensures at c.items-i-end.ensures.value)) in
     along_value c.loop-i.invariant.along
-    ∙ ap (λ w. w.value) (all_items-end c.args.transfer db c.args.typed.now i c.loop-i.state there c.in_ok-item_turn.item_turn c.loop-i.any_taken c.do_item_turn.new.state c.in_ok-item_turn.ensures.left (sym c.if-ends_all.ensures))
+    ∙ ap (λ w. w.value) (all_items-end c.args.transfer game c.args.typed.now i c.loop-i.state there c.in_ok-item_turn.item_turn c.loop-i.any_taken c.do_item_turn.new.state c.in_ok-item_turn.ensures.left (sym c.if-ends_all.ensures))
     ∙ rw c.over_in.ensures refl
 
 pub loop-i-preserved : goal.loop-i-preserved
 loop-i-preserved g c =
-    let db = c.args.game.now in
+    let game = c.args.game.now in
     let i = c.loop-i.i in
-    let there : i < length db.items = omega (arith, ap length (rw c.db.ensures at c.items-i-end.ensures.value)) in
+    let there : i < length game.db.items = omega (arith, ap length (rw c.db.ensures at c.items-i-end.ensures.value)) in
     record {
       few = c.loop-i.invariant.few;
       fits = c.do_item_turn.ensures.fits;
       along = rw c.is_taken_by-any_taken.ensures
-          (along_step (turn_of c.args.transfer db c.args.typed.now i c.loop-i.state).events
-          (taken_before (is_taken_by c.in_ok-item_turn.item_turn c.loop-i.any_taken) (all_items c.args.transfer db c.args.typed.now (i + 1) (drop (i + 1) db.items) c.do_item_turn.new.state)) c.loop-i.invariant.along
-          (all_items-on c.args.transfer db c.args.typed.now i c.loop-i.state there c.in_ok-item_turn.item_turn c.loop-i.any_taken c.do_item_turn.new.state c.in_ok-item_turn.ensures.left (sym c.if-ends_all.ensures))
+          (along_step (turn_of c.args.transfer game c.args.typed.now i c.loop-i.state).events
+          (taken_before (is_taken_by c.in_ok-item_turn.item_turn c.loop-i.any_taken) (all_items c.args.transfer game c.args.typed.now (i + 1) (drop (i + 1) game.db.items) c.do_item_turn.new.state)) c.loop-i.invariant.along
+          (all_items-on c.args.transfer game c.args.typed.now i c.loop-i.state there c.in_ok-item_turn.item_turn c.loop-i.any_taken c.do_item_turn.new.state c.in_ok-item_turn.ensures.left (sym c.if-ends_all.ensures))
           c.in_ok-item_turn.ensures.spoken);
     }

@@ -10,9 +10,9 @@ abbrev pub invariant-loop-i : goal.invariant-loop-i
 invariant-loop-i g l =
     let seen = g.C.Console.seen in
     record {
-      few : length l.game.items ≤ 255;
-      fits : Fits l.game l.state;
+      few : length l.game.db.items ≤ 255;
+      fits : Fits l.game.db l.state;
       along : Along
-          (all_items l.transfer l.game l.typed 0 l.game.items l.initial.state)
-          (taken_before l.any_taken (all_items l.transfer l.game l.typed l.i (drop l.i l.game.items) l.state)) (seen l.initial.console) (seen l.console);
+          (all_items l.transfer l.game l.typed 0 l.game.db.items l.initial.state)
+          (taken_before l.any_taken (all_items l.transfer l.game l.typed l.i (drop l.i l.game.db.items) l.state)) (seen l.initial.console) (seen l.console);
     }

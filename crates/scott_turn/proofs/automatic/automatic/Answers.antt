@@ -12,49 +12,49 @@ use Rattle.scott_turn.proofs.automatic.automatic.Goals as goal
 
 pub loop-next-init : goal.loop-next-init
 loop-next-init g c =
-    let db = c.args.game.now in
+    let game = c.args.game.now in
     record {
-      at_head = head_found db 0 c.args.from c.first_head-next.result c.first_head-next.ensures;
+      at_head = head_found game.db 0 c.args.from c.first_head-next.result c.first_head-next.ensures;
       fits = c.requires;
       taken = refl;
-      along = rw (automatic-for db c.args.from c.args.state.now c.args.draws.now.left, groups_for-found db 0 c.args.from c.first_head-next.result c.first_head-next.ensures) (along_start _ _);
+      along = rw (automatic-for game c.args.from c.args.state.now c.args.draws.now.left, groups_for-found game.db 0 c.args.from c.first_head-next.result c.first_head-next.ensures) (along_start _ _);
     }
 
 pub returns-in_err-halt-clause-spoken : goal.returns-in_err-halt-clause-spoken
 returns-in_err-halt-clause-spoken g c =
-    let db = c.args.game.now in
+    let game = c.args.game.now in
     let head = c.in-Some.head in
-    let t = auto_turn db (group_at db head) c.loop-next.state c.loop-next.draws.left in
+    let t = auto_turn game (group_at game.db head) c.loop-next.state c.loop-next.draws.left in
     let p = err_from_is_err_and c.from_residual.result c.from_residual.ensures.1 in
-    let comes = comes_here db 0 head (rw c.in-Some.is at c.loop-next.invariant.at_head) in
+    let comes = comes_here game.db 0 head (rw c.in-Some.is at c.loop-next.invariant.at_head) in
     rw (p.1)
-    (along_stop p.0 t.events (after_halt t.value.halt t (automatic db (groups_for db 0 (head + 1)))) (rw c.in-Some.is at c.loop-next.invariant.along)
-    (automatic-prefix db head head c.loop-next.state c.loop-next.draws.left comes)
+    (along_stop p.0 t.events (after_halt t.value.halt t (automatic game (groups_for game.db 0 (head + 1)))) (rw c.in-Some.is at c.loop-next.invariant.along)
+    (automatic-prefix game head head c.loop-next.state c.loop-next.draws.left comes)
     c.in_err-halt.ensures.spoken)
 
 pub returns-then-not-goes_on-clause-spoken : goal.returns-then-not-goes_on-clause-spoken
 returns-then-not-goes_on-clause-spoken g c =
-    let db = c.args.game.now in
+    let game = c.args.game.now in
     let head = c.in-Some.head in
-    let comes = comes_here db 0 head (rw c.in-Some.is at c.loop-next.invariant.at_head) in
-    along_end (auto_turn db (group_at db head) c.loop-next.state c.loop-next.draws.left).events (rw c.in-Some.is at c.loop-next.invariant.along)
-    (ap (λ w. w.events) (automatic-stop db head head c.loop-next.state c.loop-next.draws.left comes c.in_ok-halt.halt c.in_ok-halt.ensures.halt (sym c.if-not-goes_on.ensures)))
+    let comes = comes_here game.db 0 head (rw c.in-Some.is at c.loop-next.invariant.at_head) in
+    along_end (auto_turn game (group_at game.db head) c.loop-next.state c.loop-next.draws.left).events (rw c.in-Some.is at c.loop-next.invariant.along)
+    (ap (λ w. w.events) (automatic-stop game head head c.loop-next.state c.loop-next.draws.left comes c.in_ok-halt.halt c.in_ok-halt.ensures.halt (sym c.if-not-goes_on.ensures)))
     c.in_ok-halt.ensures.spoken
 
 pub loop-next-preserved : goal.loop-next-preserved
 loop-next-preserved g c =
-    let db = c.args.game.now in
+    let game = c.args.game.now in
     let head = c.in-Some.head in
-    let t = auto_turn db (group_at db head) c.loop-next.state c.loop-next.draws.left in
-    let comes = comes_here db 0 head (rw c.in-Some.is at c.loop-next.invariant.at_head) in
-    let rest : IsFirst db 0 (head + 1) c.head_after-next.result = rw (verb_of_head 0 (action_at db head) comes.is_head) at c.head_after-next.ensures in
+    let t = auto_turn game (group_at game.db head) c.loop-next.state c.loop-next.draws.left in
+    let comes = comes_here game.db 0 head (rw c.in-Some.is at c.loop-next.invariant.at_head) in
+    let rest : IsFirst game.db 0 (head + 1) c.head_after-next.result = rw (verb_of_head 0 (action_at game.db head) comes.is_head) at c.head_after-next.ensures in
     record {
-      at_head = head_found db 0 (head + 1) c.head_after-next.result rest;
+      at_head = head_found game.db 0 (head + 1) c.head_after-next.result rest;
       fits = c.auto_turn.ensures.fits;
       taken = omega (arith, c.loop-next.invariant.taken, c.auto_turn.ensures.taken);
-      along = along_step t.events (automatic db (groups_for db 0 (line_of db c.head_after-next.result)) c.auto_turn.new.state c.auto_turn.new.draws.left) (rw c.in-Some.is at c.loop-next.invariant.along)
-          (automatic-on db head head c.loop-next.state c.loop-next.draws.left comes c.in_ok-halt.halt c.in_ok-halt.ensures.halt (sym c.if-not-goes_on.ensures)
+      along = along_step t.events (automatic game (groups_for game.db 0 (line_of game.db c.head_after-next.result)) c.auto_turn.new.state c.auto_turn.new.draws.left) (rw c.in-Some.is at c.loop-next.invariant.along)
+          (automatic-on game head head c.loop-next.state c.loop-next.draws.left comes c.in_ok-halt.halt c.in_ok-halt.ensures.halt (sym c.if-not-goes_on.ensures)
           c.auto_turn.new.state c.in_ok-halt.ensures.state c.auto_turn.new.draws.left c.in_ok-halt.ensures.draws
-          ∙ ap (λ gs. after t.events (automatic db gs c.auto_turn.new.state c.auto_turn.new.draws.left)) (groups_for-found db 0 (head + 1) c.head_after-next.result rest))
+          ∙ ap (λ gs. after t.events (automatic game gs c.auto_turn.new.state c.auto_turn.new.draws.left)) (groups_for-found game.db 0 (head + 1) c.head_after-next.result rest))
           c.in_ok-halt.ensures.spoken;
     }

@@ -10,13 +10,13 @@ abbrev pub invariant-loop-next : goal.invariant-loop-next
 invariant-loop-next g l =
     let seen = g.C.Console.seen in
     record {
-      at_head : IsHead l.game 0 l.next;
-      fits : Fits l.game l.state;
+      at_head : IsHead l.game.db 0 l.next;
+      fits : Fits l.game.db l.state;
       taken : l.draws.taken + length l.draws.left ≡ l.initial.draws.taken + length l.initial.draws.left;
       along : Along
-          (automatic l.game (groups_from l.game l.from) l.initial.state l.initial.draws.left)
-          (automatic l.game (groups_for l.game 0 (line_of l.game l.next)) l.state l.draws.left) (seen l.initial.console) (seen l.console);
+          (automatic l.game (groups_from l.game.db l.from) l.initial.state l.initial.draws.left)
+          (automatic l.game (groups_for l.game.db 0 (line_of l.game.db l.next)) l.state l.draws.left) (seen l.initial.console) (seen l.console);
     }
 
 abbrev pub decreases-loop-next : goal.decreases-loop-next
-decreases-loop-next g l = length l.game.actions - line_of l.game l.next
+decreases-loop-next g l = length l.game.db.actions - line_of l.game.db l.next

@@ -8,20 +8,20 @@ use Rattle.scott_turn.proofs.commands.do_by_actions.Goals as goal
 
 pub returns-clause-spoken : goal.returns-clause-spoken
 returns-clause-spoken g c =
-    let db = c.args.game.now in
+    let game = c.args.game.now in
     let verb = c.args.command.verb in
     let noun = c.args.command.noun in
-    let t = search_result db c.args.typed.now verb noun (groups db) c.args.state.now in
+    let t = search_result game c.args.typed.now verb noun (groups game.db) c.args.state.now in
     let state : c.search.new.state ≡ t.value.state = sym (ap (λ o. o.state) c.in_ok-found.ensures.left) in
     let found : c.in_ok-found.found ≡ t.value.found = sym (ap (λ o. o.found) c.in_ok-found.ensures.left) in
-    steps_then t.events (by_found t.value.found db c.args.typed.now verb noun t.value.state).events c.in_ok-found.ensures.spoken
+    steps_then t.events (by_found t.value.found game c.args.typed.now verb noun t.value.state).events c.in_ok-found.ensures.spoken
     (rw (state, found) at c.finish_command.ensures.spoken)
 
 pub returns-in_err-found-clause-spoken : goal.returns-in_err-found-clause-spoken
 returns-in_err-found-clause-spoken g c =
-    let db = c.args.game.now in
+    let game = c.args.game.now in
     let verb = c.args.command.verb in
     let noun = c.args.command.noun in
-    let t = search_result db c.args.typed.now verb noun (groups db) c.args.state.now in
+    let t = search_result game c.args.typed.now verb noun (groups game.db) c.args.state.now in
     let p = err_from_is_err_and c.from_residual.result c.from_residual.ensures.1 in
-    rw (p.1) (steps_stop p.0 t.events (by_found t.value.found db c.args.typed.now verb noun t.value.state).events c.in_err-found.ensures.spoken)
+    rw (p.1) (steps_stop p.0 t.events (by_found t.value.found game c.args.typed.now verb noun t.value.state).events c.in_err-found.ensures.spoken)

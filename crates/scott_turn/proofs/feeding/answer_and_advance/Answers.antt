@@ -7,16 +7,16 @@ use Rattle.scott_turn.proofs.feeding.answer_and_advance.Goals as goal
 
 pub returns-clause-spoken : goal.returns-clause-spoken
 returns-clause-spoken g c =
-    let db = c.args.game.now in
-    let a = by_heard (heard db c.args.line.now) db c.args.line.now c.args.state.now in
+    let game = c.args.game.now in
+    let a = by_heard (heard game.db c.args.line.now) game c.args.line.now c.args.state.now in
     let state : c.answer.new.state ≡ a.value.state = sym (ap (λ v. v.state) c.in_ok-position.ensures.left) in
     let position : c.in_ok-position.position ≡ a.value.position = sym (ap (λ v. v.position) c.in_ok-position.ensures.left) in
-    steps_then a.events (advance db a.value.position a.value.state c.args.draws.now.left).events c.in_ok-position.ensures.spoken
+    steps_then a.events (advance game a.value.position a.value.state c.args.draws.now.left).events c.in_ok-position.ensures.spoken
     (rw (state, position) at c.advance.ensures.spoken)
 
 pub returns-in_err-position-clause-spoken : goal.returns-in_err-position-clause-spoken
 returns-in_err-position-clause-spoken g c =
-    let db = c.args.game.now in
-    let a = by_heard (heard db c.args.line.now) db c.args.line.now c.args.state.now in
+    let game = c.args.game.now in
+    let a = by_heard (heard game.db c.args.line.now) game c.args.line.now c.args.state.now in
     let p = err_from_is_err_and c.from_residual.result c.from_residual.ensures.1 in
-    rw (p.1) (steps_stop p.0 a.events (advance db a.value.position a.value.state c.args.draws.now.left).events c.in_err-position.ensures.spoken)
+    rw (p.1) (steps_stop p.0 a.events (advance game a.value.position a.value.state c.args.draws.now.left).events c.in_err-position.ensures.spoken)

@@ -25,19 +25,19 @@ returns-in-None-clause-left g c =
 
 pub returns-in-Some : goal.returns-in-Some
 returns-in-Some g c =
-    let db = c.args.game.now in
-    let t = advance db c.args.position c.args.state.now c.args.draws.now.left in
+    let game = c.args.game.now in
+    let t = advance game c.args.position c.args.state.now c.args.draws.now.left in
     let line = c.in-Some.line.now in
     let reached : c.in_ok-reached.reached ≡ t.value.position = sym (ap (λ v. v.position) c.in_ok-reached.ensures.left) in
     let state : c.advance.new.state ≡ t.value.state = sym (ap (λ v. v.state) c.in_ok-reached.ensures.left) in
     let draws : c.advance.new.draws.left ≡ t.value.draws = sym (ap (λ v. v.draws) c.in_ok-reached.ensures.left) in
-    let fed = after_line (is_prompt t.value.position) db line t.value.position t.value.state t.value.draws in
+    let fed = after_line (is_prompt t.value.position) game line t.value.position t.value.state t.value.draws in
     record {
-      spoken = rw (c.in-Some.is, ← said-some c.play_spends.ensures db c.args.position c.args.state.now c.args.draws.now.left line)
+      spoken = rw (c.in-Some.is, ← said-some c.play_spends.ensures game c.args.position c.args.state.now c.args.draws.now.left line)
           (steps_then t.events fed.events c.in_ok-reached.ensures.spoken (rw (reached, state, draws) at c.feed_line.ensures.spoken));
       left = rw c.in-Some.is
           (IfOk-weaker c.feed_line.result _ _
-          (λ q e. left-some db c.args.position q c.args.state.now c.feed_line.new.state c.args.draws.now.left c.feed_line.new.draws.left line e)
+          (λ q e. left-some game c.args.position q c.args.state.now c.feed_line.new.state c.args.draws.now.left c.feed_line.new.draws.left line e)
           (rw (reached, state, draws) at c.feed_line.ensures.left));
       taken = omega (arith, c.feed_line.ensures.taken, c.advance.ensures.taken);
       fits = c.feed_line.ensures.fits;

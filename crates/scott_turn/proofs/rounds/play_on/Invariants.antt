@@ -10,7 +10,7 @@ abbrev pub invariant-loop-round : goal.invariant-loop-round
 invariant-loop-round g l =
     let seen = g.C.Console.seen in
     record {
-      fits : Fits l.game l.state;
+      fits : Fits l.game.db l.state;
       ends : EndsWell l.position;
       taken : l.draws.taken + length l.draws.left ≡ l.initial.draws.taken + length l.initial.draws.left;
       bounded : (seen l.console).bound ≤ (seen l.initial.console).bound;

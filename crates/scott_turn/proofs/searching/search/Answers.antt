@@ -12,72 +12,72 @@ use Rattle.scott_turn.proofs.searching.search.Goals as goal
 
 pub loop-next-init : goal.loop-next-init
 loop-next-init g c =
-    let db = c.args.game.now in
+    let game = c.args.game.now in
     let verb = c.args.command.verb in
     record {
-      at_head = head_found db verb 0 c.first_head-next.result c.first_head-next.ensures;
+      at_head = head_found game.db verb 0 c.first_head-next.result c.first_head-next.ensures;
       fits = c.requires;
       begun = refl;
-      along = rw (search_result-for db c.args.typed.now verb c.args.command.noun c.args.state.now, groups_for-found db verb 0 c.first_head-next.result c.first_head-next.ensures) (along_start _ _);
+      along = rw (search_result-for game c.args.typed.now verb c.args.command.noun c.args.state.now, groups_for-found game.db verb 0 c.first_head-next.result c.first_head-next.ensures) (along_start _ _);
     }
 
 pub returns-in_err-found-clause-spoken : goal.returns-in_err-found-clause-spoken
 returns-in_err-found-clause-spoken g c =
-    let db = c.args.game.now in
+    let game = c.args.game.now in
     let typed = c.args.typed.now in
     let verb = c.args.command.verb in
     let noun = c.args.command.noun in
     let head = c.in-Some.head in
-    let t = search_turn (is_for_noun (noun_at db head) noun) db typed (group_at db head) c.loop-next.state in
+    let t = search_turn (is_for_noun (noun_at game head) noun) game typed (group_at game.db head) c.loop-next.state in
     let p = err_from_is_err_and c.from_residual.result c.from_residual.ensures.1 in
-    let comes = comes_here db verb head (rw c.in-Some.is at c.loop-next.invariant.at_head) in
+    let comes = comes_here game.db verb head (rw c.in-Some.is at c.loop-next.invariant.at_head) in
     rw (p.1)
-    (along_stop p.0 t.events (after_turn t.value.found t (search_result db typed verb noun (groups_for db verb (head + 1)))) (rw c.in-Some.is at c.loop-next.invariant.along)
-    (search_result-prefix db typed verb noun head head c.loop-next.state comes c.loop-next.before)
+    (along_stop p.0 t.events (after_turn t.value.found t (search_result game typed verb noun (groups_for game.db verb (head + 1)))) (rw c.in-Some.is at c.loop-next.invariant.along)
+    (search_result-prefix game typed verb noun head head c.loop-next.state comes c.loop-next.before)
     c.in_err-found.ensures.spoken)
 
 pub returns-then-ends_search-clause-spoken : goal.returns-then-ends_search-clause-spoken
 returns-then-ends_search-clause-spoken g c =
-    let db = c.args.game.now in
+    let game = c.args.game.now in
     let verb = c.args.command.verb in
     let noun = c.args.command.noun in
     let head = c.in-Some.head in
-    let comes = comes_here db verb head (rw c.in-Some.is at c.loop-next.invariant.at_head) in
-    along_end (search_turn (is_for_noun (noun_at db head) noun) db c.args.typed.now (group_at db head) c.loop-next.state).events (rw c.in-Some.is at c.loop-next.invariant.along)
-    (ap (λ w. w.events) (search_result-end db c.args.typed.now verb noun head head c.loop-next.state comes c.in_ok-found.found c.loop-next.before c.in_ok-found.ensures.found (sym c.if-ends_search.ensures)))
+    let comes = comes_here game.db verb head (rw c.in-Some.is at c.loop-next.invariant.at_head) in
+    along_end (search_turn (is_for_noun (noun_at game head) noun) game c.args.typed.now (group_at game.db head) c.loop-next.state).events (rw c.in-Some.is at c.loop-next.invariant.along)
+    (ap (λ w. w.events) (search_result-end game c.args.typed.now verb noun head head c.loop-next.state comes c.in_ok-found.found c.loop-next.before c.in_ok-found.ensures.found (sym c.if-ends_search.ensures)))
     c.in_ok-found.ensures.spoken
 
 pub returns-then-ends_search-clause-left : goal.returns-then-ends_search-clause-left
 returns-then-ends_search-clause-left g c =
-    let db = c.args.game.now in
+    let game = c.args.game.now in
     let verb = c.args.command.verb in
     let noun = c.args.command.noun in
     let head = c.in-Some.head in
-    let comes = comes_here db verb head (rw c.in-Some.is at c.loop-next.invariant.at_head) in
+    let comes = comes_here game.db verb head (rw c.in-Some.is at c.loop-next.invariant.at_head) in
     along_value (rw c.in-Some.is at c.loop-next.invariant.along)
-    ∙ ap (λ w. w.value) (search_result-end db c.args.typed.now verb noun head head c.loop-next.state comes c.in_ok-found.found c.loop-next.before c.in_ok-found.ensures.found (sym c.if-ends_search.ensures))
+    ∙ ap (λ w. w.value) (search_result-end game c.args.typed.now verb noun head head c.loop-next.state comes c.in_ok-found.found c.loop-next.before c.in_ok-found.ensures.found (sym c.if-ends_search.ensures))
     ∙ rw (c.in_ok-found.ensures.state, c.in_ok-found.ensures.found) refl
 
 pub loop-next-preserved : goal.loop-next-preserved
 loop-next-preserved g c =
-    let db = c.args.game.now in
+    let game = c.args.game.now in
     let typed = c.args.typed.now in
     let verb = c.args.command.verb in
     let noun = c.args.command.noun in
     let head = c.in-Some.head in
-    let t = search_turn (is_for_noun (noun_at db head) noun) db typed (group_at db head) c.loop-next.state in
+    let t = search_turn (is_for_noun (noun_at game head) noun) game typed (group_at game.db head) c.loop-next.state in
     let found = c.in_ok-found.found in
     let before = c.loop-next.before in
-    let comes = comes_here db verb head (rw c.in-Some.is at c.loop-next.invariant.at_head) in
-    let rest : IsFirst db verb (head + 1) c.head_after-next.result = rw (verb_of_head verb (action_at db head) comes.is_head) at c.head_after-next.ensures in
+    let comes = comes_here game.db verb head (rw c.in-Some.is at c.loop-next.invariant.at_head) in
+    let rest : IsFirst game.db verb (head + 1) c.head_after-next.result = rw (verb_of_head verb (action_at game.db head) comes.is_head) at c.head_after-next.ensures in
     record {
-      at_head = head_found db verb (head + 1) c.head_after-next.result rest;
+      at_head = head_found game.db verb (head + 1) c.head_after-next.result rest;
       fits = c.search_turn.ensures.fits;
       begun = rw c.at_least-before.ensures (at_least-begun found before (sym c.if-ends_search.ensures) c.loop-next.invariant.begun);
       along = rw c.at_least-before.ensures
-          (along_step t.events (with_before (at_least found before) (search_result db typed verb noun (groups_for db verb (line_of db c.head_after-next.result)) c.search_turn.new.state)) (rw c.in-Some.is at c.loop-next.invariant.along)
-          (search_result-on db typed verb noun head head c.loop-next.state comes found before c.in_ok-found.ensures.found (sym c.if-ends_search.ensures) c.loop-next.invariant.begun
+          (along_step t.events (with_before (at_least found before) (search_result game typed verb noun (groups_for game.db verb (line_of game.db c.head_after-next.result)) c.search_turn.new.state)) (rw c.in-Some.is at c.loop-next.invariant.along)
+          (search_result-on game typed verb noun head head c.loop-next.state comes found before c.in_ok-found.ensures.found (sym c.if-ends_search.ensures) c.loop-next.invariant.begun
           c.search_turn.new.state c.in_ok-found.ensures.state
-          ∙ ap (λ gs. after t.events (with_before (at_least found before) (search_result db typed verb noun gs c.search_turn.new.state))) (groups_for-found db verb (head + 1) c.head_after-next.result rest))
+          ∙ ap (λ gs. after t.events (with_before (at_least found before) (search_result game typed verb noun gs c.search_turn.new.state))) (groups_for-found game.db verb (head + 1) c.head_after-next.result rest))
           c.in_ok-found.ensures.spoken);
     }

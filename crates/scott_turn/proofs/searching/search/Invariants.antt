@@ -12,13 +12,13 @@ abbrev pub invariant-loop-next : goal.invariant-loop-next
 invariant-loop-next g l =
     let seen = g.C.Console.seen in
     record {
-      at_head : IsHead l.game l.command.verb l.next;
-      fits : Fits l.game l.state;
+      at_head : IsHead l.game.db l.command.verb l.next;
+      fits : Fits l.game.db l.state;
       begun : ends_search l.before ≡ false;
       along : Along
-          (search_result l.game l.typed l.command.verb l.command.noun (groups l.game) l.initial.state)
-          (with_before l.before (search_result l.game l.typed l.command.verb l.command.noun (groups_for l.game l.command.verb (line_of l.game l.next)) l.state)) (seen l.initial.console) (seen l.console);
+          (search_result l.game l.typed l.command.verb l.command.noun (groups l.game.db) l.initial.state)
+          (with_before l.before (search_result l.game l.typed l.command.verb l.command.noun (groups_for l.game.db l.command.verb (line_of l.game.db l.next)) l.state)) (seen l.initial.console) (seen l.console);
     }
 
 abbrev pub decreases-loop-next : goal.decreases-loop-next
-decreases-loop-next g l = length l.game.actions - line_of l.game l.next
+decreases-loop-next g l = length l.game.db.actions - line_of l.game.db l.next

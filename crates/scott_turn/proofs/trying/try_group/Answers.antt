@@ -9,30 +9,30 @@ use Rattle.scott_turn.proofs.trying.try_group.Goals as goal
 
 pub returns-in-Ok-try_tail-clause-spoken : goal.returns-in-Ok-try_tail-clause-spoken
 returns-in-Ok-try_tail-clause-spoken g c =
-    let db = c.args.db.now in
+    let game = c.args.game.now in
     let noun = c.args.noun.now in
-    let t = try_action db noun c.args.head c.args.state.now in
+    let t = try_action game noun c.args.head c.args.state.now in
     let on : t.value.ran ≡ Passed true = sym c.in-Ok-Passed-true.ensures.ran ∙ c.in-Ok-Passed-true.field-0-is ∙ ap Passed c.in-Ok-Passed-true.field-0-0-test in
-    rw (group-goes_on db noun (group_at db c.args.head) c.args.state.now on)
-    (steps_then t.events (tail_tried db noun (tail_from db (c.args.head + 1)) t.value.state).events
+    rw (group-goes_on game noun (group_at game.db c.args.head) c.args.state.now on)
+    (steps_then t.events (tail_tried game noun (tail_from game.db (c.args.head + 1)) t.value.state).events
     c.in-Ok-Passed-true.ensures.spoken
     (as_ok _ (rw c.in-Ok-Passed-true.ensures.state at c.in-Ok-try_tail.ensures.spoken)))
 
 pub returns-in-Err-try_tail-clause-spoken : goal.returns-in-Err-try_tail-clause-spoken
 returns-in-Err-try_tail-clause-spoken g c =
-    let db = c.args.db.now in
+    let game = c.args.game.now in
     let noun = c.args.noun.now in
-    let t = try_action db noun c.args.head c.args.state.now in
+    let t = try_action game noun c.args.head c.args.state.now in
     let on : t.value.ran ≡ Passed true = sym c.in-Ok-Passed-true.ensures.ran ∙ c.in-Ok-Passed-true.field-0-is ∙ ap Passed c.in-Ok-Passed-true.field-0-0-test in
-    rw (group-goes_on db noun (group_at db c.args.head) c.args.state.now on)
-    (steps_then t.events (tail_tried db noun (tail_from db (c.args.head + 1)) t.value.state).events
+    rw (group-goes_on game noun (group_at game.db c.args.head) c.args.state.now on)
+    (steps_then t.events (tail_tried game noun (tail_from game.db (c.args.head + 1)) t.value.state).events
     c.in-Ok-Passed-true.ensures.spoken
     (as_err _ (rw c.in-Ok-Passed-true.ensures.state at c.in-Err-try_tail.ensures.spoken)))
 
 pub returns-in-Err-clause-spoken : goal.returns-in-Err-clause-spoken
 returns-in-Err-clause-spoken g c =
-    let db = c.args.db.now in
+    let game = c.args.game.now in
     let noun = c.args.noun.now in
-    let t = try_action db noun c.args.head c.args.state.now in
-    rw (group-prefix db noun (group_at db c.args.head) c.args.state.now)
-    (steps_stop c.in-Err.fault t.events (tail_steps t.value.ran db noun (group_at db c.args.head) t) c.in-Err.ensures.spoken)
+    let t = try_action game noun c.args.head c.args.state.now in
+    rw (group-prefix game noun (group_at game.db c.args.head) c.args.state.now)
+    (steps_stop c.in-Err.fault t.events (tail_steps t.value.ran game noun (group_at game.db c.args.head) t) c.in-Err.ensures.spoken)

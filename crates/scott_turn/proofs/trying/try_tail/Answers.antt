@@ -9,36 +9,36 @@ use Rattle.scott_turn.proofs.trying.try_tail.Goals as goal
 
 pub returns-in_err-over-clause-spoken : goal.returns-in_err-over-clause-spoken
 returns-in_err-over-clause-spoken g c =
-    let db = c.args.db.now in
+    let game = c.args.game.now in
     let noun = c.args.noun.now in
     let line = c.loop-state.line in
-    let t = tail_action db noun line c.loop-state.state in
+    let t = tail_action game noun line c.loop-state.state in
     let p = err_from_is_err_and c.from_residual.result c.from_residual.ensures.1 in
     rw (p.1)
-    (along_stop p.0 t.events (after_part t.value.over t (tail_tried db noun (tail_from db (line + 1)))) c.loop-state.invariant.along
-    (tail-prefix db noun line c.loop-state.state c.loop-state-test.ensures.1)
+    (along_stop p.0 t.events (after_part t.value.over t (tail_tried game noun (tail_from game.db (line + 1)))) c.loop-state.invariant.along
+    (tail-prefix game noun line c.loop-state.state (rw c.db-in-loop-state.ensures at c.loop-state-test.ensures.1))
     c.in_err-over.ensures.spoken)
 
 pub returns-then-is_some-clause-spoken : goal.returns-then-is_some-clause-spoken
 returns-then-is_some-clause-spoken g c =
-    let db = c.args.db.now in
+    let game = c.args.game.now in
     let noun = c.args.noun.now in
     let line = c.loop-state.line in
-    let t = tail_action db noun line c.loop-state.state in
+    let t = tail_action game noun line c.loop-state.state in
     along_end t.events c.loop-state.invariant.along
-    (ap (λ w. w.events) (tail-over db noun line c.loop-state.state c.in_ok-over.over c.in_ok-over.ensures.over c.loop-state-test.ensures.1 (sym c.if-is_some.ensures)))
+    (ap (λ w. w.events) (tail-over game noun line c.loop-state.state c.in_ok-over.over c.in_ok-over.ensures.over (rw c.db-in-loop-state.ensures at c.loop-state-test.ensures.1) (sym c.if-is_some.ensures)))
     c.in_ok-over.ensures.spoken
 
 pub loop-state-preserved : goal.loop-state-preserved
 loop-state-preserved g c =
-    let db = c.args.db.now in
+    let game = c.args.game.now in
     let noun = c.args.noun.now in
     let line = c.loop-state.line in
-    let t = tail_action db noun line c.loop-state.state in
+    let t = tail_action game noun line c.loop-state.state in
     record {
       few = omega arith;
       fits = c.try_tail_action.ensures.fits;
-      along = along_step t.events (tail_tried db noun (tail_from db (line + 1)) c.try_tail_action.new.state) c.loop-state.invariant.along
-          (tail-on db noun line c.loop-state.state c.in_ok-over.over c.in_ok-over.ensures.over c.loop-state-test.ensures.1 (sym c.if-is_some.ensures) c.try_tail_action.new.state c.in_ok-over.ensures.state)
+      along = along_step t.events (tail_tried game noun (tail_from game.db (line + 1)) c.try_tail_action.new.state) c.loop-state.invariant.along
+          (tail-on game noun line c.loop-state.state c.in_ok-over.over c.in_ok-over.ensures.over (rw c.db-in-loop-state.ensures at c.loop-state-test.ensures.1) (sym c.if-is_some.ensures) c.try_tail_action.new.state c.in_ok-over.ensures.state)
           c.in_ok-over.ensures.spoken;
     }

@@ -10,12 +10,12 @@ abbrev pub invariant-loop-state : goal.invariant-loop-state
 invariant-loop-state g l =
     let seen = g.C.Console.seen in
     record {
-      few : length l.db.actions ≤ 5000;
-      fits : Fits l.db l.state;
+      few : length l.game.db.actions ≤ 5000;
+      fits : Fits l.game.db l.state;
       along : Along
-          (tail_tried l.db l.noun (tail_from l.db l.initial.line) l.initial.state)
-          (tail_tried l.db l.noun (tail_from l.db l.line) l.state) (seen l.initial.console) (seen l.console);
+          (tail_tried l.game l.noun (tail_from l.game.db l.initial.line) l.initial.state)
+          (tail_tried l.game l.noun (tail_from l.game.db l.line) l.state) (seen l.initial.console) (seen l.console);
     }
 
 abbrev pub decreases-loop-state : goal.decreases-loop-state
-decreases-loop-state g l = length l.db.actions - l.line
+decreases-loop-state g l = length l.game.db.actions - l.line

@@ -11,9 +11,9 @@ use Rattle.scott_tool.proofs.commands.play.play.Goals as goal
 pub returns-in-Ok : goal.returns-in-Ok
 returns-in-Ok g c = λ shelf.
     subst (λ (r : Result Task Unfit). Obeys shelf shelf (g.C.Console.seen c.args.console.now) (g.C.Console.seen c.play_with-status.new.console) (refusing r) c.play_with-status.result)
-    (sym c.in-Ok.ensures) (c.play_with-status.ensures shelf)
+    (sym (c.in-Ok.ensures c.args.style)) (c.play_with-status.ensures shelf)
 
 pub returns-in-Err : goal.returns-in-Err
 returns-in-Err g c = λ shelf.
     obeys-declined (g.C.Console.seen c.args.console.now) (g.C.Console.seen c.end.new.console) c.end.result shelf
-    (work (play c.args.game.now (source_of c.args.source)) (texts_in c.args.texts.now)) (refusal_of c.in-Err.refusal) c.in-Err.ensures c.end.ensures
+    (work (play c.args.game.now (source_of c.args.source) c.args.style) (texts_in c.args.texts.now)) (refusal_of c.in-Err.refusal) (c.in-Err.ensures c.args.style) c.end.ensures
