@@ -1,4 +1,5 @@
 pub mod MovesMean
 pub mod Falling
 pub mod Fitting
+pub mod Asking
 pub mod Running

@@ -2,7 +2,7 @@
 use Rattle.std.specs.Prelude.{ℕ, ◌≡◌, ◌+◌, ◌-◌, ◌*◌, ◌<◌, ◌≤◌, List, ◌∷◌, ◌++◌, length, Some, ⊤}
 use Rattle.inform_tree.specs.Depths.{statements_depth}
 use Rattle.inform_meaning.specs.Worlds.{Routine, Program, World, Config}
-use Rattle.inform_meaning.specs.Frames.{Frame, Outcome, Waits}
+use Rattle.inform_meaning.specs.Frames.{LineDue, DrawDue, Frame, Begins, Outcome, Waits}
 use Rattle.inform_meaning.specs.Runs.{CALL_LIMIT, room_in, resume_at}
 use Rattle.inform_moves.specs.Moves.{Move, Goes, Ticks, Reads, Draws, next}
 use Rattle.inform_moves.specs.Done.{move_run}
@@ -31,6 +31,17 @@ FallsBelow most (Draws n) = 0 < most
 abbrev pub MovesFall : Type 0
 MovesFall =
     (p : Program) (n : ℕ) (w : World) (x : Frame) (e : Outcome) → FallsBelow (work x) (next p n w x e)
+
+-- a line or a draw is wanted by the frame that is due for it
+abbrev pub IsAskedIn : Frame → Move → Type 0
+IsAskedIn x (Goes frames e effect) = ⊤
+IsAskedIn x (Ticks frames e effect) = ⊤
+IsAskedIn x (Reads name) = x ≡ Begins (LineDue name)
+IsAskedIn x (Draws n) = x ≡ Begins (DrawDue n)
+
+-- No other frame wants a line or a draw.
+abbrev pub MovesAsk : Type 0
+MovesAsk = (p : Program) (n : ℕ) (w : World) (x : Frame) (e : Outcome) → IsAskedIn x (next p n w x e)
 
 -- no routine is deeper than 64
 abbrev pub IsShallow : Program → Type 0

@@ -1,5 +1,5 @@
 //! The laws of moves. Each is the contract of a function that does nothing.
-ghost use Rattle.inform_moves.specs.Laws.{MovesMean, MovesFall, MovesFit, MovesOpen, FramesAreFew, RoomIsLeft};
+ghost use Rattle.inform_moves.specs.Laws.{MovesMean, MovesFall, MovesAsk, MovesFit, MovesOpen, FramesAreFew, RoomIsLeft};
 
 /// A run does what the move of its innermost frame does.
 #[tactic(auto, using(crate::proofs::Running::moves_mean))]
@@ -11,6 +11,12 @@ pub fn moves_mean()
 #[tactic(auto, using(crate::proofs::Falling::moves_fall))]
 pub fn moves_fall()
     ensures { MovesFall }
+{}
+
+/// A line or a draw is wanted by the frame that is due for it, and by no other.
+#[tactic(auto, using(crate::proofs::Asking::moves_ask))]
+pub fn moves_ask()
+    ensures { MovesAsk }
 {}
 
 /// After a move each routine keeps within its frames.
