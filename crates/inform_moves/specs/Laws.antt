@@ -4,10 +4,17 @@ use Rattle.inform_tree.specs.Depths.{statements_depth}
 use Rattle.inform_meaning.specs.Worlds.{Routine, Program, World, Config}
 use Rattle.inform_meaning.specs.Frames.{LineDue, DrawDue, Frame, Begins, Outcome, Waits}
 use Rattle.inform_meaning.specs.Runs.{CALL_LIMIT, room_in, resume_at}
+use Rattle.inform_meaning.specs.Laws as l
 use Rattle.inform_moves.specs.Moves.{Move, Goes, Ticks, Reads, Draws, next}
 use Rattle.inform_moves.specs.Done.{move_run}
 use Rattle.inform_moves.specs.Works.{work, works}
 use Rattle.inform_moves.specs.Heights.{ROUTINE_FRAMES, Fits, calls_open}
+
+-- Whatever is handed to the innermost frame, a run only adds to what happened, and takes lines and
+-- draws from the front.
+abbrev pub RunsAdd : Type 0
+RunsAdd = (p : Program) (frames : List Frame) (e : Outcome) (c : Config)
+    → l.Goes c (resume_at p CALL_LIMIT frames e c).1
 
 -- not that of a part that waits
 abbrev pub IsSettled : Outcome → Type 0
