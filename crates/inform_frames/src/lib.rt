@@ -23,6 +23,6 @@ mod values;
 mod wants;
 
 pub use frames::{Begin, Decide, Frame, Loop, Want};
-pub use moves::next;
+pub use moves::{halt_of, next};
 pub use nexts::{Effect, Next, NextKind, Pushed};
 pub use signals::{Halt, Signal};

@@ -62,8 +62,8 @@ fn returned(signal: Signal) -> Signal
     }
 }
 
-// How a run is over whose first routine ends like this.
-fn halt_of(signal: Signal) -> Halt
+/// How a run is over whose first routine ends like this.
+pub fn halt_of(signal: Signal) -> Halt
     ensures { v.halt_of result ≡ halt_of (signal_of signal) }
 {
     match signal {

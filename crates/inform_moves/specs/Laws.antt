@@ -8,6 +8,7 @@ use Rattle.inform_meaning.specs.Laws as l
 use Rattle.inform_moves.specs.Moves.{Move, Goes, Ticks, Reads, Draws, next}
 use Rattle.inform_moves.specs.Done.{move_run}
 use Rattle.inform_moves.specs.Works.{work, works}
+use Rattle.inform_moves.specs.Readiness.{ReadyAfter}
 use Rattle.inform_moves.specs.Heights.{ROUTINE_FRAMES, Fits, calls_open}
 
 -- Whatever is handed to the innermost frame, a run only adds to what happened, and takes lines and
@@ -49,6 +50,11 @@ IsAskedIn x (Draws n) = x ≡ Begins (DrawDue n)
 -- No other frame wants a line or a draw.
 abbrev pub MovesAsk : Type 0
 MovesAsk = (p : Program) (n : ℕ) (w : World) (x : Frame) (e : Outcome) → IsAskedIn x (next p n w x e)
+
+-- A line is due only where its buffer has room.
+abbrev pub MovesReady : Type 0
+MovesReady =
+    (p : Program) (n : ℕ) (w : World) (x : Frame) (e : Outcome) → ReadyAfter w (next p n w x e)
 
 -- no routine is deeper than 64
 abbrev pub IsShallow : Program → Type 0

@@ -1,5 +1,5 @@
 //! The laws of moves. Each is the contract of a function that does nothing.
-ghost use Rattle.inform_moves.specs.Laws.{RunsAdd, MovesMean, MovesFall, MovesAsk, MovesFit, MovesOpen, FramesAreFew, RoomIsLeft};
+ghost use Rattle.inform_moves.specs.Laws.{RunsAdd, MovesMean, MovesFall, MovesAsk, MovesReady, MovesFit, MovesOpen, FramesAreFew, RoomIsLeft};
 
 /// Whatever is handed to its innermost frame, a run only adds to what happened, and takes lines and draws from
 /// the front.
@@ -24,6 +24,12 @@ pub fn moves_fall()
 #[tactic(auto, using(crate::proofs::Asking::moves_ask))]
 pub fn moves_ask()
     ensures { MovesAsk }
+{}
+
+/// A line is due only where its buffer has room.
+#[tactic(auto, using(crate::proofs::Readying::moves_ready))]
+pub fn moves_ready()
+    ensures { MovesReady }
 {}
 
 /// After a move each routine keeps within its frames.
