@@ -5,10 +5,11 @@ use Rattle.inform_meaning.specs.Frames as f
 use Rattle.inform_meaning.specs.Frames.{Frame, Begins, Outcome, Value, Truth, Normal, Returns, Breaks, Continues, Halts, Waits, Spent, NeedsLine, NeedsDraw, bind}
 use Rattle.inform_meaning.specs.Parts.{tick, tick_at, draw_at, line_at}
 use Rattle.inform_meaning.specs.Runs.{CALL_LIMIT, room_in, resume_at}
+use Rattle.inform_meaning.proofs.GoingRuns.{resume_at-going}
 use Rattle.inform_meaning.proofs.Splitting.{Settled, through, resume-waits, resume-append}
 use Rattle.inform_moves.specs.Moves.{Move, Goes, Ticks, Reads, Draws, next}
 use Rattle.inform_moves.specs.Done.{effected, going, move_done, after_step, after_line, after_draw, move_run}
-use Rattle.inform_moves.specs.Laws.{IsSettled, MovesMean}
+use Rattle.inform_moves.specs.Laws.{RunsAdd, IsSettled, MovesMean}
 use Rattle.inform_moves.proofs.MovesMean.{frame-means}
 
 settled : (e : Outcome) → IsSettled e → Settled e
@@ -54,3 +55,6 @@ module _ (p : Program) (x : Frame) (rest : List Frame) where
 
 pub moves_mean : MovesMean
 moves_mean p x rest e c h = run-means p x rest e c h
+
+pub runs_add : RunsAdd
+runs_add p frames e c = resume_at-going p CALL_LIMIT frames e c

@@ -2,12 +2,20 @@
 use Rattle.std.specs.Prelude.{ℕ, ◌≡◌, ◌+◌, ◌-◌, ◌*◌, ◌<◌, ◌≤◌, List, ◌∷◌, ◌++◌, length, Some, ⊤}
 use Rattle.inform_tree.specs.Depths.{statements_depth}
 use Rattle.inform_meaning.specs.Worlds.{Routine, Program, World, Config}
-use Rattle.inform_meaning.specs.Frames.{Frame, Outcome, Waits}
+use Rattle.inform_meaning.specs.Frames.{LineDue, DrawDue, Frame, Begins, Outcome, Waits}
 use Rattle.inform_meaning.specs.Runs.{CALL_LIMIT, room_in, resume_at}
+use Rattle.inform_meaning.specs.Laws as l
 use Rattle.inform_moves.specs.Moves.{Move, Goes, Ticks, Reads, Draws, next}
 use Rattle.inform_moves.specs.Done.{move_run}
 use Rattle.inform_moves.specs.Works.{work, works}
+use Rattle.inform_moves.specs.Readiness.{ReadyAfter}
 use Rattle.inform_moves.specs.Heights.{ROUTINE_FRAMES, Fits, calls_open}
+
+-- Whatever is handed to the innermost frame, a run only adds to what happened, and takes lines and
+-- draws from the front.
+abbrev pub RunsAdd : Type 0
+RunsAdd = (p : Program) (frames : List Frame) (e : Outcome) (c : Config)
+    → l.Goes c (resume_at p CALL_LIMIT frames e c).1
 
 -- not that of a part that waits
 abbrev pub IsSettled : Outcome → Type 0
@@ -31,6 +39,22 @@ FallsBelow most (Draws n) = 0 < most
 abbrev pub MovesFall : Type 0
 MovesFall =
     (p : Program) (n : ℕ) (w : World) (x : Frame) (e : Outcome) → FallsBelow (work x) (next p n w x e)
+
+-- a line or a draw is wanted by the frame that is due for it
+abbrev pub IsAskedIn : Frame → Move → Type 0
+IsAskedIn x (Goes frames e effect) = ⊤
+IsAskedIn x (Ticks frames e effect) = ⊤
+IsAskedIn x (Reads name) = x ≡ Begins (LineDue name)
+IsAskedIn x (Draws n) = x ≡ Begins (DrawDue n)
+
+-- No other frame wants a line or a draw.
+abbrev pub MovesAsk : Type 0
+MovesAsk = (p : Program) (n : ℕ) (w : World) (x : Frame) (e : Outcome) → IsAskedIn x (next p n w x e)
+
+-- A line is due only where its buffer has room.
+abbrev pub MovesReady : Type 0
+MovesReady =
+    (p : Program) (n : ℕ) (w : World) (x : Frame) (e : Outcome) → ReadyAfter w (next p n w x e)
 
 -- no routine is deeper than 64
 abbrev pub IsShallow : Program → Type 0

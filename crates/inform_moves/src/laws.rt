@@ -1,5 +1,12 @@
 //! The laws of moves. Each is the contract of a function that does nothing.
-ghost use Rattle.inform_moves.specs.Laws.{MovesMean, MovesFall, MovesFit, MovesOpen, FramesAreFew, RoomIsLeft};
+ghost use Rattle.inform_moves.specs.Laws.{RunsAdd, MovesMean, MovesFall, MovesAsk, MovesReady, MovesFit, MovesOpen, FramesAreFew, RoomIsLeft};
+
+/// Whatever is handed to its innermost frame, a run only adds to what happened, and takes lines and draws from
+/// the front.
+#[tactic(auto, using(crate::proofs::Running::runs_add))]
+pub fn runs_add()
+    ensures { RunsAdd }
+{}
 
 /// A run does what the move of its innermost frame does.
 #[tactic(auto, using(crate::proofs::Running::moves_mean))]
@@ -11,6 +18,18 @@ pub fn moves_mean()
 #[tactic(auto, using(crate::proofs::Falling::moves_fall))]
 pub fn moves_fall()
     ensures { MovesFall }
+{}
+
+/// A line or a draw is wanted by the frame that is due for it, and by no other.
+#[tactic(auto, using(crate::proofs::Asking::moves_ask))]
+pub fn moves_ask()
+    ensures { MovesAsk }
+{}
+
+/// A line is due only where its buffer has room.
+#[tactic(auto, using(crate::proofs::Readying::moves_ready))]
+pub fn moves_ready()
+    ensures { MovesReady }
 {}
 
 /// After a move each routine keeps within its frames.

@@ -1,0 +1,76 @@
+//! The moves of calls.
+ghost use Rattle.std.specs.Prelude.{◌≡◌, option_map, IfSome, IfNone, Some, None};
+ghost use Rattle.inform_tree.specs.Statements.{statements_of};
+ghost use Rattle.inform_meaning.specs.Worlds as w;
+ghost use Rattle.inform_moves.specs.Moves.{enter_move, call_move};
+ghost use Rattle.inform_worlds.specs.Scopes.{values_of};
+ghost use Rattle.inform_worlds.specs.Worlds.{program_of};
+ghost use Rattle.inform_worlds.specs.Views.{world_of, program_seen};
+ghost use Rattle.inform_frames.specs.Nexts.{move_of};
+
+use crate::frames::{Begin, Frame};
+use crate::nexts::{Effect, Next, Pushed};
+use crate::signals::{Halt, Signal};
+use inform_meaning::Trap;
+use inform_names::Names;
+use inform_names::laws::meanings_are_of_directives;
+use inform_tree::{Directive, Name, Routine};
+use inform_worlds::{Arguments, Scope, World};
+
+// The routine of this name and the number of its directive, if there is one.
+fn routine<'a>(names: &Names<'a>, name: &Name) -> Option<(usize, &'a Routine)>
+    ensures found { IfSome result (λ r.
+        (program_of names.now.accepted.now).routines name.now ≡ Some (record {
+          directive = r.0;
+          locals = r.1.now.locals.items;
+          body = statements_of r.1.now.body.items;
+        })) }
+    ensures none { IfNone result
+        ((program_of names.now.accepted.now).routines name.now ≡ None) }
+{
+    meanings_are_of_directives();
+    match names.find(name.bytes()) {
+        None => None,
+        Some(meaning) => match names.directive(meaning.at) {
+            Directive::Routine(routine) => Some((meaning.at, routine)),
+            Directive::Constant(_, _) => None,
+            Directive::Global(_, _) => None,
+            Directive::Array(_, _, _) => None,
+        },
+    }
+}
+
+// A call where more calls may be open.
+fn enter_next<'a>(world: &World<'a>, name: &'a Name, values: &Arguments) -> Next<'a>
+    ensures { let p = program_seen world.now in move_of (world_of world.now) result
+        ≡ enter_move p (world_of world.now) name.now (p.routines name.now) (values_of values.now) }
+{
+    match routine(world.names(), name) {
+        None => Next::ticks(Pushed::none(), Signal::Value(0), Effect::Keeps),
+        Some((directive, routine)) => Next::ticks(
+            Pushed::two(
+                Frame::Begins(Begin::Blocks(&routine.body)),
+                Frame::Calling(world.scope()),
+            ),
+            Signal::Normal,
+            Effect::Opens(Scope::of(directive, routine, values)),
+        ),
+    }
+}
+
+/// A call whose arguments are known, where so many more calls may be open.
+pub fn call_next<'a>(world: &World<'a>, room: usize, name: &'a Name, values: &Arguments) -> Next<'a>
+    ensures { move_of (world_of world.now) result
+        ≡ call_move (program_seen world.now) room (world_of world.now) name.now
+        (values_of values.now) }
+{
+    if room == 0 {
+        let directive = world.scope().directive;
+        return Next::ticks(
+            Pushed::none(),
+            Signal::Halts(Halt::Trapped(Trap::Depth, directive)),
+            Effect::Keeps,
+        );
+    }
+    enter_next(world, name, values)
+}

@@ -1,0 +1,250 @@
+-- A line is due only where its buffer has room.
+use Rattle.std.proofs.Common.{◌≡◌, ℕ, zero, suc, ℤ, pos, Bool, true, false, List, [], ◌∷◌, Option, Some, None, refl}
+use Rattle.std.specs.Prelude.{int_lt, if◌then◌else◌}
+use Rattle.inform_tree.specs.Values as v
+use Rattle.inform_tree.specs.Values.{Expression, Arguments, Terms, Factors}
+use Rattle.inform_tree.specs.Conditions as d
+use Rattle.inform_tree.specs.Conditions.{Condition, Conditions}
+use Rattle.inform_tree.specs.Statements as s
+use Rattle.inform_tree.specs.Statements.{Statement, Statements, Cases, Default, Assignment, PrintItem}
+use Rattle.inform_meaning.specs.Worlds.{Program, Routine, World, entries_of, entry_at, has_room, with_argument, stored}
+use Rattle.inform_meaning.specs.Words.{summed, multiplied}
+use Rattle.inform_meaning.specs.Frames as f
+use Rattle.inform_meaning.specs.Frames.{Loop, Begin, Want, Decide, Frame, Begins, Wants, Decides, Looping, Calling, Main, Over, Outcome, Value, Truth, Normal, Returns, Breaks, Continues, Halts, Waits}
+use Rattle.inform_meaning.specs.Statements.{for_loop, loop_goes_on, fits_any}
+use Rattle.inform_moves.specs.Moves.{goes_to, arguments_move, sum_move, product_move, factor_move, eval_move, all_move, any_move, test_move, alter_move, prints_move, enter_move, call_move, turn_move, change_frames, call_frames, tested_move, read_move, statement_move, block_move, default_move, cases_move, begin_move, entry_move, store_move, range_move, value_move, truth_move, next}
+use Rattle.inform_moves.specs.Readiness.{AreDry, IsReady, ReadyAfter}
+use Rattle.inform_moves.specs.Laws.{MovesReady}
+
+module _ (w : World) where
+  arguments-ready : (name : List ℕ) (values : List ℤ) (xs : Arguments)
+      → ReadyAfter w (arguments_move name values xs)
+  arguments-ready name values v.NoArguments = (tt, tt)
+  arguments-ready name values (v.MoreArguments x xs) = (tt, (tt, tt))
+
+  sum-ready : (a : ℤ) (xs : Terms) → ReadyAfter w (sum_move a xs)
+  sum-ready a v.NoTerms = tt
+  sum-ready a (v.MoreTerms op x xs) = (tt, (tt, tt))
+
+  product-ready : (a : ℤ) (xs : Factors) → ReadyAfter w (product_move a xs)
+  product-ready a v.NoFactors = tt
+  product-ready a (v.MoreFactors op x xs) = (tt, (tt, tt))
+
+  factor-ready : (o : Option ℤ) (xs : Factors)
+      → ReadyAfter w (factor_move w o xs)
+  factor-ready None xs = tt
+  factor-ready (Some a) xs = product-ready a xs
+
+  eval-ready : (p : Program) (x : Expression)
+      → ReadyAfter w (eval_move p w x)
+  eval-ready p (v.Number n) = tt
+  eval-ready p (v.Char byte) = tt
+  eval-ready p (v.Name name) = tt
+  eval-ready p (v.Entry name words index) = (tt, (tt, tt))
+  eval-ready p (v.Call name xs) = arguments-ready name [] xs
+  eval-ready p (v.Random x) = (tt, (tt, tt))
+  eval-ready p (v.Neg x) = (tt, (tt, tt))
+  eval-ready p (v.Sum x xs) = (tt, (tt, tt))
+  eval-ready p (v.Product x xs) = (tt, (tt, tt))
+
+  all-ready : (xs : Conditions) → ReadyAfter w (all_move xs)
+  all-ready d.NoConditions = tt
+  all-ready (d.MoreConditions x xs) = (tt, (tt, tt))
+
+  any-ready : (xs : Conditions) → ReadyAfter w (any_move xs)
+  any-ready d.NoConditions = tt
+  any-ready (d.MoreConditions x xs) = (tt, (tt, tt))
+
+  test-ready : (x : Condition) → ReadyAfter w (test_move x)
+  test-ready (d.Compare relation x y) = (tt, (tt, tt))
+  test-ready (d.Nonzero x) = (tt, (tt, tt))
+  test-ready (d.All xs) = all-ready xs
+  test-ready (d.Any xs) = any-ready xs
+  test-ready (d.Not x) = (tt, (tt, tt))
+
+  alter-ready : (p : Program) (x : Assignment)
+      → ReadyAfter w (alter_move p w x)
+  alter-ready p (s.Set name x) = (tt, (tt, tt))
+  alter-ready p (s.SetEntry name words x y) = (tt, (tt, tt))
+  alter-ready p (s.Inc name) = tt
+  alter-ready p (s.Dec name) = tt
+
+  prints-ready : (xs : List PrintItem) → ReadyAfter w (prints_move xs)
+  prints-ready [] = tt
+  prints-ready (s.Text text ∷ xs) = (tt, tt)
+  prints-ready (s.Value x ∷ xs) = (tt, (tt, tt))
+  prints-ready (s.Char x ∷ xs) = (tt, (tt, tt))
+
+  block-ready : (xs : Statements) → ReadyAfter w (block_move xs)
+  block-ready s.NoStatements = tt
+  block-ready (s.MoreStatements x xs) = (tt, (tt, tt))
+
+  default-ready : (x : Default) → ReadyAfter w (default_move x)
+  default-ready s.NoDefault = tt
+  default-ready (s.SomeDefault body) = (tt, tt)
+
+  cases-ready : (p : Program) (a : ℤ) (xs : Cases) (rest : Default)
+      → ReadyAfter w (cases_move p a xs rest)
+  cases-ready p a s.NoCases rest = default-ready rest
+  cases-ready p a (s.MoreCases choices body xs) rest =
+      by (fits_any p a choices) (cases-ready p a xs rest) where
+        by : (b : Bool) → ReadyAfter w (cases_move p a xs rest)
+            → ReadyAfter w (if b then goes_to (Begins (f.Blocks body)) else cases_move p a xs rest)
+        by true g = (tt, tt)
+        by false g = g
+
+  change-dry : (l : Loop) (x : Option Assignment) → AreDry (change_frames l x)
+  change-dry l None = (tt, tt)
+  change-dry l (Some x) = (tt, (tt, tt))
+
+  change-ready : (l : Loop) (x : Option Assignment) → IsReady w (change_frames l x)
+  change-ready l None = (tt, tt)
+  change-ready l (Some x) = (tt, (tt, tt))
+
+  entry-ready : (o : Option ℤ) → ReadyAfter w (entry_move w o)
+  entry-ready None = tt
+  entry-ready (Some a) = tt
+
+  store-ready : (o : Option ℤ) (after : World) → ReadyAfter w (store_move w o after)
+  store-ready None after = tt
+  store-ready (Some a) after = tt
+
+  range-ready : (a : ℤ) (b : Bool) → ReadyAfter w (range_move w a b)
+  range-ready a true = tt
+  range-ready a false = (tt, tt)
+
+  turn-ready : (l : Loop) (x : Option Condition) → ReadyAfter w (turn_move l x)
+  turn-ready l None = (tt, tt)
+  turn-ready l (Some x) = (tt, (tt, tt))
+
+  -- a line is due only where its buffer has room
+  read-ready : (name : List ℕ) (b : Bool) → has_room (entries_of name w) ≡ b
+      → ReadyAfter w (read_move w name b)
+  read-ready name true room = (room, tt)
+  read-ready name false room = tt
+
+  enter-ready : (p : Program) (name : List ℕ) (o : Option Routine) (values : List ℤ)
+      → ReadyAfter w (enter_move p w name o values)
+  enter-ready p name None values = tt
+  enter-ready p name (Some r) values = (tt, (tt, tt))
+
+  call-ready : (p : Program) (n : ℕ) (name : List ℕ) (values : List ℤ)
+      → ReadyAfter w (call_move p n w name values)
+  call-ready p zero name values = tt
+  call-ready p (suc n) name values = enter-ready p name (p.routines name) values
+
+  call_frames-ready : (name : List ℕ) (xs : Arguments) → IsReady w (call_frames name xs)
+  call_frames-ready name v.NoArguments = (tt, (tt, tt))
+  call_frames-ready name (v.MoreArguments x xs) = (tt, (tt, (tt, tt)))
+
+  statement-ready : (x : Statement)
+      → ReadyAfter w (statement_move w x)
+  statement-ready s.Empty = tt
+  statement-ready (s.Block body) = (tt, tt)
+  statement-ready (s.Assign x) = (tt, tt)
+  statement-ready (s.Call name xs) = call_frames-ready name xs
+  statement-ready (s.If x body other) = (tt, (tt, tt))
+  statement-ready (s.While x body) = (tt, tt)
+  statement-ready (s.Do body x) = (tt, (tt, tt))
+  statement-ready (s.For first x change body) =
+      change-ready (for_loop x change body) first
+  statement-ready (s.Switch x xs rest) = (tt, (tt, tt))
+  statement-ready s.Break = tt
+  statement-ready s.Continue = tt
+  statement-ready s.Quit = tt
+  statement-ready s.Rtrue = tt
+  statement-ready s.Rfalse = tt
+  statement-ready (s.Return None) = tt
+  statement-ready (s.Return (Some x)) = (tt, (tt, tt))
+  statement-ready s.NewLine = tt
+  statement-ready (s.Print xs) = (tt, tt)
+  statement-ready (s.Read line words) = read-ready line (has_room (entries_of line w)) refl
+
+  value-ready : (p : Program) (x : Want) (a : ℤ)
+      → ReadyAfter w (value_move p w x a)
+  value-ready p (f.IndexOf name) a = entry-ready (entry_at (entries_of name w) a)
+  value-ready p (f.Args name values xs) a = arguments-ready name (with_argument values a) xs
+  value-ready p f.RangeOf a = range-ready a (int_lt a (pos 1))
+  value-ready p f.Negates a = tt
+  value-ready p (f.SumFrom xs) a = sum-ready a xs
+  value-ready p (f.SumOnto op b xs) a = sum-ready (summed p.width op b a) xs
+  value-ready p (f.ProductFrom xs) a = product-ready a xs
+  value-ready p (f.ProductOnto op b xs) a = factor-ready (multiplied p.width op b a) xs
+  value-ready p (f.LeftOf relation y) a = (tt, (tt, tt))
+  value-ready p (f.RightOf relation b) a = tt
+  value-ready p f.IsNonzero a = tt
+  value-ready p (f.Sets name) a = tt
+  value-ready p (f.PlaceOf name words y) a = (tt, (tt, tt))
+  value-ready p (f.Stores name words i) a =
+      store-ready (entry_at (entries_of name w) i) (stored name words i a w)
+  value-ready p f.Forgets a = tt
+  value-ready p (f.Picks xs rest) a = cases-ready p a xs rest
+  value-ready p f.Gives a = tt
+  value-ready p (f.SaysNumber xs) a = (tt, tt)
+  value-ready p (f.SaysChar xs) a = (tt, tt)
+
+  tested-ready : (l : Loop) (b : Bool) → ReadyAfter w (tested_move l b)
+  tested-ready l true = (tt, (tt, tt))
+  tested-ready l false = tt
+
+  truth-ready : (x : Decide) (b : Bool) → ReadyAfter w (truth_move x b)
+  truth-ready (f.AllOf xs) true = all-ready xs
+  truth-ready (f.AllOf xs) false = tt
+  truth-ready (f.AnyOf xs) true = tt
+  truth-ready (f.AnyOf xs) false = any-ready xs
+  truth-ready f.Flips b = tt
+  truth-ready (f.Branches body other) true = (tt, tt)
+  truth-ready (f.Branches body other) false = (tt, tt)
+  truth-ready (f.Testing l) b = tested-ready l (loop_goes_on l b)
+
+  begin-ready : (p : Program) (n : ℕ) (x : Begin) → ReadyAfter w (begin_move p n w x)
+  begin-ready p n (f.Evals x) = eval-ready p x
+  begin-ready p n (f.CallDue name values) = call-ready p n name values
+  begin-ready p n (f.DrawDue m) = tt
+  begin-ready p n (f.Tests x) = test-ready x
+  begin-ready p n (f.Alters x) = alter-ready p x
+  begin-ready p n (f.Due x) = statement-ready x
+  begin-ready p n (f.Blocks xs) = block-ready xs
+  begin-ready p n (f.Prints xs) = prints-ready xs
+  begin-ready p n (f.LineDue name) = tt
+  begin-ready p n (f.TurnDue l) = turn-ready l l.test
+
+  next-ready : (p : Program) (n : ℕ) (x : Frame) (e : Outcome) → ReadyAfter w (next p n w x e)
+  next-ready p n (Begins x) (Value a) = tt
+  next-ready p n (Begins x) (Truth b) = tt
+  next-ready p n (Begins x) Normal = begin-ready p n x
+  next-ready p n (Begins x) (Returns a) = tt
+  next-ready p n (Begins x) Breaks = tt
+  next-ready p n (Begins x) Continues = tt
+  next-ready p n (Begins x) (Halts halt) = tt
+  next-ready p n (Begins x) (Waits lack fs) = tt
+  next-ready p n (Wants x) (Value a) = value-ready p x a
+  next-ready p n (Wants x) (Truth b) = tt
+  next-ready p n (Wants x) Normal = tt
+  next-ready p n (Wants x) (Returns a) = tt
+  next-ready p n (Wants x) Breaks = tt
+  next-ready p n (Wants x) Continues = tt
+  next-ready p n (Wants x) (Halts halt) = tt
+  next-ready p n (Wants x) (Waits lack fs) = tt
+  next-ready p n (Decides x) (Value a) = tt
+  next-ready p n (Decides x) (Truth b) = truth-ready x b
+  next-ready p n (Decides x) Normal = tt
+  next-ready p n (Decides x) (Returns a) = tt
+  next-ready p n (Decides x) Breaks = tt
+  next-ready p n (Decides x) Continues = tt
+  next-ready p n (Decides x) (Halts halt) = tt
+  next-ready p n (Decides x) (Waits lack fs) = tt
+  next-ready p n (Looping l) (Value a) = tt
+  next-ready p n (Looping l) (Truth b) = tt
+  next-ready p n (Looping l) Normal = change-dry l l.change
+  next-ready p n (Looping l) (Returns a) = tt
+  next-ready p n (Looping l) Breaks = tt
+  next-ready p n (Looping l) Continues = change-dry l l.change
+  next-ready p n (Looping l) (Halts halt) = tt
+  next-ready p n (Looping l) (Waits lack fs) = tt
+  next-ready p n (Calling scope) e = tt
+  next-ready p n Main e = tt
+  next-ready p n (Over halt) e = tt
+
+pub moves_ready : MovesReady
+moves_ready p n w x e = next-ready w p n x e

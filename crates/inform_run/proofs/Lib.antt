@@ -1,0 +1,6 @@
+pub mod Innermost
+pub mod Moving
+pub mod Advances
+pub mod Stopping
+pub mod Beginning
+pub mod Found

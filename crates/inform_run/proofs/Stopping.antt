@@ -1,0 +1,101 @@
+-- Where a run stops, on a console whose lines are known.
+use Rattle.std.proofs.Common.{◌≡◌, ◌∙◌, ℕ, ℤ, zero, suc, ◌+◌, ◌-◌, ◌<◌, ◌≤◌, List, [], ◌∷◌, ◌++◌, Option, Some, None, Result, Ok, Err, OnErr, refl, sym, ap, subst, arith, add-zero, add-one}
+use Rattle.std.specs.Prelude.{IfNone, IfSome}
+use Rattle.adv_io.specs.History.{says, GrewByPrefix}
+use Rattle.adv_io.specs.Console.{ConsoleView}
+use Rattle.inform_meaning.specs.Worlds.{Program, World}
+use Rattle.inform_meaning.specs.Frames as f
+use Rattle.inform_meaning.specs.Runs.{Stop, Lacking, stop_of, begun_of}
+use Rattle.inform_moves.specs.Moves.{Reads, Draws}
+use Rattle.inform_moves.specs.Laws.{RunsAdd, MovesMean, MovesAsk}
+use Rattle.inform_frames.specs.declared.nexts.Next.{Next}
+use Rattle.inform_frames.specs.declared.nexts.NextKind.TheVariants as k
+use Rattle.inform_frames.specs.Frames.{signal_of}
+use Rattle.inform_frames.specs.Nexts.{move_of}
+use Rattle.inform_run.specs.Points.{Point, IsNext, said_by, Leads, Ends, Breaks}
+use Rattle.inform_run.specs.Machines.{LeadsOn, BreaksOn}
+use Rattle.inform_run.specs.Turns.{EndsOn, BreaksAfter}
+use Rattle.inform_run.proofs.Moving.{ends-then, breaks-then, ends-over, ends-spent, ends-line, ends-draw, breaks-ticks}
+
+-- ---- what holds of an answer, made weaker
+
+pub none-weaker : {X A B : Type 0} (o : Option X) → (A → B) → IfNone o A → IfNone o B
+none-weaker None f a = f a
+none-weaker (Some x) f a = a
+
+pub some-weaker : {X : Type 0} {A B : X → Type 0} (o : Option X) → ((x : X) → A x → B x) → IfSome o A → IfSome o B
+some-weaker None f a = a
+some-weaker (Some x) f a = f x a
+
+pub err-weaker : {T E A B : Type 0} (r : Result T E) → (A → B) → OnErr r A → OnErr r B
+err-weaker (Ok x) f a = a
+err-weaker (Err e) f a = f a
+
+-- ---- after what led there
+
+module _ (p q : Program) (program : q ≡ p) (old mid new : ConsoleView) (x y : Point) (drawn left : List ℕ) where
+  pub ends-on : (last : List ℕ) (steps u : ℕ) (stop : Stop) (frames : List f.Frame) (world : World) (unused : ℕ)
+      → LeadsOn p old mid x y drawn left u → EndsOn q mid new y steps left last stop frames world unused
+      → EndsOn p old new x (steps + u) drawn last stop frames world unused
+  ends-on last steps u stop frames world unused a b = λ lines known.
+      let first = a lines known in
+      ends-then p old mid new x y steps lines drawn left last stop frames world u unused first
+      (subst (λ q. Ends q mid new y steps first.rest left last stop frames world unused) program (b first.rest first.lines))
+
+  pub ends-next : (last : List ℕ) (steps : ℕ) (stop : Stop) (frames : List f.Frame) (world : World) (unused : ℕ)
+      → LeadsOn p old mid x y drawn left 0 → EndsOn q mid new y steps left last stop frames world unused
+      → EndsOn p old new x steps drawn last stop frames world unused
+  ends-next last steps stop frames world unused a b =
+      subst (λ n. EndsOn p old new x n drawn last stop frames world unused) (add-zero steps) (ends-on last steps 0 stop frames world unused a b)
+
+  pub breaks-after : (steps u : ℕ) → LeadsOn p old mid x y drawn left u → BreaksAfter q mid new y steps left → BreaksAfter p old new x (steps + u) drawn
+  breaks-after steps u a b = λ lines known past.
+      let first = a lines known in
+      breaks-then p old mid new x y steps lines drawn left u past first
+      (subst (λ q. Breaks q mid new y steps first.rest left (past ++ first.done)) program (b first.rest first.lines (past ++ first.done)))
+
+  pub breaks-next : (steps : ℕ) → LeadsOn p old mid x y drawn left 0 → BreaksAfter q mid new y steps left → BreaksAfter p old new x steps drawn
+  breaks-next steps a b = subst (λ n. BreaksAfter p old new x n drawn) (add-zero steps) (breaks-after steps 0 a b)
+
+-- ---- where it stops
+
+module _ (means : MovesMean) (p : Program) (at : Point) where
+  pub over-ends : (seen : ConsoleView) (steps : ℕ) (draws : List ℕ) → at.frames ≡ []
+      → EndsOn p seen seen at steps draws draws (stop_of (signal_of at.handed)) (begun_of (signal_of at.handed)) at.world steps
+  over-ends seen steps draws empty = λ lines known. ends-over means p at seen seen lines known refl steps draws empty
+
+  -- the same, where the machine stands like that then
+  pub over-stops : (seen : ConsoleView) (steps : ℕ) (draws : List ℕ) (stop : Stop) (frames : List f.Frame) (world : World)
+      → at.frames ≡ [] → stop ≡ stop_of (signal_of at.handed) → frames ≡ begun_of (signal_of at.handed) → world ≡ at.world
+      → EndsOn p seen seen at steps draws draws stop frames world steps
+  over-stops seen steps draws stop frames world empty stop-is frames-are world-is =
+      subst (λ x. EndsOn p seen seen at steps draws draws x frames world steps) (sym stop-is)
+      (subst (λ x. EndsOn p seen seen at steps draws draws (stop_of (signal_of at.handed)) x world steps) (sym frames-are)
+      (subst (λ x. EndsOn p seen seen at steps draws draws (stop_of (signal_of at.handed)) (begun_of (signal_of at.handed)) x steps) (sym world-is)
+      (over-ends seen steps draws empty)))
+
+  pub spent-ends : (seen : ConsoleView) (steps : ℕ) (draws : List ℕ) (x : Next) → IsNext p at (move_of at.world x) → x.kind ≡ k.Ticks → steps ≡ 0
+      → EndsOn p seen seen at steps draws draws (Lacking f.Spent) at.frames at.world steps
+  spent-ends seen steps draws x n kind none =
+      subst (λ n. EndsOn p seen seen at n draws draws (Lacking f.Spent) at.frames at.world n) (sym none)
+      (λ lines known. ends-spent means p at seen seen lines known refl draws x n kind)
+
+  pub line-ends : MovesAsk → (seen : ConsoleView) (steps : ℕ) (draws : List ℕ) (name : List ℕ) → IsNext p at (Reads name)
+      → ((lines : List (List ℕ)) → seen.left ≡ Some lines → lines ≡ [])
+      → EndsOn p seen seen at steps draws draws (Lacking f.NeedsLine) at.frames at.world steps
+  line-ends asks seen steps draws name n none = λ lines known.
+      ends-line means p at seen seen lines known refl asks steps draws name n (none lines known)
+
+  pub draw-ends : MovesAsk → (seen : ConsoleView) (steps : ℕ) (draws : List ℕ) (m : ℤ) → IsNext p at (Draws m) → draws ≡ []
+      → EndsOn p seen seen at steps draws draws (Lacking f.NeedsDraw) at.frames at.world steps
+  draw-ends asks seen steps draws m n none =
+      subst (λ ds. EndsOn p seen seen at steps ds ds (Lacking f.NeedsDraw) at.frames at.world steps) (sym none)
+      (λ lines known. ends-draw means p at seen seen lines known refl asks steps m n)
+
+  -- a step that says something, and the console fails
+  pub ticks-break : RunsAdd → (old new : ConsoleView) (steps : ℕ) (x : Next) → IsNext p at (move_of at.world x) → x.kind ≡ k.Ticks → 0 < steps
+      → GrewByPrefix old.history new.history (says (said_by x.effect))
+      → (draws : List ℕ) → BreaksAfter p old new at steps draws
+  ticks-break add old new zero x n kind some part draws = absurd (omega arith)
+  ticks-break add old new (suc steps) x n kind some part draws = λ lines known past.
+      breaks-ticks means p at add old new lines draws steps past x n kind part

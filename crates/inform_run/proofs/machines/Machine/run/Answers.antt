@@ -1,0 +1,63 @@
+use Rattle.std.proofs.Common.{◌≡◌, ◌∙◌, ◌+◌, ◌-◌, refl, sym, ap, subst, arith, rules}
+use Rattle.std.proofs.lemmas.Result.{err_from_is_err_and}
+use Rattle.inform_worlds.specs.Worlds.{program_of}
+use Rattle.inform_worlds.specs.Views.{world_of, program_seen}
+use Rattle.inform_run.specs.Stacks.{stack_of}
+use Rattle.inform_run.specs.Machines.{point_of, LeadsOn}
+use Rattle.inform_run.specs.Turns.{stop_seen, EndsOn, BreaksAfter}
+use Rattle.inform_run.proofs.Advances.{stays, on-then}
+use Rattle.inform_run.proofs.Stopping.{ends-on, breaks-after}
+use Rattle.inform_run.proofs.machines.Machine.run.Goals as goal
+
+pub turns-init : goal.turns-init
+turns-init g c =
+    let p = program_seen c.args.self.now.world in
+    let at = point_of c.args.self.now in
+    let seen = g.C.Console.seen c.args.console.now in
+    let none : 0 ≡ c.args.steps - c.args.steps = omega arith in
+    record {
+      names = refl;
+      sound = c.requires;
+      bounded = omega arith;
+      steady = refl;
+      supply = refl;
+      fewer = omega arith;
+      leads = subst (LeadsOn p seen seen at at c.args.draws.now.left c.args.draws.now.left) none (stays p at c.args.draws.now.left c.args.draws.now.left refl seen);
+    }
+
+pub turns-preserved : goal.turns-preserved
+turns-preserved g c =
+    let seen = g.C.Console.seen in
+    let p = program_seen c.args.self.now.world in
+    let one : (c.args.steps - c.turns.left) + 1 ≡ c.args.steps - (c.turns.left - 1) = omega (arith, c.turns.invariant.fewer, rw c.in-None.is at c.in_ok-stopped.ensures.steps) in
+    record {
+      names = c.turn.ensures.names ∙ c.turns.invariant.names;
+      sound = c.turn.ensures.sound;
+      bounded = omega (arith, c.turns.invariant.bounded, c.turn.ensures.bounded);
+      steady = search rules;
+      supply = c.turn.ensures.supply ∙ c.turns.invariant.supply;
+      fewer = omega (arith, c.turns.invariant.fewer);
+      leads = subst (LeadsOn p (seen c.args.console.now) (seen c.turn.new.console) (point_of c.args.self.now) (point_of c.turn.new.self) c.args.draws.now.left c.turn.new.draws.left) one
+          (on-then p (program_seen c.turns.self.world) (ap (λ names. program_of names.accepted.now) c.turns.invariant.names) (seen c.args.console.now) (seen c.turns.console) (seen c.turn.new.console)
+          (point_of c.args.self.now) (point_of c.turns.self) (point_of c.turn.new.self) c.args.draws.now.left c.turns.draws.left c.turn.new.draws.left (c.args.steps - c.turns.left) 1 c.turns.invariant.leads (rw c.in-None.is at c.in_ok-stopped.ensures.leads));
+    }
+
+pub returns-in-Some-clause-ends : goal.returns-in-Some-clause-ends
+returns-in-Some-clause-ends g c =
+    let seen = g.C.Console.seen in
+    let p = program_seen c.args.self.now.world in
+    let all : c.turns.left + (c.args.steps - c.turns.left) ≡ c.args.steps = omega (arith, c.turns.invariant.fewer) in
+    subst (λ n. EndsOn p (seen c.args.console.now) (seen c.turn.new.console) (point_of c.args.self.now) n c.args.draws.now.left c.turn.new.draws.left (stop_seen c.in-Some.stop) (stack_of c.turn.new.self.stack) (world_of c.turn.new.self.world) c.turns.left) all
+    (ends-on p (program_seen c.turns.self.world) (ap (λ names. program_of names.accepted.now) c.turns.invariant.names) (seen c.args.console.now) (seen c.turns.console) (seen c.turn.new.console)
+    (point_of c.args.self.now) (point_of c.turns.self) c.args.draws.now.left c.turns.draws.left c.turn.new.draws.left c.turns.left (c.args.steps - c.turns.left) (stop_seen c.in-Some.stop) (stack_of c.turn.new.self.stack) (world_of c.turn.new.self.world) c.turns.left c.turns.invariant.leads (rw c.in-Some.is at c.in_ok-stopped.ensures.ends))
+
+pub returns-in_err-stopped-clause-breaks : goal.returns-in_err-stopped-clause-breaks
+returns-in_err-stopped-clause-breaks g c =
+    let seen = g.C.Console.seen in
+    let p = program_seen c.args.self.now.world in
+    let all : c.turns.left + (c.args.steps - c.turns.left) ≡ c.args.steps = omega (arith, c.turns.invariant.fewer) in
+    let e = err_from_is_err_and c.from_residual.result c.from_residual.ensures.1 in
+    rw (e.1)
+    (subst (λ n. BreaksAfter p (seen c.args.console.now) (seen c.turn.new.console) (point_of c.args.self.now) n c.args.draws.now.left) all
+    (breaks-after p (program_seen c.turns.self.world) (ap (λ names. program_of names.accepted.now) c.turns.invariant.names) (seen c.args.console.now) (seen c.turns.console) (seen c.turn.new.console)
+    (point_of c.args.self.now) (point_of c.turns.self) c.args.draws.now.left c.turns.draws.left c.turns.left (c.args.steps - c.turns.left) c.turns.invariant.leads c.in_err-stopped.ensures.breaks))

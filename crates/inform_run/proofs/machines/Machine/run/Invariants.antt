@@ -1,0 +1,23 @@
+use Rattle.std.proofs.Common.{◌≡◌, ◌≤◌, ◌-◌}
+use Rattle.adv_draws.specs.Supply.{supplied}
+use Rattle.inform_worlds.specs.Views.{program_seen}
+use Rattle.inform_run.specs.Machines.{point_of, IsFit, LeadsOn}
+use Rattle.inform_run.proofs.machines.Machine.run.Given as goal
+
+-- the turns so far lead here
+abbrev pub invariant-turns : goal.invariant-turns
+invariant-turns g l =
+    let seen = g.C.Console.seen in
+    record {
+      names : l.self.world.names ≡ l.initial.self.world.names;
+      sound : IsFit l.self;
+      bounded : (seen l.console).bound ≤ (seen l.initial.console).bound;
+      steady : (seen l.console).faults ≡ (seen l.initial.console).faults;
+      supply : supplied l.draws ≡ supplied l.initial.draws;
+      fewer : l.left ≤ l.steps;
+      leads : LeadsOn (program_seen l.initial.self.world) (seen l.initial.console) (seen l.console) (point_of l.initial.self) (point_of l.self) l.initial.draws.left l.draws.left (l.steps - l.left);
+    }
+
+-- each takes a step
+abbrev pub decreases-turns : goal.decreases-turns
+decreases-turns g l = l.left

@@ -1,0 +1,6 @@
+pub mod Stacks
+pub mod Points
+pub mod Machines
+pub mod Turns
+pub mod Runners
+pub mod Fitness

@@ -1,0 +1,59 @@
+-- A machine, as the definitions see it.
+use Rattle.std.specs.Prelude.{ℕ, ℤ, ◌≡◌, Bool, true, false, List, [], Option, Some, ⊤}
+use Rattle.adv_io.specs.Steps.{Step}
+use Rattle.adv_io.specs.Console.{ConsoleView}
+use Rattle.inform_meaning.specs.Worlds.{Program}
+use Rattle.inform_moves.specs.Moves.{Reads, Draws}
+use Rattle.inform_moves.specs.Readiness.{IsReady}
+use Rattle.inform_worlds.specs.Views.{world_of}
+use Rattle.inform_run.specs.declared.machines.Machine.{Machine}
+use Rattle.inform_frames.specs.declared.nexts.NextKind.{NextKind}
+use Rattle.inform_frames.specs.declared.nexts.NextKind.TheVariants as k
+use Rattle.inform_frames.specs.declared.nexts.Next.{Next}
+use Rattle.inform_frames.specs.Nexts.{move_of}
+use Rattle.inform_run.specs.declared.advancing.Due.{Due}
+use Rattle.inform_run.specs.declared.advancing.Due.TheVariants as d
+use Rattle.inform_run.specs.Stacks.{stack_of, IsSound}
+use Rattle.inform_run.specs.Points.{Point, IsNext, Leads, Breaks}
+
+abbrev pub point_of : Machine → Point
+point_of m = record { frames = stack_of m.stack; handed = m.signal; world = world_of m.world }
+
+-- its stack is sound, and where a line is due its buffer has room
+abbrev pub IsFit : Machine → Type 0
+IsFit m = IsSound m.stack × IsReady (world_of m.world) (stack_of m.stack)
+
+-- it takes frames, and perhaps a step
+abbrev pub IsMove : NextKind → Type 0
+IsMove k.Goes = ⊤
+IsMove k.Ticks = ⊤
+IsMove (k.Reads name) = ⊥
+IsMove (k.Draws n) = ⊥
+
+-- what is due at a point, where these lines, if they are known, and these draws are left
+abbrev pub IsDue : Program → Point → Option (List (List ℕ)) → List ℕ → Due → Next → Type 0
+IsDue p at left draws d.Moved next = ⊤
+IsDue p at left draws d.Step next = (next.kind ≡ k.Ticks) × IsNext p at (move_of at.world next)
+IsDue p at left draws d.Line next = (name : List ℕ) × IsNext p at (Reads name)
+    × ((lines : List (List ℕ)) → left ≡ Some lines → lines ≡ [])
+IsDue p at left draws d.Draw next = (m : ℤ) × IsNext p at (Draws m) × (draws ≡ [])
+IsDue p at left draws d.Over next = at.frames ≡ []
+
+-- ---- where the console's lines are known
+
+abbrev pub LeadsOn : Program → ConsoleView → ConsoleView → Point → Point → List ℕ → List ℕ → ℕ → Type 0
+LeadsOn p old new before after drawn left used =
+    (lines : List (List ℕ)) → old.left ≡ Some lines → Leads p old new before after lines drawn left used
+
+-- with any number of steps, and whatever happened before
+abbrev pub BreaksOn : Program → ConsoleView → ConsoleView → Point → List ℕ → Type 0
+BreaksOn p old new before drawn = (lines : List (List ℕ)) → old.left ≡ Some lines
+    → (steps : ℕ) (past : List Step) → Breaks p old new before steps lines drawn past
+
+-- no move can be made that takes no step
+abbrev pub is_still : Due → Bool
+is_still d.Moved = false
+is_still d.Step = true
+is_still d.Line = true
+is_still d.Draw = true
+is_still d.Over = true

@@ -1,0 +1,92 @@
+-- Where a run stands between two moves, and how it gets from one such point to another.
+use Rattle.std.specs.Prelude.{ℕ, ◌≡◌, ◌+◌, List, [], ◌∷◌, ◌++◌, Option, Some, None, Result, OnErr}
+use Rattle.std.specs.Fmt.{signed_decimal}
+use Rattle.adv_io.specs.Steps.{Step, shown_of}
+use Rattle.adv_io.specs.History.{grown, GrewByPrefix}
+use Rattle.adv_io.specs.Console.{ConsoleView}
+use Rattle.inform_meaning.specs.Worlds.{Program, World, Config, assigned, stored}
+use Rattle.inform_meaning.specs.Frames as f
+use Rattle.inform_meaning.specs.Frames.{Outcome}
+use Rattle.inform_meaning.specs.Runs.{CALL_LIMIT, room_in, resume_at, stop_of, begun_of}
+use Rattle.inform_meaning.specs.Runs as m
+use Rattle.inform_moves.specs.Moves.{Move, next}
+use Rattle.inform_worlds.specs.Scopes.{scope_of}
+use Rattle.inform_frames.specs.declared.signals.Signal.{Signal}
+use Rattle.inform_frames.specs.declared.nexts.Effect.{Effect}
+use Rattle.inform_frames.specs.declared.nexts.Effect.TheVariants as e
+use Rattle.inform_frames.specs.Frames.{signal_of}
+
+-- the frames, what is handed to the innermost of them, and the world
+pub record Point : Type 0 where
+  pub frames : List f.Frame
+  pub handed : Signal
+  pub world : World
+
+abbrev pub config_at : Point → ℕ → List (List ℕ) → List ℕ → List Step → Config
+config_at at steps lines draws past =
+    record { steps = steps; lines = lines; draws = draws; past = past; world = at.world }
+
+-- the run from there, after what happened, with so many steps, these lines and these draws
+abbrev pub run_from : Program → Point → ℕ → List (List ℕ) → List ℕ → List Step → Outcome × Config
+run_from p at steps lines draws past =
+    resume_at p CALL_LIMIT at.frames (signal_of at.handed) (config_at at steps lines draws past)
+
+-- this is the next move there
+pub record IsNext (p : Program) (at : Point) (move : Move) : Type 0 where
+  pub top : f.Frame
+  pub rest : List f.Frame
+  pub frames : at.frames ≡ top ∷ rest
+  pub is : move ≡ next p (room_in CALL_LIMIT rest) at.world top (signal_of at.handed)
+
+-- ---- what a move of the program does
+
+abbrev pub world_after : World → Effect → World
+world_after w e.Keeps = w
+world_after w (e.Writes name v) = assigned name.now v w
+world_after w (e.Stores name words i v) = stored name.now words i v w
+world_after w (e.Opens scope) = record w { scope = scope_of scope }
+world_after w (e.Closes scope) = record w { scope = scope_of scope }
+world_after w (e.Says text) = w
+world_after w (e.SaysNumber n) = w
+world_after w (e.SaysByte byte) = w
+
+abbrev pub said_by : Effect → List ℕ
+said_by e.Keeps = []
+said_by (e.Writes name v) = []
+said_by (e.Stores name words i v) = []
+said_by (e.Opens scope) = []
+said_by (e.Closes scope) = []
+said_by (e.Says text) = text.now
+said_by (e.SaysNumber n) = signed_decimal n
+said_by (e.SaysByte byte) = byte ∷ []
+
+-- ---- on a console whose lines are known
+
+-- the run got with so many steps from one point to another: the whole run from the first is what
+-- was done and the run from the second
+pub record Leads (p : Program) (old new : ConsoleView) (before after : Point) (given : List (List ℕ)) (drawn left : List ℕ) (used : ℕ) : Type 0 where
+  pub done : List Step
+  pub rest : List (List ℕ)
+  pub grew : new.history ≡ grown old.history (shown_of done)
+  pub lines : new.left ≡ Some rest
+  pub same : (steps : ℕ) (past : List Step)
+      → run_from p before (steps + used) given drawn past ≡ run_from p after steps rest left (past ++ done)
+
+-- the run from there with so many steps comes to an end: it stops for this, these frames have
+-- begun and aren't finished, and so many steps are left
+pub record Ends (p : Program) (old new : ConsoleView) (before : Point) (steps : ℕ) (given : List (List ℕ)) (drawn left : List ℕ) (stop : m.Stop) (frames : List f.Frame) (world : World) (unused : ℕ) : Type 0 where
+  pub done : List Step
+  pub rest : List (List ℕ)
+  pub grew : new.history ≡ grown old.history (shown_of done)
+  pub lines : new.left ≡ Some rest
+  pub outcome : Outcome
+  pub same : (past : List Step) → run_from p before steps given drawn past
+      ≡ (outcome, record { steps = unused; lines = rest; draws = left; past = past ++ done; world = world })
+  pub stop_is : stop_of outcome ≡ stop
+  pub frames_are : begun_of outcome ≡ frames
+
+-- the console failed: what was shown is a prefix of what the run from there shows
+pub record Breaks (p : Program) (old new : ConsoleView) (before : Point) (steps : ℕ) (lines : List (List ℕ)) (drawn : List ℕ) (past : List Step) : Type 0 where
+  pub events : List Step
+  pub same : (run_from p before steps lines drawn past).1.past ≡ past ++ events
+  pub part : GrewByPrefix old.history new.history (shown_of events)

@@ -1,0 +1,19 @@
+//! The runner: it runs an accepted Inform program as the program means, step for step, on a console.
+#![tactic(auto)]
+
+// What has begun and isn't finished, and where a run stands between two moves.
+mod machines;
+mod stacks;
+mod stops;
+
+// A move; those up to the next step; a turn with that step; turns.
+mod advancing;
+mod running;
+mod settling;
+mod turning;
+
+// A run from its beginning, and on from where it stopped.
+mod runners;
+
+pub use runners::Runner;
+pub use stops::Stop;

@@ -1,0 +1,43 @@
+//! Moves that take no step, up to the next step or to where the run stops.
+ghost use Rattle.std.specs.Prelude.{◌≡◌, true, ◌≤◌, IfOk, OnErr};
+ghost use Rattle.adv_draws.specs.Supply.{supplied};
+ghost use Rattle.adv_io.specs.Faults.{HasCause};
+ghost use Rattle.inform_worlds.specs.Views.{program_seen};
+ghost use Rattle.inform_run.specs.Machines.{point_of, IsFit, IsDue, is_still, LeadsOn, BreaksOn};
+
+use crate::advancing::Pending;
+use crate::machines::Machine;
+use adv_draws::Draws;
+use adv_io::{Console, ConsoleFault, Line};
+
+impl<'a> Machine<'a> {
+    /// Moves are made up to one that takes a step or needs what isn't there.
+    pub fn settle<C: Console>(
+        &mut self,
+        draws: &mut Draws,
+        line: &mut Line,
+        console: &mut C,
+    ) -> Result<Pending<'a>, ConsoleFault>
+        requires { IsFit self.old }
+        ensures names { self.new.world.names ≡ self.old.world.names }
+        ensures sound { IsFit self.new }
+        ensures bounded { (C.seen console.new).bound ≤ (C.seen console.old).bound }
+        ensures cause { HasCause (C.seen console.old).faults (C.seen console.new).faults result }
+        ensures supply { supplied draws.new ≡ supplied draws.old }
+        ensures leads { IfOk result (λ pending. LeadsOn (program_seen self.old.world)
+            (C.seen console.old) (C.seen console.new) (point_of self.old) (point_of self.new)
+            draws.old.left draws.new.left 0) }
+        ensures due { IfOk result (λ pending. IsDue (program_seen self.old.world)
+            (point_of self.new) (C.seen console.new).left draws.new.left pending.due pending.next) }
+        ensures still { IfOk result (λ pending. is_still pending.due ≡ true) }
+        ensures breaks { OnErr result (BreaksOn (program_seen self.old.world)
+            (C.seen console.old) (C.seen console.new) (point_of self.old) draws.old.left) }
+    {
+        'moves: loop {
+            let pending = self.advance(draws, line, console)?;
+            if pending.due.is_still() {
+                return Ok(pending);
+            }
+        }
+    }
+}

@@ -1,0 +1,125 @@
+//! A turn: moves up to a step, and that step; or where the run stops.
+ghost use Rattle.std.specs.Prelude.{◌≡◌, ◌≤◌, ◌<◌, List, ℕ, [], ◌∷◌, IfOk, OnErr, IfSome, IfNone};
+ghost use Rattle.adv_draws.specs.Supply.{supplied};
+ghost use Rattle.adv_io.specs.Faults.{HasCause};
+ghost use Rattle.inform_meaning.specs.Frames as f;
+ghost use Rattle.inform_meaning.specs.Runs.{begun_of, stop_of};
+ghost use Rattle.inform_worlds.specs.Views.{world_of, program_seen};
+ghost use Rattle.inform_frames.specs.Frames.{signal_of};
+ghost use Rattle.inform_frames.specs.Nexts.{move_of};
+ghost use Rattle.inform_run.specs.Stacks.{stack_of};
+ghost use Rattle.inform_run.specs.Points.{IsNext};
+ghost use Rattle.inform_run.specs.Machines.{point_of, IsFit, is_still, IsDue, LeadsOn};
+ghost use Rattle.inform_run.specs.Turns.{stop_seen, halted, EndsOn, BreaksAfter};
+
+use crate::advancing::{Due, move_fits};
+use crate::machines::Machine;
+use crate::stops::Stop;
+use adv_draws::Draws;
+use adv_io::{Console, ConsoleFault, Line};
+use inform_frames::{Frame, Halt, Next, NextKind, Pushed, halt_of};
+use inform_moves::laws::{moves_ask, moves_mean, moves_ready, runs_add};
+
+// Why a run stopped that is over.
+fn stop_by(halt: Halt) -> Stop
+    ensures { stop_seen result ≡ halted halt }
+{
+    match halt {
+        Halt::Quits => Stop::Quit,
+        Halt::Trapped(kind, directive) => Stop::Trap(kind, directive),
+    }
+}
+
+impl<'a> Machine<'a> {
+    // The run is over: that alone is left.
+    fn end(&mut self) -> Stop
+        requires sound { IsFit self.old }
+        requires empty { stack_of self.old.stack ≡ [] }
+        ensures world { self.new.world ≡ self.old.world }
+        ensures sound { IsFit self.new }
+        ensures stop { stop_seen result ≡ stop_of (signal_of self.old.signal) }
+        ensures frames { stack_of self.new.stack ≡ begun_of (signal_of self.old.signal) }
+    {
+        let halt = halt_of(self.signal);
+        self.stack.replace(&Pushed::one(Frame::Over(halt)));
+        stop_by(halt)
+    }
+
+    // A step is made, if one is left.
+    fn step<C: Console>(
+        &mut self,
+        left: u64,
+        next: &Next<'a>,
+        console: &mut C,
+    ) -> Result<Option<Stop>, ConsoleFault>
+        requires sound { IsFit self.old }
+        requires next { IsNext (program_seen self.old.world) (point_of self.old)
+            (move_of (world_of self.old.world) next.now) }
+        requires kind { next.now.kind ≡ NextKind.Ticks }
+        ensures names { self.new.world.names ≡ self.old.world.names }
+        ensures sound { IsFit self.new }
+        ensures bounded { (C.seen console.new).bound ≤ (C.seen console.old).bound }
+        ensures cause { HasCause (C.seen console.old).faults (C.seen console.new).faults result }
+        ensures steps { IfOk result (λ stop. IfNone stop (0 < left)) }
+        ensures leads { (draws : List ℕ) → IfOk result (λ stop. IfNone stop
+            (LeadsOn (program_seen self.old.world) (C.seen console.old) (C.seen console.new)
+            (point_of self.old) (point_of self.new) draws draws 1)) }
+        ensures ends { (draws : List ℕ) → IfOk result (λ stop. IfSome stop (λ stop.
+            EndsOn (program_seen self.old.world) (C.seen console.old) (C.seen console.new)
+            (point_of self.old) left draws draws (stop_seen stop) (stack_of self.new.stack)
+            (world_of self.new.world) left)) }
+        ensures breaks { (draws : List ℕ) → OnErr result
+            (BreaksAfter (program_seen self.old.world) (C.seen console.old)
+            (C.seen console.new) (point_of self.old) left draws) }
+    {
+        moves_mean();
+        moves_ready();
+        runs_add();
+        if left == 0 {
+            return Ok(Some(Stop::Spent));
+        }
+        move_fits(self, next);
+        match self.make(next, console) {
+            Ok(()) => Ok(None),
+            Err(fault) => Err(fault),
+        }
+    }
+
+    /// Moves are made up to a step, and that step, if it is left; or the run stops.
+    pub fn turn<C: Console>(
+        &mut self,
+        left: u64,
+        draws: &mut Draws,
+        line: &mut Line,
+        console: &mut C,
+    ) -> Result<Option<Stop>, ConsoleFault>
+        requires { IsFit self.old }
+        ensures names { self.new.world.names ≡ self.old.world.names }
+        ensures sound { IsFit self.new }
+        ensures bounded { (C.seen console.new).bound ≤ (C.seen console.old).bound }
+        ensures cause { HasCause (C.seen console.old).faults (C.seen console.new).faults result }
+        ensures supply { supplied draws.new ≡ supplied draws.old }
+        ensures steps { IfOk result (λ stop. IfNone stop (0 < left)) }
+        ensures leads { IfOk result (λ stop. IfNone stop
+            (LeadsOn (program_seen self.old.world) (C.seen console.old) (C.seen console.new)
+            (point_of self.old) (point_of self.new) draws.old.left draws.new.left 1)) }
+        ensures ends { IfOk result (λ stop. IfSome stop (λ stop.
+            EndsOn (program_seen self.old.world) (C.seen console.old) (C.seen console.new)
+            (point_of self.old) left draws.old.left draws.new.left (stop_seen stop)
+            (stack_of self.new.stack) (world_of self.new.world) left)) }
+        ensures breaks { OnErr result
+            (BreaksAfter (program_seen self.old.world) (C.seen console.old)
+            (C.seen console.new) (point_of self.old) left draws.old.left) }
+    {
+        moves_mean();
+        moves_ask();
+        let pending = self.settle(draws, line, console)?;
+        match pending.due {
+            Due::Moved => unreachable!(),
+            Due::Step => self.step(left, &pending.next, console),
+            Due::Line => Ok(Some(Stop::NeedsLine)),
+            Due::Draw => Ok(Some(Stop::NeedsDraw)),
+            Due::Over => Ok(Some(self.end())),
+        }
+    }
+}
