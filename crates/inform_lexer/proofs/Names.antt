@@ -1,8 +1,9 @@
--- A word that isn't reserved is a name.
-use Rattle.std.specs.Prelude.{nat_eq}
-use Rattle.std.proofs.Common.{◌≡◌, ℕ, Bool, true, false, cond, List, Option, Some, None, refl, ap, ◌∙◌}
+-- A word that isn't reserved is a name; and what is reserved has the length of a reserved word with its first byte.
+use Rattle.std.specs.Prelude.{nat_eq, slice_index}
+use Rattle.std.specs.List.{filter, list_any}
+use Rattle.std.proofs.Common.{◌≡◌, ℕ, Bool, true, false, cond, List, [], ◌∷◌, length, map, Option, Some, None, refl, ap, subst, ◌∙◌, ◌||◌}
 use Rattle.std.specs.Cmp.Lexicographic.{pointwise}
-use Rattle.std.proofs.lemmas.Bool.{both_ways}
+use Rattle.std.proofs.lemmas.Bool.{both_ways, eq-eqb}
 use Rattle.std.proofs.lemmas.Slice.Eq.{bytes_eq-Decides}
 use Rattle.inform_tree.specs.Words.{is_reserved}
 use Rattle.inform_lexemes.specs.declared.keywords.Keyword.{Keyword}
@@ -10,6 +11,8 @@ use Rattle.inform_lexemes.specs.declared.keywords.Keyword.TheVariants as k
 use Rattle.inform_lexemes.specs.declared.keywords.TheConstants.{KEYWORDS}
 use Rattle.inform_lexemes.specs.Keywords.{keyword_text, keyword_spelled}
 use Rattle.inform_lexemes.specs.Lexemes.{Reserved, Name, word_lexeme, word_or_name}
+use Rattle.inform_lexer.specs.Reserved.{reserved_sizes}
+use Rattle.inform_tree.specs.declared.words.TheConstants.{RESERVED}
 use Rattle.inform_lexer.proofs.LongestSymbol.{found_passes}
 
 -- each word of the grammar is reserved, and so no name
@@ -57,3 +60,46 @@ unfolding word_lexeme
 free_word word free =
     ap (λ (o : Option Keyword). word_or_name o word) (no_keyword (keyword_spelled word) word refl free)
     ∙ ap (λ (t : Bool). cond t Reserved (Name word)) free
+
+-- ---- a word among others has the length of one of those with its first byte
+
+-- the lengths of the words that begin with a byte
+abbrev sizes_among : ℕ → List (List ℕ) → List ℕ
+sizes_among b words = map length (filter (λ other. nat_eq b (slice_index other 0)) words)
+
+abbrev pub has_size : ℕ → List ℕ → Bool
+has_size n sizes = list_any (λ size. nat_eq n size) sizes
+
+or_true : (t : Bool) → (t || true) ≡ true
+or_true true = refl
+or_true false = refl
+
+-- a word more, where the length is found among the others, and where it is its own
+more_by : (t : Bool) (n : ℕ) (other : List ℕ) (words : List (List ℕ)) → has_size n (map length words) ≡ true → has_size n (map length (cond t (other ∷ words) words)) ≡ true
+more_by true n other words e = ap (λ found. nat_eq n (length other) || found) e ∙ or_true (nat_eq n (length other))
+more_by false n other words e = e
+
+own_by : (t : Bool) (word : List ℕ) (words : List (List ℕ)) → t ≡ true → has_size (length word) (map length (cond t (word ∷ words) words)) ≡ true
+own_by true word words e = ap (λ same. same || has_size (length word) (map length words)) (eq-eqb (length word) (length word) refl)
+own_by false word words e = absurd (cc)
+
+among_looks : (word : List ℕ) (words : List (List ℕ)) → list_any (pointwise nat_eq word) words ≡ true
+    → has_size (length word) (sizes_among (slice_index word 0) words) ≡ true
+among_looks word [] e = absurd (cc)
+among_looks word (other ∷ words) e = by (pointwise nat_eq word other) refl e (among_looks word words)
+  where
+    by : (same : Bool) → pointwise nat_eq word other ≡ same → (same || list_any (pointwise nat_eq word) words) ≡ true
+        → (list_any (pointwise nat_eq word) words ≡ true → has_size (length word) (sizes_among (slice_index word 0) words) ≡ true)
+        → has_size (length word) (sizes_among (slice_index word 0) (other ∷ words)) ≡ true
+    by true s e rest =
+        subst (λ (other : List ℕ). has_size (length word) (sizes_among (slice_index word 0) (other ∷ words)) ≡ true)
+        ((bytes_eq-Decides word other).0 s)
+        (own_by (nat_eq (slice_index word 0) (slice_index word 0)) word (filter (λ other. nat_eq (slice_index word 0) (slice_index other 0)) words)
+        (eq-eqb (slice_index word 0) (slice_index word 0) refl))
+    by false s e rest =
+        more_by (nat_eq (slice_index word 0) (slice_index other 0)) (length word) other
+        (filter (λ other. nat_eq (slice_index word 0) (slice_index other 0)) words) (rest e)
+
+pub reserved_looks : (word : List ℕ) → is_reserved word ≡ true → has_size (length word) (reserved_sizes (slice_index word 0)) ≡ true
+unfolding reserved_sizes
+reserved_looks word e = among_looks word (map (λ w. w.now) RESERVED) e

@@ -4,6 +4,7 @@ pub mod Numbers
 pub mod Strings
 pub mod Tokens
 pub mod Spans
+pub mod Reserved
 pub mod Answers
 pub mod Views
 pub mod FaultTexts

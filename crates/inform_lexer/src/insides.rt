@@ -40,7 +40,7 @@ fn say(text: &mut Vec<u8>, byte: u8, count: usize) -> Result<(), AllocError>
 pub fn inside_text(alloc: Global, inside: &[u8]) -> Result<Vec<u8>, AllocError>
     ensures { IfOk result (λ text. text.items ≡ or_nothing (inside_said inside.now)) }
 {
-    let mut text = Vec::new(alloc);
+    let mut text = Vec::with_capacity(alloc, inside.len())?;
     let mut at = 0;
     let mut caret = false;
     while at < inside.len() {

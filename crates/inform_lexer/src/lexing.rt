@@ -13,6 +13,7 @@ use crate::pieces::{Found, piece_here};
 use std::alloc::Global;
 
 // Adds the token that a piece at this place is, if it is one.
+#[inline(always)]
 fn keep(tokens: &mut Vec<Token>, found: Found, at: usize) -> Result<(), LexFault>
     requires { at + 1 + found.more < 2 ^ 64 }
     ensures kept { IfOk result (λ _. tokens.new.items

@@ -14,6 +14,7 @@ mod pieces;
 mod runs;
 mod signs;
 mod strings;
+mod words;
 
 // The whole text, and what a token of it says.
 mod exact_laws;

@@ -9,8 +9,8 @@ use crate::insides::inside_text;
 use crate::kinds::{Kind, Token};
 use crate::numbers::number_in;
 use crate::signs::symbol_of;
+use crate::words::{keyword_of, looks_reserved};
 use adv_io::Memory;
-use inform_lexemes::Keyword;
 use inform_tree::{NAME_LIMIT, Name, Text, is_reserved};
 use std::alloc::Global;
 
@@ -42,12 +42,13 @@ fn word_glance(word: &[u8]) -> Glance
     let mut buffer = [0; NAME_LIMIT];
     write_lower(word, &mut buffer);
     let lower = &buffer[..word.len()];
-    if !is_reserved(lower) {
+    if !looks_reserved(lower) {
         return Glance::Name;
     }
-    match Keyword::spelled(lower) {
+    match keyword_of(lower) {
         Some(keyword) => Glance::Word(keyword),
-        None => Glance::Reserved,
+        None if is_reserved(lower) => Glance::Reserved,
+        None => Glance::Name,
     }
 }
 
@@ -97,16 +98,14 @@ pub fn glance(bytes: &[u8], token: Token) -> Glance
 }
 
 /// The name that a token of these bytes is, in lower case.
-#[tactic(auto, using(crate::proofs::Said::name_bytes))]
+
 pub fn name(alloc: Global, bytes: &[u8], token: Token) -> Result<Name, Memory>
     ensures { IfOk result (λ found. (name : List ℕ)
         → lexeme_at bytes.now token ≡ NameLexeme name → found ≡ name) }
 {
     let word = span(bytes, token);
-    let lower = word
-        .iter()
-        .map(|byte| byte.to_ascii_lowercase())
-        .collect(alloc)?;
+    let mut lower = Vec::from_slice(alloc, word)?;
+    write_lower(word, lower.as_mut_slice());
     Ok(Name::of(lower))
 }
 

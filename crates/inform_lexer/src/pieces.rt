@@ -23,6 +23,7 @@ pub struct Found {
 }
 
 // A token with so many bytes after its first one.
+#[inline(always)]
 fn token(kind: Kind, more: usize) -> Found
     ensures { result ≡ record { kind = Some kind; more = more } }
 {
@@ -33,6 +34,7 @@ fn token(kind: Kind, more: usize) -> Found
 }
 
 // Blanks or a comment.
+#[inline(always)]
 fn gap(more: usize) -> Found
     ensures { result ≡ record { kind = None; more = more } }
 {
@@ -40,6 +42,7 @@ fn gap(more: usize) -> Found
 }
 
 // The word that goes on with these bytes after its first one.
+#[inline(always)]
 fn word_here(at: usize, rest: &[u8]) -> Result<Found, LexFault>
     ensures value { token_view at result ≡ word_here at rest.now }
     ensures within { IfOk result (λ found. found.more ≤ length rest.now) }
@@ -53,6 +56,7 @@ fn word_here(at: usize, rest: &[u8]) -> Result<Found, LexFault>
 }
 
 // The token of a number, where it fits.
+#[inline(always)]
 fn number_token(at: usize, more: usize, number: Option<u32>) -> Result<Found, LexFault>
     ensures value { token_view at result ≡ number_token at more number }
     ensures within { IfOk result (λ found. found.more ≡ more) }
@@ -64,6 +68,7 @@ fn number_token(at: usize, more: usize, number: Option<u32>) -> Result<Found, Le
 }
 
 // The decimal number that these bytes begin with, where a digit stands first.
+#[inline(always)]
 fn decimal_here(at: usize, bytes: &[u8]) -> Result<Found, LexFault>
     ensures value { token_view at result ≡ decimal_here at bytes.now }
     ensures within { IfOk result (λ found. 1 + found.more ≤ length bytes.now) }
@@ -132,6 +137,7 @@ fn string_here(at: usize, rest: &[u8]) -> Result<Found, LexFault>
 
 // The symbol that these bytes begin with.
 #[tactic(auto, using(crate::proofs::LongestSymbol::symbol_within))]
+#[inline(always)]
 fn symbol_here(at: usize, bytes: &[u8]) -> Result<Found, LexFault>
     ensures value { token_view at result ≡ symbol_token at (symbol_first bytes.now) }
     ensures within { IfOk result (λ found. 1 + found.more ≤ length bytes.now) }
@@ -144,6 +150,7 @@ fn symbol_here(at: usize, bytes: &[u8]) -> Result<Found, LexFault>
 
 /// The first piece, where this place is that of its first byte, or the fault of a token that begins there.
 #[tactic(auto, unfolding(crate::specs::Tokens::token_step))]
+#[inline(always)]
 pub fn piece_here(at: usize, bytes: &[u8]) -> Result<Found, LexFault>
     requires { at + length bytes.now < 2 ^ 63 }
     ensures value { token_view at result ≡ token_step tt at bytes.now }

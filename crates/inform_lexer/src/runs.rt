@@ -24,6 +24,7 @@ pub enum Run {
 
 impl Run {
     // Whether it goes on with a byte.
+    #[inline(always)]
     fn has(self, byte: u8) -> bool
         ensures { result ≡ in_run self byte }
     {

@@ -24,6 +24,7 @@ pub struct StringPiece {
 
 impl StringPiece {
     // One byte that is said once.
+    #[inline(always)]
     fn single(byte: u8, caret: bool) -> StringPiece
         ensures { result ≡ record { byte = byte; count = 1; more = 0; caret = caret } }
     {
@@ -85,6 +86,7 @@ fn escape_here(at: usize, rest: &[u8]) -> Result<StringPiece, usize>
 
 /// The first piece, where this place is that of its first byte, or the place where it can't stand there.
 #[tactic(auto, unfolding(crate::specs::Strings::string_step))]
+#[inline(always)]
 pub fn string_piece(caret: bool, at: usize, inside: &[u8]) -> Result<StringPiece, usize>
     ensures value { string_view result ≡ string_step caret at inside.now }
     ensures within { IfOk result (λ piece. 1 + piece.more ≤ length inside.now) }

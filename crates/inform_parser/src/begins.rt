@@ -8,6 +8,7 @@ use inform_lexemes::{Keyword, Symbol};
 use inform_lexer::Glance;
 
 // Whether a statement begins with such a lexeme.
+#[inline(always)]
 fn begins_statement(seen: Glance) -> bool
     ensures { result ≡ statement_seen seen }
 {
@@ -20,6 +21,7 @@ fn begins_statement(seen: Glance) -> bool
 }
 
 // Whether a statement begins with this word.
+#[inline(always)]
 fn begins_with_word(keyword: Keyword) -> bool
     ensures { result ≡ statement_seen (Glance.Word keyword) }
 {
@@ -45,6 +47,7 @@ fn begins_with_word(keyword: Keyword) -> bool
 impl<'a> Cursor<'a> {
     /// Whether a statement begins with what stands next.
     #[tactic(auto, using(crate::proofs::BeginSteps::statements_seen))]
+    #[inline(always)]
     pub fn at_statement(&self) -> bool
         ensures { result ≡ heads begins_statement self.now.rest }
     {

@@ -21,7 +21,11 @@ use inform_lexemes::{Keyword, Symbol};
 use inform_tree::{Case, Change, Cond, Expr, Stmt};
 use std::alloc::Global;
 
+// How many statements a body is expected to have: most have one, and a statement is large.
+const BODY_ROOM: usize = 1;
+
 // The condition, if there is one.
+#[inline(always)]
 fn condition_if_any(guard: Option<Guard>) -> Option<Cond>
     ensures { option_map condition_of result ≡ option_map condition (guard_if_any guard) }
 {
@@ -46,7 +50,7 @@ impl<'a> Cursor<'a> {
         }
         if self.at(Symbol::LeftBrace) {
             self.expect(Symbol::LeftBrace)?;
-            let body = self.statements(alloc)?;
+            let body = self.statements(alloc, BODY_ROOM)?;
             self.expect(Symbol::RightBrace)?;
             return Ok(Stmt::Block(body));
         }
@@ -77,18 +81,19 @@ impl<'a> Cursor<'a> {
         self.simple_statement(alloc)
     }
 
-    /// Statements, as long as one begins with what stands next.
+    /// Statements, as long as one begins with what stands next. So many are expected, and room is taken for those.
     #[cycle(statements)]
     #[tactic(auto, using(crate::proofs::Steps::steps, crate::proofs::BodySteps::statement_loop))]
-    pub fn statements(&mut self, alloc: Global) -> Result<Vec<Stmt>, Stop>
+    pub fn statements(&mut self, alloc: Global, room: usize) -> Result<Vec<Stmt>, Stop>
         ensures gives { Gives statements_in (many r.Statement [] done) self.old result self.new }
         ensures ahead { length self.new.rest ≤ length self.old.rest }
     {
-        let mut statements = Vec::new(alloc);
+        let mut statements = Vec::with_capacity(alloc, room)?;
         while self.at_statement() {
             let statement = self.statement(alloc)?;
             statements.push(statement)?;
         }
+        statements.shrink_to_fit();
         Ok(statements)
     }
 
@@ -102,12 +107,12 @@ impl<'a> Cursor<'a> {
     {
         if self.at(Symbol::LeftBrace) {
             self.expect(Symbol::LeftBrace)?;
-            let body = self.statements(alloc)?;
+            let body = self.statements(alloc, BODY_ROOM)?;
             self.expect(Symbol::RightBrace)?;
             return Ok(body);
         }
         let statement = self.statement(alloc)?;
-        let mut body = Vec::new(alloc);
+        let mut body = Vec::with_capacity(alloc, 1)?;
         body.push(statement)?;
         Ok(body)
     }
@@ -115,6 +120,7 @@ impl<'a> Cursor<'a> {
     // What follows the body of an `if`.
     #[cycle(statements)]
     #[tactic(auto, using(crate::proofs::Steps::steps, crate::proofs::TreesMade::bodies), unfolding(inform_grammar::specs::StatementRules::else_after))]
+    #[inline(always)]
     fn else_after(&mut self, alloc: Global, test: Guard, body: Vec<Stmt>) -> Result<Stmt, Stop>
         ensures gives { Gives statement_of
             (else_after (guard_of test) (statements_in body)) self.old result self.new }
@@ -133,6 +139,7 @@ impl<'a> Cursor<'a> {
     // What follows `if`.
     #[cycle(statements)]
     #[tactic(auto, using(crate::proofs::Steps::steps, crate::proofs::BodySteps::if_after_as))]
+    #[inline(always)]
     fn if_after(&mut self, alloc: Global) -> Result<Stmt, Stop>
         ensures gives { Gives statement_of if_after self.old result self.new }
         ensures ahead { length self.new.rest ≤ length self.old.rest }
@@ -145,6 +152,7 @@ impl<'a> Cursor<'a> {
     // What follows `while`.
     #[cycle(statements)]
     #[tactic(auto, using(crate::proofs::Steps::steps, crate::proofs::TreesMade::bodies, crate::proofs::BodySteps::while_after_as))]
+    #[inline(always)]
     fn while_after(&mut self, alloc: Global) -> Result<Stmt, Stop>
         ensures gives { Gives statement_of while_after self.old result self.new }
         ensures ahead { length self.new.rest ≤ length self.old.rest }
@@ -158,6 +166,7 @@ impl<'a> Cursor<'a> {
     // What follows `do`.
     #[cycle(statements)]
     #[tactic(auto, using(crate::proofs::Steps::steps, crate::proofs::TreesMade::bodies, crate::proofs::BodySteps::do_after_as))]
+    #[inline(always)]
     fn do_after(&mut self, alloc: Global) -> Result<Stmt, Stop>
         ensures gives { Gives statement_of do_after self.old result self.new }
         ensures ahead { length self.new.rest ≤ length self.old.rest }
@@ -173,6 +182,7 @@ impl<'a> Cursor<'a> {
     // The body of a `for`, after its head.
     #[cycle(statements)]
     #[tactic(auto, using(crate::proofs::Steps::steps, crate::proofs::TreesMade::bodies), unfolding(inform_grammar::specs::StatementRules::for_body))]
+    #[inline(always)]
     fn for_body(
         &mut self,
         alloc: Global,
@@ -192,6 +202,7 @@ impl<'a> Cursor<'a> {
     // The head of a `for` after its second colon.
     #[cycle(statements)]
     #[tactic(auto, using(crate::proofs::Steps::steps, crate::proofs::BodySteps::for_last_as))]
+    #[inline(always)]
     fn for_last(
         &mut self,
         alloc: Global,
@@ -210,6 +221,7 @@ impl<'a> Cursor<'a> {
     // The head of a `for` after its first colon.
     #[cycle(statements)]
     #[tactic(auto, using(crate::proofs::Steps::steps, crate::proofs::BodySteps::for_test_as))]
+    #[inline(always)]
     fn for_test(&mut self, alloc: Global, first: Option<Change>) -> Result<Stmt, Stop>
         ensures gives { Gives statement_of
             (for_test (assignment_if_any first)) self.old result self.new }
@@ -222,6 +234,7 @@ impl<'a> Cursor<'a> {
     // What follows `for`.
     #[cycle(statements)]
     #[tactic(auto, using(crate::proofs::Steps::steps, crate::proofs::BodySteps::for_after_as))]
+    #[inline(always)]
     fn for_after(&mut self, alloc: Global) -> Result<Stmt, Stop>
         ensures gives { Gives statement_of for_after self.old result self.new }
         ensures ahead { length self.new.rest ≤ length self.old.rest }
@@ -235,6 +248,7 @@ impl<'a> Cursor<'a> {
     // What follows `switch`.
     #[cycle(statements)]
     #[tactic(auto, using(crate::proofs::Steps::steps), unfolding(inform_grammar::specs::StatementRules::switch))]
+    #[inline(always)]
     fn switch_after(&mut self, alloc: Global) -> Result<Stmt, Stop>
         ensures gives { Gives statement_of switch self.old result self.new }
         ensures ahead { length self.new.rest ≤ length self.old.rest }
@@ -249,6 +263,7 @@ impl<'a> Cursor<'a> {
     // What stands in the braces of a `switch`.
     #[cycle(statements)]
     #[tactic(auto, using(crate::proofs::Steps::steps, crate::proofs::BodySteps::cases_steps))]
+    #[inline(always)]
     fn cases_after(&mut self, alloc: Global, value: Expr) -> Result<Stmt, Stop>
         ensures gives { Gives statement_of
             (cases_after (expression_of value)) self.old result self.new }
@@ -267,6 +282,7 @@ impl<'a> Cursor<'a> {
     // What ends a `switch`.
     #[cycle(statements)]
     #[tactic(auto, using(crate::proofs::Steps::steps, crate::proofs::TreesMade::bodies), unfolding(crate::specs::Plans::default_read))]
+    #[inline(always)]
     fn default_after(&mut self, alloc: Global, value: Expr, cases: Vec<Case>) -> Result<Stmt, Stop>
         ensures gives { Gives statement_of
             (default_read (expression_of value) (cases_of cases.items)) self.old result self.new }
@@ -275,7 +291,7 @@ impl<'a> Cursor<'a> {
         if self.at_word(Keyword::Default) {
             self.expect_word(Keyword::Default)?;
             self.expect(Symbol::Colon)?;
-            let body = self.statements(alloc)?;
+            let body = self.statements(alloc, BODY_ROOM)?;
             self.expect(Symbol::RightBrace)?;
             return Ok(Stmt::Switch(value, cases, Some(body)));
         }

@@ -16,6 +16,7 @@ use std::alloc::Global;
 impl<'a> Cursor<'a> {
     // What follows a name that is changed.
     #[tactic(auto, using(crate::proofs::Steps::steps, crate::proofs::StatementSteps::changes))]
+    #[inline(always)]
     fn change_after(&mut self, alloc: Global, name: Name) -> Result<Change, Stop>
         ensures gives { Gives assignment_of (change_after name) self.old result self.new }
         ensures ahead { length self.new.rest ≤ length self.old.rest }
@@ -67,6 +68,7 @@ impl<'a> Cursor<'a> {
 
     /// A call or a change with its semicolon, after its name.
     #[tactic(auto, using(crate::proofs::Steps::steps, crate::proofs::TreesMade::statements), unfolding(inform_grammar::specs::StatementRules::statement_after))]
+    #[inline(always)]
     pub fn statement_after(&mut self, alloc: Global, name: Name) -> Result<Stmt, Stop>
         ensures gives { Gives statement_of (statement_after name) self.old result self.new }
         ensures ahead { length self.new.rest ≤ length self.old.rest }

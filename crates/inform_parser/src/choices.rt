@@ -61,7 +61,7 @@ impl<'a> Cursor<'a> {
             (many r.FurtherChoice (choice_of first ∷ []) done) self.old result self.new }
         ensures ahead { length self.new.rest ≤ length self.old.rest }
     {
-        let mut choices = Vec::new(alloc);
+        let mut choices = Vec::with_capacity(alloc, 1)?;
         choices.push(first)?;
         while self.at(Symbol::Comma) {
             let choice = self.further_choice(alloc)?;

@@ -55,6 +55,7 @@ impl<'a> Cursor<'a> {
 
     // What follows a value: a symbol that compares it with another one, and that, or nothing.
     #[tactic(auto, using(crate::proofs::Steps::steps, crate::proofs::TreesMade::conditions, crate::proofs::ConditionSteps::relations))]
+    #[inline(always)]
     fn relation_after(&mut self, alloc: Global, first: Expr) -> Result<Guard, Stop>
         ensures gives { Gives guard_of
             (relation_after (expression_of first)) self.old result self.new }
@@ -149,7 +150,7 @@ impl<'a> Cursor<'a> {
             (condition_of first ∷ condition_of second ∷ [])) self.old result self.new }
         ensures ahead { length self.new.rest ≤ length self.old.rest }
     {
-        let mut members = Vec::new(alloc);
+        let mut members = Vec::with_capacity(alloc, 2)?;
         members.push(first)?;
         members.push(second)?;
         while self.at_connective(join) {

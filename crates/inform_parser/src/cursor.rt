@@ -52,6 +52,7 @@ fn first_glance(bytes: &[u8], tokens: &[Token]) -> Option<Glance>
 }
 
 // Whether such a lexeme opens something.
+#[inline(always)]
 fn is_opener(seen: Glance) -> bool
     ensures { result ≡ opens seen }
 {
@@ -66,6 +67,7 @@ fn is_opener(seen: Glance) -> bool
 }
 
 // Whether such a lexeme closes something.
+#[inline(always)]
 fn is_closer(seen: Glance) -> bool
     ensures { result ≡ closes seen }
 {
@@ -76,6 +78,7 @@ fn is_closer(seen: Glance) -> bool
 }
 
 // How many are open after such a lexeme, where so many were open before it and there is room for it.
+#[inline(always)]
 fn opened_after(seen: Glance, opened: usize) -> Option<usize>
     ensures { result ≡ opened_within seen opened }
 {
@@ -127,6 +130,7 @@ impl<'a> Cursor<'a> {
     }
 
     /// What is seen of the next token.
+    #[inline(always)]
     pub fn seen(&self) -> Option<Glance>
         ensures { result ≡ first_glance self.now.rest }
     {
@@ -135,6 +139,7 @@ impl<'a> Cursor<'a> {
 
     /// Whether this symbol stands next.
     #[tactic(auto, using(crate::proofs::Glances::symbols))]
+    #[inline(always)]
     pub fn at(&self, symbol: Symbol) -> bool
         ensures { result ≡ heads (is_sign symbol) self.now.rest }
     {
@@ -146,6 +151,7 @@ impl<'a> Cursor<'a> {
 
     /// Whether this word of the grammar stands next.
     #[tactic(auto, using(crate::proofs::Glances::keywords))]
+    #[inline(always)]
     pub fn at_word(&self, keyword: Keyword) -> bool
         ensures { result ≡ heads (is_word keyword) self.now.rest }
     {
@@ -157,6 +163,7 @@ impl<'a> Cursor<'a> {
 
     /// Whether a number stands next.
     #[tactic(auto, using(crate::proofs::SeenKinds::numbers))]
+    #[inline(always)]
     pub fn at_number(&self) -> bool
         ensures { result ≡ heads is_number self.now.rest }
     {
@@ -168,6 +175,7 @@ impl<'a> Cursor<'a> {
 
     /// Whether a character stands next.
     #[tactic(auto, using(crate::proofs::SeenKinds::characters))]
+    #[inline(always)]
     pub fn at_character(&self) -> bool
         ensures { result ≡ heads is_character self.now.rest }
     {
@@ -179,6 +187,7 @@ impl<'a> Cursor<'a> {
 
     /// Whether a name stands next.
     #[tactic(auto, using(crate::proofs::SeenKinds::names))]
+    #[inline(always)]
     pub fn at_name(&self) -> bool
         ensures { result ≡ heads is_name self.now.rest }
     {
@@ -190,6 +199,7 @@ impl<'a> Cursor<'a> {
 
     /// Whether a string stands next.
     #[tactic(auto, using(crate::proofs::SeenKinds::texts))]
+    #[inline(always)]
     pub fn at_text(&self) -> bool
         ensures { result ≡ heads is_quoted self.now.rest }
     {
@@ -201,6 +211,7 @@ impl<'a> Cursor<'a> {
 
     /// Whether `->` or `-->` stands next.
     #[tactic(auto, using(crate::proofs::SeenKinds::at_arrow))]
+    #[inline(always)]
     pub fn at_arrow(&self) -> bool
         ensures { result ≡ heads is_arrow self.now.rest }
     {
@@ -209,6 +220,7 @@ impl<'a> Cursor<'a> {
 
     /// Whether the sign of a further factor stands next.
     #[tactic(auto, using(crate::proofs::SeenKinds::at_factor))]
+    #[inline(always)]
     pub fn at_factor(&self) -> bool
         ensures { result ≡ heads is_factor_sign self.now.rest }
     {
@@ -217,6 +229,7 @@ impl<'a> Cursor<'a> {
 
     /// Whether the sign of a further term stands next.
     #[tactic(auto, using(crate::proofs::SeenKinds::at_term))]
+    #[inline(always)]
     pub fn at_term(&self) -> bool
         ensures { result ≡ heads is_term_sign self.now.rest }
     {
@@ -232,6 +245,7 @@ impl<'a> Cursor<'a> {
     }
 
     /// Takes whatever stands next.
+    #[inline(always)]
     pub fn advance(&mut self) -> Result<(), Stop>
         ensures gives { Gives (λ _. tt) any_next self.old result self.new }
         ensures ahead { length self.new.rest ≤ length self.old.rest }
@@ -251,6 +265,7 @@ impl<'a> Cursor<'a> {
 
     /// Takes this symbol, which must stand next.
     #[tactic(auto, using(crate::proofs::Taking::sign_taken, crate::proofs::Taking::sign_stops, crate::proofs::Taking::fails))]
+    #[inline(always)]
     pub fn expect(&mut self, symbol: Symbol) -> Result<(), Stop>
         ensures gives { Gives (λ _. Sign symbol) (next_of (is_sign symbol)) self.old result self.new }
         ensures ahead { length self.new.rest ≤ length self.old.rest }
@@ -265,6 +280,7 @@ impl<'a> Cursor<'a> {
 
     /// Takes this word of the grammar, which must stand next.
     #[tactic(auto, using(crate::proofs::Taking::fails))]
+    #[inline(always)]
     pub fn expect_word(&mut self, keyword: Keyword) -> Result<(), Stop>
         ensures gives { Gives (λ _. Word keyword) (next_of (is_word keyword)) self.old result self.new }
         ensures ahead { length self.new.rest ≤ length self.old.rest }
@@ -279,6 +295,7 @@ impl<'a> Cursor<'a> {
 
     // The number that stands next.
     #[tactic(auto, using(crate::proofs::SeenKinds::numbers))]
+    #[inline(always)]
     fn next_number(&self) -> Option<u32>
         ensures { MatchOption result (heads is_number self.now.rest ≡ false)
             (λ x. StandsNext (Number x) self.now) }
@@ -291,6 +308,7 @@ impl<'a> Cursor<'a> {
 
     /// Takes a number, which must stand next.
     #[tactic(auto, using(crate::proofs::Taking::fails))]
+    #[inline(always)]
     pub fn number(&mut self) -> Result<u32, Stop>
         ensures gives { Gives Number (next_of is_number) self.old result self.new }
         ensures ahead { length self.new.rest ≤ length self.old.rest }
@@ -331,6 +349,7 @@ impl<'a> Cursor<'a> {
 
     // The name that stands next.
     #[tactic(auto, using(crate::proofs::SeenKinds::names))]
+    #[inline(always)]
     fn next_name(&self, alloc: Global) -> Result<Option<Name>, Memory>
         ensures { IfOk result (λ found. MatchOption found (heads is_name self.now.rest ≡ false)
             (λ x. StandsNext (NameLexeme x) self.now)) }
@@ -429,6 +448,7 @@ impl<'a> Cursor<'a> {
 
     /// Takes the sign of a further factor, which must stand next.
     #[tactic(auto, using(crate::proofs::Steps::steps), unfolding(crate::specs::Nexts::factor_next))]
+    #[inline(always)]
     pub fn factor_sign(&mut self) -> Result<ProdOp, Stop>
         ensures gives { Gives (λ op. op) factor_next self.old result self.new }
         ensures ahead { length self.new.rest ≤ length self.old.rest }
@@ -448,6 +468,7 @@ impl<'a> Cursor<'a> {
 
     /// Takes the sign of a further term, which must stand next.
     #[tactic(auto, using(crate::proofs::Steps::steps), unfolding(crate::specs::Nexts::term_next))]
+    #[inline(always)]
     pub fn term_sign(&mut self) -> Result<SumOp, Stop>
         ensures gives { Gives (λ op. op) term_next self.old result self.new }
         ensures ahead { length self.new.rest ≤ length self.old.rest }
@@ -462,6 +483,7 @@ impl<'a> Cursor<'a> {
     }
 
     /// A statement that was open has ended.
+    #[inline(always)]
     pub fn shut(&mut self)
         ensures shut { self.new ≡ shut_spot self.old }
         ensures same { self.new.rest ≡ self.old.rest }

@@ -13,6 +13,9 @@ use inform_lexemes::{Keyword, Symbol};
 use inform_tree::{Const, Directive, Name, Program, Routine};
 use std::alloc::Global;
 
+// How many statements a routine is expected to have.
+const ROUTINE_ROOM: usize = 4;
+
 impl<'a> Cursor<'a> {
     // The further entries of an array, of which one is read.
     #[tactic(auto, using(crate::proofs::Steps::steps, crate::proofs::DirectiveSteps::entry_loop))]
@@ -111,7 +114,7 @@ impl<'a> Cursor<'a> {
         let name = self.name(alloc)?;
         let locals = self.locals(alloc)?;
         self.expect(Symbol::Semicolon)?;
-        let body = self.statements(alloc)?;
+        let body = self.statements(alloc, ROUTINE_ROOM)?;
         self.expect(Symbol::RightSquare)?;
         self.expect(Symbol::Semicolon)?;
         Ok(Directive::Routine(Routine { name, locals, body }))

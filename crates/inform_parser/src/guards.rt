@@ -22,6 +22,7 @@ impl Guard {
 
     /// The condition that it is: an expression by itself asks whether it isn't 0.
     #[tactic(auto, using(crate::proofs::TreesMade::conditions))]
+    #[inline(always)]
     pub fn into_condition(self) -> Cond
         ensures { condition_of result ≡ condition (guard_of self) }
     {
@@ -48,6 +49,7 @@ impl Join {
 
     /// The chain of conditions that are joined so.
     #[tactic(auto, using(crate::proofs::TreesMade::conditions))]
+    #[inline(always)]
     pub fn chain(self, members: Vec<Cond>) -> Cond
         ensures { condition_of result ≡ joined (join_of self) (conditions_in members) }
     {

@@ -17,6 +17,7 @@ use std::alloc::Global;
 impl<'a> Cursor<'a> {
     /// A condition between brackets.
     #[tactic(auto, using(crate::proofs::Steps::steps), unfolding(crate::specs::Plans::guard_in_brackets))]
+    #[inline(always)]
     pub fn guard_in_brackets(&mut self, alloc: Global) -> Result<Guard, Stop>
         ensures gives { Gives guard_of guard_in_brackets self.old result self.new }
         ensures ahead { length self.new.rest ≤ length self.old.rest }

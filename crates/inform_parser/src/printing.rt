@@ -70,7 +70,7 @@ impl<'a> Cursor<'a> {
             (many r.FurtherItem (print_item_of first ∷ []) done) self.old result self.new }
         ensures ahead { length self.new.rest ≤ length self.old.rest }
     {
-        let mut items = Vec::new(alloc);
+        let mut items = Vec::with_capacity(alloc, 1)?;
         items.push(first)?;
         while self.at(Symbol::Comma) {
             let item = self.further_item(alloc)?;
@@ -81,6 +81,7 @@ impl<'a> Cursor<'a> {
 
     /// What follows `print`.
     #[tactic(auto, using(crate::proofs::Steps::steps, crate::proofs::TreesMade::statements), unfolding(inform_grammar::specs::StatementRules::print_after))]
+    #[inline(always)]
     pub fn print_after(&mut self, alloc: Global) -> Result<Stmt, Stop>
         ensures gives { Gives statement_of print_after self.old result self.new }
         ensures ahead { length self.new.rest ≤ length self.old.rest }

@@ -17,6 +17,7 @@ use std::alloc::Global;
 impl<'a> Cursor<'a> {
     // A statement that is nothing but a word, and its semicolon.
     #[tactic(auto, using(crate::proofs::Steps::steps))]
+    #[inline(always)]
     fn alone(&mut self, statement: Stmt) -> Result<Stmt, Stop>
         ensures gives { Gives statement_of
             (take (is_sign Semicolon) (done (statement_of statement))) self.old result self.new }
@@ -29,6 +30,7 @@ impl<'a> Cursor<'a> {
 
     // What follows `return`.
     #[tactic(auto, using(crate::proofs::Steps::steps, crate::proofs::TreesMade::statements, crate::proofs::StatementSteps::return_after_as))]
+    #[inline(always)]
     fn return_after(&mut self, alloc: Global) -> Result<Stmt, Stop>
         ensures gives { Gives statement_of return_after self.old result self.new }
         ensures ahead { length self.new.rest ≤ length self.old.rest }
@@ -45,6 +47,7 @@ impl<'a> Cursor<'a> {
 
     // What follows `read`.
     #[tactic(auto, using(crate::proofs::Steps::steps, crate::proofs::TreesMade::statements), unfolding(inform_grammar::specs::StatementRules::read_after))]
+    #[inline(always)]
     fn read_after(&mut self, alloc: Global) -> Result<Stmt, Stop>
         ensures gives { Gives statement_of read_after self.old result self.new }
         ensures ahead { length self.new.rest ≤ length self.old.rest }
@@ -58,6 +61,7 @@ impl<'a> Cursor<'a> {
 
     // A statement that is nothing but a word.
     #[tactic(auto, using(crate::proofs::Steps::steps, crate::proofs::TreesMade::statements), unfolding(crate::specs::Plans::plain_statement))]
+    #[inline(always)]
     fn plain_statement(&mut self) -> Result<Stmt, Stop>
         ensures gives { Gives statement_of plain_statement self.old result self.new }
         ensures ahead { length self.new.rest ≤ length self.old.rest }
@@ -89,6 +93,7 @@ impl<'a> Cursor<'a> {
 
     /// A statement that has no body and begins with a word.
     #[tactic(auto, using(crate::proofs::Steps::steps, crate::proofs::StatementSteps::simple_as))]
+    #[inline(always)]
     pub fn simple_statement(&mut self, alloc: Global) -> Result<Stmt, Stop>
         ensures gives { Gives statement_of simple_statement self.old result self.new }
         ensures ahead { length self.new.rest ≤ length self.old.rest }

@@ -18,6 +18,7 @@ use std::alloc::Global;
 
 // A chain of a first factor and further ones; a factor by itself is none.
 #[tactic(auto, using(crate::proofs::TreesMade::products))]
+#[inline(always)]
 fn product_of(alloc: Global, first: Expr, factors: Vec<(ProdOp, Expr)>) -> Result<Expr, Stop>
     ensures made { IfOk result (λ x. expression_of x
         ≡ product_of (expression_of first) (factors_of factors)) }
@@ -31,6 +32,7 @@ fn product_of(alloc: Global, first: Expr, factors: Vec<(ProdOp, Expr)>) -> Resul
 
 // A chain of a first term and further ones; a term by itself is none.
 #[tactic(auto, using(crate::proofs::TreesMade::sums))]
+#[inline(always)]
 fn sum_of(alloc: Global, first: Expr, terms: Vec<(SumOp, Expr)>) -> Result<Expr, Stop>
     ensures made { IfOk result (λ x. expression_of x
         ≡ sum_of (expression_of first) (terms_of terms)) }
@@ -111,7 +113,7 @@ impl<'a> Cursor<'a> {
         ensures gives { Gives expressions_of (many r.Argument (expression_of first ∷ []) done) self.old result self.new }
         ensures ahead { length self.new.rest ≤ length self.old.rest }
     {
-        let mut arguments = Vec::new(alloc);
+        let mut arguments = Vec::with_capacity(alloc, 1)?;
         arguments.push(first)?;
         while self.at(Symbol::Comma) {
             let argument = self.argument(alloc)?;
@@ -135,6 +137,7 @@ impl<'a> Cursor<'a> {
     // What follows a name that is no array.
     #[cycle(values)]
     #[tactic(auto, using(crate::proofs::Steps::steps, crate::proofs::TreesMade::expressions), unfolding(inform_grammar::specs::ValueRules::name_after))]
+    #[inline(always)]
     fn name_after(&mut self, alloc: Global, name: Name) -> Result<Expr, Stop>
         ensures gives { Gives expression_of (name_after name) self.old result self.new }
         ensures ahead { length self.new.rest ≤ length self.old.rest }
@@ -150,6 +153,7 @@ impl<'a> Cursor<'a> {
     // What follows a name where an entry of an array may stand.
     #[cycle(values)]
     #[tactic(auto, using(crate::proofs::Steps::steps, crate::proofs::TreesMade::expressions, crate::proofs::ValueSteps::entries_after))]
+    #[inline(always)]
     fn entry_after(&mut self, alloc: Global, name: Name) -> Result<Expr, Stop>
         ensures gives { Gives expression_of (entry_after name) self.old result self.new }
         ensures ahead { length self.new.rest ≤ length self.old.rest }
@@ -207,6 +211,7 @@ impl<'a> Cursor<'a> {
     // An operand.
     #[cycle(values)]
     #[tactic(auto, using(crate::proofs::Steps::steps, crate::proofs::TreesMade::expressions, crate::proofs::ValueSteps::unary_as))]
+    #[inline(always)]
     fn unary(&mut self, alloc: Global) -> Result<Expr, Stop>
         ensures gives { Gives expression_of (one r.Unary done) self.old result self.new }
         ensures ahead { length self.new.rest ≤ length self.old.rest }
@@ -254,6 +259,7 @@ impl<'a> Cursor<'a> {
     /// A product with its first factor read.
     #[cycle(values)]
     #[tactic(auto, using(crate::proofs::Steps::steps, crate::proofs::TreesMade::expressions), unfolding(inform_grammar::specs::ValueRules::factors_after))]
+    #[inline(always)]
     pub fn factors_after(&mut self, alloc: Global, first: Expr) -> Result<Expr, Stop>
         ensures gives { Gives expression_of (factors_after (expression_of first)) self.old result self.new }
         ensures ahead { length self.new.rest ≤ length self.old.rest }
@@ -265,6 +271,7 @@ impl<'a> Cursor<'a> {
     // A product.
     #[cycle(values)]
     #[tactic(auto, using(crate::proofs::Steps::steps, crate::proofs::TreesMade::expressions, crate::proofs::ValueSteps::product_as))]
+    #[inline(always)]
     fn product(&mut self, alloc: Global) -> Result<Expr, Stop>
         ensures gives { Gives expression_of (one r.Product done) self.old result self.new }
         ensures ahead { length self.new.rest ≤ length self.old.rest }
@@ -304,6 +311,7 @@ impl<'a> Cursor<'a> {
     /// A sum with its first term read.
     #[cycle(values)]
     #[tactic(auto, using(crate::proofs::Steps::steps, crate::proofs::TreesMade::expressions), unfolding(inform_grammar::specs::ValueRules::terms_after))]
+    #[inline(always)]
     pub fn terms_after(&mut self, alloc: Global, first: Expr) -> Result<Expr, Stop>
         ensures gives { Gives expression_of (terms_after (expression_of first)) self.old result self.new }
         ensures ahead { length self.new.rest ≤ length self.old.rest }

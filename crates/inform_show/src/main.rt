@@ -14,6 +14,7 @@ use inform_printer::print;
 use inform_tree::{Program, Width};
 use itoa::Buffer;
 use std::alloc::Global;
+use std::mem::forget;
 use std::process::ExitCode;
 use std::rt::Env;
 use std::{env, io};
@@ -93,7 +94,9 @@ fn show_accepted<C: Console>(
         Err((_, fault)) => Err(Fault::Names(fault)),
         Ok(accepted) => {
             if !printing {
-                return say_count(console, accepted.program().directives.len(), b"directives");
+                let count = accepted.program().directives.len();
+                forget(accepted);
+                return say_count(console, count, b"directives");
             }
             if !accepted.program().well_formed() {
                 return Err(Fault::Memory);
@@ -114,11 +117,12 @@ fn show<C: Console>(
 ) -> Result<(), Fault> {
     match depth {
         Depth::Tokens => say_count(console, read_tokens(alloc, bytes)?.len(), b"tokens"),
-        Depth::Tree => say_count(
-            console,
-            read_tree(alloc, bytes)?.directives.len(),
-            b"directives",
-        ),
+        Depth::Tree => {
+            let program = read_tree(alloc, bytes)?;
+            let count = program.directives.len();
+            forget(program);
+            say_count(console, count, b"directives")
+        }
         Depth::Names => {
             show_accepted(alloc, read_tree(alloc, bytes)?, Width::W16, console, false)
         }

@@ -8,7 +8,7 @@ use Rattle.inform_lexer.proofs.insides.inside_text.Goals as goal
 pub loop-at-init : goal.loop-at-init
 loop-at-init c =
     let whole = c.args.inside.now in
-    let first = ap (λ (xs : List ℕ). added xs (read false 0 whole)) c.new-text.ensures.items in
+    let first = ap (λ (xs : List ℕ). added xs (read false 0 whole)) c.in_ok-text.ensures.items in
     record { inside = omega arith; same = first ∙ added_none _ ∙ sym (begun whole) }
 
 pub loop-at-preserved : goal.loop-at-preserved
