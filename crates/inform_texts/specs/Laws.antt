@@ -1,5 +1,5 @@
 -- The laws of texts.
-use Rattle.std.specs.Prelude.{ℕ, ◌≡◌, ◌⊎◌, List}
+use Rattle.std.specs.Prelude.{ℕ, ◌≡◌, ◌↔◌, ◌⊎◌, List, Ok, Err}
 use Rattle.inform_tree.specs.Programs.{DirectiveTree}
 use Rattle.inform_lexer.specs.Spans.{lexemes}
 use Rattle.inform_grammar.specs.Faults.{FaultKind, fault}
@@ -7,6 +7,7 @@ use Rattle.inform_grammar.specs.Reading.{within_limit}
 use Rattle.inform_grammar.specs.Laws.{FirstFault}
 use Rattle.inform_texts.specs.Texts.{ProgramText}
 use Rattle.inform_texts.specs.Faults.{TextFault, FaultyText, Refused}
+use Rattle.inform_texts.specs.Reading.{program_in}
 
 -- a text has one program at most
 abbrev pub OneProgramAText : Type 0
@@ -34,3 +35,13 @@ OneFaultAText = (bytes : List ℕ) (f g : TextFault) → FaultyText bytes f → 
 abbrev pub FaultIsFirst : Type 0
 FaultIsFirst = (bytes : List ℕ) (kind : FaultKind) (place : ℕ) → (r : Refused bytes kind place)
     → FirstFault within_limit (lexemes bytes r.tokens) (fault kind r.rest)
+
+-- ---- reading
+
+-- a text is read as a program exactly where it is a text of it
+abbrev pub ProgramIn : Type 0
+ProgramIn = (bytes : List ℕ) (p : List DirectiveTree) → (program_in bytes ≡ Ok p) ↔ ProgramText bytes p
+
+-- and a fault is found exactly where it is the first one
+abbrev pub FaultIn : Type 0
+FaultIn = (bytes : List ℕ) (f : TextFault) → (program_in bytes ≡ Err f) ↔ FaultyText bytes f

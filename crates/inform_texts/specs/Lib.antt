@@ -1,4 +1,5 @@
 pub mod Texts
 pub mod Faults
+pub mod Reading
 pub mod Laws
 pub mod Worked

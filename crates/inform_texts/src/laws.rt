@@ -1,5 +1,5 @@
 //! The laws of texts. Each is the contract of a function that does nothing else.
-ghost use Rattle.inform_texts.specs.Laws.{OneProgramAText, ProgramOrFault, NeverBoth, OneFaultAText, FaultIsFirst};
+ghost use Rattle.inform_texts.specs.Laws.{OneProgramAText, ProgramOrFault, NeverBoth, OneFaultAText, FaultIsFirst, ProgramIn, FaultIn};
 
 use inform_grammar::laws as grammar;
 use inform_lexer::laws as tokens;
@@ -44,4 +44,22 @@ pub fn fault_is_first()
     ensures { FaultIsFirst }
 {
     grammar::fault_is_first();
+}
+
+/// A text is read as a program exactly where it is a text of it.
+pub fn program_in()
+    ensures { ProgramIn }
+{
+    grammar::read_is_sentence();
+    one_program_a_text();
+    never_both();
+}
+
+/// A fault is found exactly where it is the first one of the text.
+pub fn fault_in()
+    ensures { FaultIn }
+{
+    grammar::read_is_sentence();
+    one_fault_a_text();
+    never_both();
 }
