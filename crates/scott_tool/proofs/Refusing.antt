@@ -101,7 +101,7 @@ module _ (shelf shelf' : ShelfView) (console console' : ConsoleView) (status : �
         checked = λ zero game e. absurd cc;
         compiled = λ zero source game e. absurd cc;
         decompiled = λ zero game source e. absurd cc;
-        played = λ zero game source e. absurd cc;
+        played = λ zero game source style e. absurd cc;
         counts = record {
           shelf_later = omega arith;
           console_later = r.later;
@@ -156,7 +156,7 @@ module _ (shelf shelf' : ShelfView) (console console' : ConsoleView) (status : �
       checked = λ zero game e. absurd (refused_not_0 console console' status refusal r.ended zero);
       compiled = λ zero source game e. absurd (refused_not_0 console console' status refusal r.ended zero);
       decompiled = λ zero game source e. absurd (refused_not_0 console console' status refusal r.ended zero);
-      played = λ zero game source e. absurd (refused_not_0 console console' status refusal r.ended zero);
+      played = λ zero game source style e. absurd (refused_not_0 console console' status refusal r.ended zero);
       counts = record {
         shelf_later = later;
         console_later = r.later;
@@ -215,7 +215,7 @@ module _ (shelf shelf' : ShelfView) (console console' : ConsoleView) (status : �
           checked = λ zero game e. absurd (omega arith);
           compiled = λ zero source game e. absurd (omega arith);
           decompiled = λ zero game source e. absurd (omega arith);
-          played = λ zero game source e. absurd (omega arith);
+          played = λ zero game source style e. absurd (omega arith);
           counts = record { shelf_later = omega arith; console_later = r.later; steady = λ h. (steady, r.steady nine) };
         }
 
