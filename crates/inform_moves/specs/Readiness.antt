@@ -29,7 +29,7 @@ abbrev pub effected_world : Effect → World → World
 effected_world Keeps w = w
 effected_world (Becomes after) w = after
 effected_world (Says bytes) w = w
-effected_world (Enters after note) w = after
+effected_world (Enters after number) w = after
 
 -- the frames of a move are ready in the world after it; where it takes no step, none is due for a
 -- line
