@@ -11,6 +11,8 @@ mod parser;
 #[cfg(test)]
 mod printer;
 #[cfg(test)]
+mod runs;
+#[cfg(test)]
 mod tokens;
 #[cfg(test)]
 mod trees;
