@@ -263,7 +263,7 @@ fn turns_of_a_light_are_counted(rt: HostRuntime) -> Result<(), Fail> {
         };
         assert_eq!(rt; count_light(&db, style, &mut state, &mut console), Ok(()));
         expect_said(&rt, &console, said);
-        assert_eq!(rt; state.places.as_slice()[9], place);
+        assert_eq!(rt; state.places.as_slice().get(9).copied(), Some(place));
         assert!(rt; !state.redraw);
     }
     Ok(())
