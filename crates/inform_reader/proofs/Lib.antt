@@ -1,0 +1,3 @@
+pub mod ProgramsRead
+pub mod Formed
+pub mod Answers

@@ -1,0 +1,5 @@
+use Rattle.inform_reader.proofs.ProgramsRead.{program_law as law}
+use Rattle.inform_reader.proofs.laws.program_in.Goals as goal
+
+pub returns : goal.returns
+returns c = law c.program_in.ensures c.fault_in.ensures
