@@ -9,3 +9,4 @@ pub mod Runs
 pub mod Programs
 pub mod Laws
 pub mod Worked
+pub mod TrapTexts
