@@ -1,7 +1,10 @@
 -- Settings: what stands after a command's files, in any order, each at most once.
-use Rattle.std.specs.Prelude.{ℕ, Bool, true, false, List, [], ◌∷◌, Option, Some, None, option_map, bytes_eq, codes, if◌then◌else◌}
-use Rattle.std.specs.Option.{option_and_then}
+use Rattle.std.specs.Prelude.{ℕ, Bool, true, false, ◌&&◌, nat_le, List, [], ◌∷◌, Option, Some, None, option_map, bytes_eq, codes, if◌then◌else◌}
+use Rattle.std.specs.Option.{option_and_then, option_or}
+use Rattle.inform_tree.specs.declared.widths.Width.{Width}
+use Rattle.inform_tree.specs.declared.widths.Width.TheVariants.{W16, W32}
 use Rattle.scott_types.specs.declared.styles.Style.{Style}
+use Rattle.scott_requests.specs.declared.settings.TheConstants.{MOST_STEPS}
 use Rattle.scott_requests.specs.Parts.{file_name, after_prefix, number_of}
 
 -- where the draws of a play come from: the file of this name lists them, or this seed gives them
@@ -24,24 +27,48 @@ style_named letters =
     if bytes_eq letters (codes "cv") then some_style false true true else
     if bytes_eq letters (codes "ycv") then some_style true true true else None
 
+-- ---- what a run is given
+
+-- a number of steps: 1 at least, and no more than may be given
+abbrev pub steps_of : List ℕ → Option ℕ
+steps_of digits = option_and_then (λ n. if nat_le 1 n && nat_le n MOST_STEPS then Some n else None) (number_of digits)
+
+-- a width of words
+abbrev pub width_of : List ℕ → Option Width
+width_of text = if bytes_eq text (codes "16") then Some W16 else if bytes_eq text (codes "32") then Some W32 else None
+
 -- ---- one setting
 
 -- a setting, by the place that it takes
 pub data Setting : Type 0 where
   draws : DrawSource → Setting
   style : Style → Setting
+  most_steps : ℕ → Setting
+  word_width : Width → Setting
 
--- a setting by what follows `draws=`, what follows `seed=` and what follows `style=`
-abbrev pub setting_after : Option (List ℕ) → Option (List ℕ) → Option (List ℕ) → Option Setting
-setting_after (Some name) digits letters = option_map (λ n. draws (listed n)) (file_name name)
-setting_after None (Some digits) letters = option_map (λ n. draws (seeded n)) (number_of digits)
-setting_after None None (Some letters) = option_map style (style_named letters)
-setting_after None None None = None
+-- a setting of a play, by what follows `draws=`, what follows `seed=` and what follows `style=`
+abbrev pub play_setting : Option (List ℕ) → Option (List ℕ) → Option (List ℕ) → Option Setting
+play_setting (Some name) digits letters = option_map (λ n. draws (listed n)) (file_name name)
+play_setting None (Some digits) letters = option_map (λ n. draws (seeded n)) (number_of digits)
+play_setting None None (Some letters) = option_map style (style_named letters)
+play_setting None None None = None
+
+-- a setting of a run alone, by what follows `steps=` and what follows `words=`
+abbrev pub run_setting : Option (List ℕ) → Option (List ℕ) → Option Setting
+run_setting (Some digits) text = option_map most_steps (steps_of digits)
+run_setting None (Some text) = option_map word_width (width_of text)
+run_setting None None = None
+
+abbrev pub play_setting_in : List ℕ → Option Setting
+play_setting_in word =
+    play_setting (after_prefix (codes "draws=") word) (after_prefix (codes "seed=") word) (after_prefix (codes "style=") word)
+
+abbrev pub run_setting_in : List ℕ → Option Setting
+run_setting_in word = run_setting (after_prefix (codes "steps=") word) (after_prefix (codes "words=") word)
 
 -- the setting that a word is
 abbrev pub setting_in : List ℕ → Option Setting
-setting_in word =
-    setting_after (after_prefix (codes "draws=") word) (after_prefix (codes "seed=") word) (after_prefix (codes "style=") word)
+setting_in word = option_or (play_setting_in word) (run_setting_in word)
 
 -- ---- several settings
 
@@ -49,9 +76,11 @@ setting_in word =
 pub record Settings : Type 0 where
   pub source : Option DrawSource
   pub play_style : Option Style
+  pub steps : Option ℕ
+  pub width : Option Width
 
 abbrev pub no_settings : Settings
-no_settings = record { source = None; play_style = None }
+no_settings = record { source = None; play_style = None; steps = None; width = None }
 
 -- a free place is filled; one that is taken refuses
 abbrev pub filled : {X : Type 0} → Option X → X → Option (Option X)
@@ -62,6 +91,8 @@ filled (Some other) value = None
 abbrev pub with_setting : Settings → Setting → Option Settings
 with_setting settings (draws source) = option_map (λ place. record settings { source = place }) (filled settings.source source)
 with_setting settings (style value) = option_map (λ place. record settings { play_style = place }) (filled settings.play_style value)
+with_setting settings (most_steps n) = option_map (λ place. record settings { steps = place }) (filled settings.steps n)
+with_setting settings (word_width value) = option_map (λ place. record settings { width = place }) (filled settings.width value)
 
 -- the settings that words are, after some
 abbrev pub settings_from : Settings → List (List ℕ) → Option Settings

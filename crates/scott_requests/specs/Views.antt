@@ -3,12 +3,12 @@ use Rattle.std.specs.Prelude.{option_map}
 use Rattle.scott_requests.specs.declared.settings.DrawSource.{DrawSource as HeldSource}
 use Rattle.scott_requests.specs.declared.settings.DrawSource.TheVariants.{Listed, Seeded}
 use Rattle.scott_requests.specs.declared.settings.Setting.{Setting as HeldSetting}
-use Rattle.scott_requests.specs.declared.settings.Setting.TheVariants.{Draws, Style as StyleSetting}
+use Rattle.scott_requests.specs.declared.settings.Setting.TheVariants.{Draws, Style as StyleSetting, Steps, Words}
 use Rattle.scott_requests.specs.declared.settings.Settings.{Settings as HeldSettings}
 use Rattle.scott_requests.specs.declared.requests.Request.{Request as HeldRequest}
-use Rattle.scott_requests.specs.declared.requests.Request.TheVariants.{Check, Compile, Decompile, Play}
-use Rattle.scott_requests.specs.Settings.{DrawSource, listed, seeded, Setting, draws, style, Settings}
-use Rattle.scott_requests.specs.Request.{Request, check, compile, decompile, play}
+use Rattle.scott_requests.specs.declared.requests.Request.TheVariants.{Check, Compile, Decompile, Play, Run}
+use Rattle.scott_requests.specs.Settings.{DrawSource, listed, seeded, Setting, draws, style, most_steps, word_width, Settings}
+use Rattle.scott_requests.specs.Request.{Request, check, compile, decompile, play, run}
 
 abbrev pub source_of : HeldSource → DrawSource
 source_of (Listed name) = listed name.now
@@ -17,12 +17,15 @@ source_of (Seeded seed) = seeded seed
 abbrev pub setting_of : HeldSetting → Setting
 setting_of (Draws source) = draws (source_of source)
 setting_of (StyleSetting value) = style value
+setting_of (Steps n) = most_steps n
+setting_of (Words width) = word_width width
 
 abbrev pub settings_of : HeldSettings → Settings
-settings_of settings = record { source = option_map source_of settings.draws; play_style = settings.style }
+settings_of settings = record { source = option_map source_of settings.draws; play_style = settings.style; steps = settings.steps; width = settings.width }
 
 abbrev pub request_of : HeldRequest → Request
 request_of (Check game) = check game.now
 request_of (Compile source game) = compile source.now game.now
 request_of (Decompile game source) = decompile game.now source.now
 request_of (Play game source value) = play game.now (source_of source) value
+request_of (Run program source steps width) = run program.now (source_of source) steps width

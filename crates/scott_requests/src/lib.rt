@@ -9,4 +9,4 @@ mod settings;
 mod requests;
 
 pub use requests::{Request, request_in};
-pub use settings::{DrawSource, FIRST_SEED};
+pub use settings::{DrawSource, FIRST_SEED, MOST_STEPS, USUAL_STEPS};

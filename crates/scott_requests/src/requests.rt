@@ -1,10 +1,11 @@
 //! Requests: a command, the names of its files, and its settings.
 ghost use Rattle.std.specs.Prelude.{◌≡◌, map, string_bytes, option_map};
-ghost use Rattle.scott_requests.specs.Request.{check_form, two_names, compile_form, decompile_form, play_form, asked_by};
-ghost use Rattle.scott_requests.specs.Views.{request_of};
+ghost use Rattle.scott_requests.specs.Request.{check_form, two_names, compile_form, decompile_form, file_and_settings, source_in, play_form, run_form, asked_by};
+ghost use Rattle.scott_requests.specs.Views.{source_of, settings_of, request_of};
 
 use crate::parts::file_name;
-use crate::settings::{DrawSource, FIRST_SEED, settings_in};
+use crate::settings::{DrawSource, FIRST_SEED, Settings, USUAL_STEPS, settings_in};
+use inform_tree::Width;
 use scott_types::Style;
 
 /// What is asked for.
@@ -13,12 +14,15 @@ use scott_types::Style;
 /// - `Compile`: the source of the first name is to be stored as a database under the second one.
 /// - `Decompile`: the database of the first name is to be stored as a source under the second one.
 /// - `Play`: the database of this name is to be played with these draws, in this style.
+/// - `Run`: the Inform program of this name is to be run with these draws, for so many steps at most (1 to
+///   `MOST_STEPS`), with words of this width.
 #[derive(Clone, Copy, Debug, PartialEq, Eq)]
 pub enum Request<'a> {
     Check(&'a str),
     Compile(&'a str, &'a str),
     Decompile(&'a str, &'a str),
     Play(&'a str, DrawSource<'a>, Style),
+    Run(&'a str, DrawSource<'a>, u64, Width),
 }
 
 // `check` with the words after it.
@@ -58,16 +62,48 @@ fn decompile_form(words: &[String]) -> Option<Request<'_>>
     Some(Request::Decompile(game, source))
 }
 
+// The name of a file, and the settings after it.
+fn file_and_settings(words: &[String]) -> Option<(&str, Settings<'_>)>
+    ensures { option_map (λ p. (p.0.now, settings_of p.1)) result
+        ≡ file_and_settings (map string_bytes words.now) }
+{
+    let (file, rest) = words.split_first()?;
+    Some((file_name(file.as_str())?, settings_in(rest)?))
+}
+
+// Where the draws come from.
+fn source_in(settings: Settings<'_>) -> DrawSource<'_>
+    ensures { source_of result ≡ source_in (settings_of settings.entry) }
+{
+    settings.draws.unwrap_or(DrawSource::Seeded(FIRST_SEED))
+}
+
 // `play` with the words after it.
 fn play_form(words: &[String]) -> Option<Request<'_>>
     ensures { option_map request_of result ≡ play_form (map string_bytes words.now) }
 {
-    let (game, rest) = words.split_first()?;
-    let game = file_name(game.as_str())?;
-    let settings = settings_in(rest)?;
-    let draws = settings.draws.unwrap_or(DrawSource::Seeded(FIRST_SEED));
+    let (game, settings) = file_and_settings(words)?;
+    if settings.steps.is_some() || settings.width.is_some() {
+        return None;
+    }
     let style = settings.style.unwrap_or(Style::plain());
-    Some(Request::Play(game, draws, style))
+    Some(Request::Play(game, source_in(settings), style))
+}
+
+// `run` with the words after it.
+fn run_form(words: &[String]) -> Option<Request<'_>>
+    ensures { option_map request_of result ≡ run_form (map string_bytes words.now) }
+{
+    let (program, settings) = file_and_settings(words)?;
+    if settings.style.is_some() {
+        return None;
+    }
+    Some(Request::Run(
+        program,
+        source_in(settings),
+        settings.steps.unwrap_or(USUAL_STEPS),
+        settings.width.unwrap_or(Width::W16),
+    ))
 }
 
 /// What the words ask for, if they are a request. docs/GUIDE.md has the words of each.
@@ -86,6 +122,9 @@ pub fn request_in(words: &[String]) -> Option<Request<'_>>
     }
     if command.as_str() == "play" {
         return play_form(rest);
+    }
+    if command.as_str() == "run" {
+        return run_form(rest);
     }
     None
 }

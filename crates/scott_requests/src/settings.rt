@@ -2,16 +2,23 @@
 ghost use Rattle.std.specs.Prelude.{◌≡◌, Some, map, string_bytes, option_map};
 ghost use Rattle.std.specs.Option.{option_and_then};
 ghost use Rattle.scott_requests.specs.Parts.{file_name, number_of};
-ghost use Rattle.scott_requests.specs.Settings.{draws, listed, seeded, style, some_style, style_named, setting_in, no_settings, with_setting, settings_from};
+ghost use Rattle.scott_requests.specs.Settings.{draws, listed, seeded, style, some_style, style_named, most_steps, word_width, steps_of, width_of, play_setting_in, run_setting_in, setting_in, no_settings, with_setting, settings_from};
 ghost use Rattle.scott_requests.specs.Views.{source_of, setting_of, settings_of};
 
 use crate::parts::{file_name, number_of};
+use inform_tree::Width;
 use scott_types::Style;
 
 /// The seed of a play that is given neither draws nor a seed.
 pub const FIRST_SEED: u64 = 1;
 
-/// Where the draws of a play come from: a file lists them, or a seed gives them.
+/// How many steps a run may take that is given no number of them.
+pub const USUAL_STEPS: u64 = 1_000_000_000;
+
+/// The most steps that a run may be given.
+pub const MOST_STEPS: u64 = 1_000_000_000_000_000_000;
+
+/// Where the draws of a play or a run come from: a file lists them, or a seed gives them.
 #[derive(Clone, Copy, Debug, PartialEq, Eq)]
 pub enum DrawSource<'a> {
     Listed(&'a str),
@@ -23,6 +30,8 @@ pub enum DrawSource<'a> {
 pub enum Setting<'a> {
     Draws(DrawSource<'a>),
     Style(Style),
+    Steps(u64),
+    Words(Width),
 }
 
 /// A place for each kind of setting.
@@ -30,6 +39,8 @@ pub enum Setting<'a> {
 pub struct Settings<'a> {
     pub draws: Option<DrawSource<'a>>,
     pub style: Option<Style>,
+    pub steps: Option<u64>,
+    pub width: Option<Width>,
 }
 
 // The setting that names a file of draws.
@@ -102,9 +113,45 @@ fn styled(letters: &str) -> Option<Setting<'_>>
     }
 }
 
-// The setting that a word is.
-fn setting_in(word: &str) -> Option<Setting<'_>>
-    ensures { option_map setting_of result ≡ setting_in word.now }
+// The setting that gives the most steps.
+fn steps<'a>(digits: &str) -> Option<Setting<'a>>
+    ensures { option_map setting_of result ≡ option_map most_steps (steps_of digits.now) }
+{
+    match number_of(digits) {
+        Some(steps) if 1 <= steps && steps <= MOST_STEPS => Some(Setting::Steps(steps)),
+        _ => None,
+    }
+}
+
+// The setting that gives the width of words.
+fn width<'a>(text: &str) -> Option<Setting<'a>>
+    ensures { option_map setting_of result ≡ option_map word_width (width_of text.now) }
+{
+    if text == "16" {
+        return Some(Setting::Words(Width::W16));
+    }
+    if text == "32" {
+        return Some(Setting::Words(Width::W32));
+    }
+    None
+}
+
+// The setting of a run alone that a word is.
+fn run_setting_in(word: &str) -> Option<Setting<'_>>
+    ensures { option_map setting_of result ≡ run_setting_in word.now }
+{
+    if let Some(digits) = word.strip_prefix("steps=") {
+        return steps(digits);
+    }
+    if let Some(text) = word.strip_prefix("words=") {
+        return width(text);
+    }
+    None
+}
+
+// The setting of a play that a word is.
+fn play_setting_in(word: &str) -> Option<Setting<'_>>
+    ensures { option_map setting_of result ≡ play_setting_in word.now }
 {
     if let Some(name) = word.strip_prefix("draws=") {
         return listed(name);
@@ -118,27 +165,83 @@ fn setting_in(word: &str) -> Option<Setting<'_>>
     None
 }
 
+// The setting that a word is.
+fn setting_in(word: &str) -> Option<Setting<'_>>
+    ensures { option_map setting_of result ≡ setting_in word.now }
+{
+    match play_setting_in(word) {
+        Some(setting) => Some(setting),
+        None => run_setting_in(word),
+    }
+}
+
 impl<'a> Settings<'a> {
+    // Draws, where none are there.
+    fn with_draws(self, source: DrawSource<'a>) -> Option<Settings<'a>>
+        ensures { option_map settings_of result ≡ with_setting (settings_of self.entry)
+            (draws (source_of source.entry)) }
+    {
+        match self.draws {
+            None => Some(Settings {
+                draws: Some(source),
+                ..self
+            }),
+            Some(_) => None,
+        }
+    }
+
+    // A style, where none is there.
+    fn with_style(self, value: Style) -> Option<Settings<'a>>
+        ensures { option_map settings_of result ≡ with_setting (settings_of self.entry)
+            (style value) }
+    {
+        match self.style {
+            None => Some(Settings {
+                style: Some(value),
+                ..self
+            }),
+            Some(_) => None,
+        }
+    }
+
+    // The most steps, where they aren't there.
+    fn with_steps(self, most: u64) -> Option<Settings<'a>>
+        ensures { option_map settings_of result ≡ with_setting (settings_of self.entry)
+            (most_steps most) }
+    {
+        match self.steps {
+            None => Some(Settings {
+                steps: Some(most),
+                ..self
+            }),
+            Some(_) => None,
+        }
+    }
+
+    // A width of words, where none is there.
+    fn with_width(self, value: Width) -> Option<Settings<'a>>
+        ensures { option_map settings_of result ≡ with_setting (settings_of self.entry)
+            (word_width value) }
+    {
+        match self.width {
+            None => Some(Settings {
+                width: Some(value),
+                ..self
+            }),
+            Some(_) => None,
+        }
+    }
+
     // One setting more, where its place is free.
     fn with(self, setting: Setting<'a>) -> Option<Settings<'a>>
         ensures { option_map settings_of result ≡ with_setting (settings_of self.entry)
             (setting_of setting.entry) }
     {
         match setting {
-            Setting::Draws(source) => match self.draws {
-                None => Some(Settings {
-                    draws: Some(source),
-                    style: self.style,
-                }),
-                Some(_) => None,
-            },
-            Setting::Style(style) => match self.style {
-                None => Some(Settings {
-                    draws: self.draws,
-                    style: Some(style),
-                }),
-                Some(_) => None,
-            },
+            Setting::Draws(source) => self.with_draws(source),
+            Setting::Style(style) => self.with_style(style),
+            Setting::Steps(steps) => self.with_steps(steps),
+            Setting::Words(width) => self.with_width(width),
         }
     }
 }
@@ -151,6 +254,8 @@ pub fn settings_in(words: &[String]) -> Option<Settings<'_>>
     let mut settings = Settings {
         draws: None,
         style: None,
+        steps: None,
+        width: None,
     };
     for word in words {
         settings = settings.with(setting_in(word.as_str())?)?;

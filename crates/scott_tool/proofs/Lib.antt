@@ -8,3 +8,5 @@ pub mod Working
 pub mod Promises
 pub mod Hill
 pub mod Playing
+pub mod Programs
+pub mod Running

@@ -1,6 +1,7 @@
 -- That what is expected is done, or refused.
-use Rattle.std.proofs.Common.{◌≡◌, ◌≤◌, ℕ, List, [], ◌∷◌, Option, Some, None, IfSome, Result, Ok, Err, MatchResult, OnOk, OnErr, refl, sym, ap, subst, inl, inr, ◌⊎◌, arith}
-use Rattle.std.specs.Prelude.{Contains}
+use Rattle.std.proofs.Common.{◌≡◌, ◌∙◌, ◌≤◌, Bool, true, false, ℕ, List, [], ◌∷◌, Option, Some, None, IfSome, Result, Ok, Err, MatchResult, OnOk, OnErr, refl, sym, ap, subst, inl, inr, ◌⊎◌, arith}
+use Rattle.std.specs.Prelude.{Contains, nat_eq, ◌||◌}
+use mathlib.Core.Bool.{true≢false}
 use Rattle.adv_io.specs.declared.events.Event.{Event}
 use Rattle.adv_io.specs.Console.{ConsoleView}
 use Rattle.adv_io.specs.Faults.{Rose, HasCause}
@@ -8,12 +9,12 @@ use Rattle.adv_io.specs.History.{grown, GrewByPrefix}
 use Rattle.adv_io.specs.Shelf.{ShelfView, with_file, without}
 use Rattle.adv_io.proofs.Sayings.{grown-nil}
 use Rattle.scott_tool.specs.declared.refusals.ContentFault.{ContentFault}
-use Rattle.scott_tool.specs.declared.refusals.ContentFault.TheVariants.{NoDatabase, NoSource, NoMeaning, NoDraws}
+use Rattle.scott_tool.specs.declared.refusals.ContentFault.TheVariants.{NoDatabase, NoSource, NoMeaning, NoDraws, NoProgram}
 use Rattle.scott_tool.specs.Refusal.{Refusal, Unfit, no_request, unread, too_long, unfit, unwritten, refusing, content_status, status_of}
 use Rattle.scott_tool.specs.Outcome.{Outcome, done, keeping, refused, kept, Concludes, Loses, Ends, whole, unsaid, unstored}
-use Rattle.scott_tool.specs.Work.{Task, reporting, storing, playing, Does, task_statuses}
-use Rattle.scott_tool.specs.Obeying.{Stands, Answers, Leaves, Obeys, Refuses, FailsToStore, Declines}
-use Rattle.scott_tool.proofs.Statuses.{first, task_has_0}
+use Rattle.scott_tool.specs.Work.{Task, reporting, storing, playing, running, Does, task_statuses}
+use Rattle.scott_tool.specs.Obeying.{IsSteady, Stands, Answers, Leaves, Obeys, Refuses, FailsToStore, Declines}
+use Rattle.scott_tool.proofs.Statuses.{IsEnd, first, task_has_0}
 
 whatever : (P : List (List ℕ) → Type 0) → ((lines : List (List ℕ)) → P lines) → (o : Option (List (List ℕ))) → IfSome o P
 whatever P h None = tt
@@ -23,41 +24,44 @@ pub where_known : (P Q : List (List ℕ) → Type 0) → ((lines : List (List �
 where_known P Q f None h = tt
 where_known P Q f (Some lines) h = f lines h
 
--- no refusal has the status of something done, of want of memory or of a console that failed
-content_not : (fault : ContentFault) (n : ℕ) → (n ≡ 0) ⊎ (n ≡ 9) ⊎ (n ≡ 3) → content_status fault ≡ n → ⊥
-content_not (NoDatabase fault) n (inl e) f = omega arith
-content_not (NoDatabase fault) n (inr (inl e)) f = omega arith
-content_not (NoDatabase fault) n (inr (inr e)) f = omega arith
-content_not (NoSource fault) n (inl e) f = omega arith
-content_not (NoSource fault) n (inr (inl e)) f = omega arith
-content_not (NoSource fault) n (inr (inr e)) f = omega arith
-content_not (NoMeaning fault) n (inl e) f = omega arith
-content_not (NoMeaning fault) n (inr (inl e)) f = omega arith
-content_not (NoMeaning fault) n (inr (inr e)) f = omega arith
-content_not (NoDraws fault) n (inl e) f = omega arith
-content_not (NoDraws fault) n (inr (inl e)) f = omega arith
-content_not (NoDraws fault) n (inr (inr e)) f = omega arith
+-- the statuses of refusals
+abbrev is_refused : ℕ → Bool
+is_refused n = nat_eq n 1 || (nat_eq n 2 || (nat_eq n 4 || (nat_eq n 5 || (nat_eq n 6 || nat_eq n 11))))
 
-pub refusal_not : (refusal : Refusal) (n : ℕ) → (n ≡ 0) ⊎ (n ≡ 9) ⊎ (n ≡ 3) → status_of refusal ≡ n → ⊥
-refusal_not no_request n (inl e) f = omega arith
-refusal_not no_request n (inr (inl e)) f = omega arith
-refusal_not no_request n (inr (inr e)) f = omega arith
-refusal_not (unread name) n (inl e) f = omega arith
-refusal_not (unread name) n (inr (inl e)) f = omega arith
-refusal_not (unread name) n (inr (inr e)) f = omega arith
-refusal_not (too_long name limit) n (inl e) f = omega arith
-refusal_not (too_long name limit) n (inr (inl e)) f = omega arith
-refusal_not (too_long name limit) n (inr (inr e)) f = omega arith
-refusal_not (unfit u) n h f = content_not u.fault n h f
-refusal_not (unwritten name) n (inl e) f = omega arith
-refusal_not (unwritten name) n (inr (inl e)) f = omega arith
-refusal_not (unwritten name) n (inr (inr e)) f = omega arith
+content_is : (fault : ContentFault) → is_refused (content_status fault) ≡ true
+content_is (NoDatabase fault) = refl
+content_is (NoSource fault) = refl
+content_is (NoMeaning fault) = refl
+content_is (NoDraws fault) = refl
+content_is (NoProgram fault) = refl
+
+refusal_is : (refusal : Refusal) → is_refused (status_of refusal) ≡ true
+refusal_is no_request = refl
+refusal_is (unread name) = refl
+refusal_is (too_long name limit) = refl
+refusal_is (unfit u) = content_is u.fault
+refusal_is (unwritten name) = refl
+
+-- no refusal has the status of something done, of want of memory, of a console that failed, or of a run
+abbrev NoRefusal : (n : ℕ) → Type 0
+NoRefusal n = (n ≡ 0) ⊎ (n ≡ 9) ⊎ (n ≡ 3) ⊎ (n ≡ 8) ⊎ (n ≡ 10)
+
+not_refused : (n : ℕ) → NoRefusal n → is_refused n ≡ false
+not_refused n (inl e) = ap is_refused e
+not_refused n (inr (inl e)) = ap is_refused e
+not_refused n (inr (inr (inl e))) = ap is_refused e
+not_refused n (inr (inr (inr (inl e)))) = ap is_refused e
+not_refused n (inr (inr (inr (inr e)))) = ap is_refused e
+
+pub refusal_not : (refusal : Refusal) (n : ℕ) → NoRefusal n → status_of refusal ≡ n → ⊥
+refusal_not refusal n h f = true≢false (sym (refusal_is refusal) ∙ ap is_refused f ∙ not_refused n h)
 
 -- the files stay where nothing was done
 nothing_done : (shelf : ShelfView) (expected : Result Task Refusal) (status : ℕ) → (status ≡ 0 → ⊥) → Leaves shelf shelf expected status
 nothing_done shelf (Ok (reporting db)) status not_0 = refl
 nothing_done shelf (Ok (storing name bytes)) status not_0 = record { stored = λ e. absurd (not_0 e); stay = inr (inl refl) }
 nothing_done shelf (Ok (playing style db draws)) status not_0 = refl
+nothing_done shelf (Ok (running width p draws steps)) status not_0 = refl
 nothing_done shelf (Err refusal) status not_0 = refl
 
 -- and where what was done is all said
@@ -65,6 +69,14 @@ said_stays : (shelf : ShelfView) (task : Task) (status : ℕ) (events : List Eve
 said_stays shelf (reporting db) status events lines does = refl
 said_stays shelf (storing name bytes) status events lines does = absurd (let stored = ap (λ o. o.stored) does in cc)
 said_stays shelf (playing style db draws) status events lines does = refl
+said_stays shelf (running width p draws steps) status events lines does = refl
+
+-- 3 is none of these
+not_steady : (status : ℕ) → IsSteady status → (status ≡ 3) → ⊥
+not_steady status (inl e) f = omega arith
+not_steady status (inr (inl e)) f = omega arith
+not_steady status (inr (inr (inl e))) f = omega arith
+not_steady status (inr (inr (inr e))) f = omega arith
 
 -- what concludes and stores nothing ends so
 concluded : (shelf : ShelfView) (old new : ConsoleView) (o : Outcome) (status : ℕ) → o.stored ≡ None → Concludes old new o status → Ends shelf shelf old new o status
@@ -79,7 +91,7 @@ obeys-stored shelf shelf' view name bytes files faults = record {
       (λ lines. inl (keeping name bytes, refl, whole refl (sym (grown-nil view.history)) files)) view.left;
   stands = inl (first 0);
   silent = λ e. refl;
-  lines = inl refl;
+  lines = inl (inl refl);
   files = record { stored = λ e. files; stay = inl refl };
   shelf_later = omega arith;
   later = omega arith;
@@ -92,9 +104,23 @@ module _ (old new : ConsoleView) (status : ℕ) where
   refused_not_0 refusal (inl h) e = refusal_not refusal status (inl e) (sym h.0)
   refused_not_0 refusal (inr h) e = absurd (let f = h.0 in omega arith)
 
+  pub refused_not_end : (refusal : Refusal) → Concludes old new (refused refusal) status → IsEnd status → ⊥
+  refused_not_end refusal ended (inl e) = refused_not_0 refusal ended e
+  refused_not_end refusal (inl h) (inr (inl e)) = refusal_not refusal status (inr (inr (inr (inl e)))) (sym h.0)
+  refused_not_end refusal (inl h) (inr (inr e)) = refusal_not refusal status (inr (inr (inr (inr e)))) (sym h.0)
+  refused_not_end refusal (inr h) (inr (inl e)) = absurd (let f = h.0 in omega arith)
+  refused_not_end refusal (inr h) (inr (inr e)) = absurd (let f = h.0 in omega arith)
+
   pub refused_not_9 : (refusal : Refusal) → Concludes old new (refused refusal) status → status ≡ 9 → ⊥
   refused_not_9 refusal (inl h) e = refusal_not refusal status (inr (inl e)) (sym h.0)
   refused_not_9 refusal (inr h) e = absurd (let f = h.0 in omega arith)
+
+  -- no count rises with a status that isn't that of a refusal
+  pub refused_not_steady : (refusal : Refusal) → Concludes old new (refused refusal) status → IsSteady status → ⊥
+  refused_not_steady refusal ended (inl e) = refused_not_end refusal ended (inl e)
+  refused_not_steady refusal ended (inr (inl e)) = refused_not_end refusal ended (inr (inl e))
+  refused_not_steady refusal ended (inr (inr (inl e))) = refused_not_9 refusal ended e
+  refused_not_steady refusal ended (inr (inr (inr e))) = refused_not_end refusal ended (inr (inr e))
 
   refused_stands : (S : Type 0) (refusal : Refusal) → Concludes old new (refused refusal) status → Stands S (Rose old.faults new.faults) (status_of refusal ∷ []) status
   refused_stands S refusal (inl h) = inl (subst (Contains (status_of refusal ∷ [])) (sym h.0) (first (status_of refusal)))
@@ -107,7 +133,7 @@ module _ (old new : ConsoleView) (status : ℕ) where
       answered = whatever (λ lines. Answers shelf shelf old new lines expected status) (λ lines. inr r.ended) old.left;
       stands = inr (inl r.ended.0);
       silent = λ e. r.ended.1;
-      lines = inr (inr r.lines);
+      lines = inr r.lines;
       files = nothing_done shelf expected status (λ e. let nine = r.ended.0 in omega arith);
       shelf_later = omega arith;
       later = r.later;
@@ -120,11 +146,11 @@ module _ (old new : ConsoleView) (status : ℕ) where
           (λ lines. inl (refused (unfit u), refl, concluded shelf old new (refused (unfit u)) status refl r.ended)) old.left;
       stands = refused_stands (Rose shelf.faults shelf.faults) (unfit u) r.ended;
       silent = λ e. absurd (refused_not_9 (unfit u) r.ended e);
-      lines = inr (inr r.lines);
+      lines = inr r.lines;
       files = refl;
       shelf_later = omega arith;
       later = r.later;
-      steady = λ h. elim h [ inl e ↦ absurd (refused_not_0 (unfit u) r.ended e) | inr e ↦ (refl, r.steady e) ];
+      steady = λ h. absurd (refused_not_steady (unfit u) r.ended h);
     }
 
     -- a content was refused
@@ -149,14 +175,11 @@ module _ (old new : ConsoleView) (status : ℕ) where
           (λ lines. inl (keeping name bytes, refl, unstored (record { name = name; bytes = bytes }) refl loses r.ended)) old.left;
       stands = elim r.ended [ inl h ↦ inr (inr (inr (h.0, loses.0))) | inr h ↦ inr (inr (inl (h.0, h.1))) ];
       silent = λ e. absurd (refused_not_9 (unwritten name) r.ended e);
-      lines = inr (inr r.lines);
+      lines = inr r.lines;
       files = record { stored = λ e. absurd (refused_not_0 (unwritten name) r.ended e); stay = inr (inr loses) };
       shelf_later = more;
       later = r.later;
-      steady = λ h. elim h [
-        | inl e ↦ absurd (refused_not_0 (unwritten name) r.ended e)
-        | inr e ↦ absurd (refused_not_9 (unwritten name) r.ended e)
-      ];
+      steady = λ h. absurd (refused_not_steady (unwritten name) r.ended h);
     }
 
     -- memory ran out as it stored
@@ -193,7 +216,7 @@ module _ (old new : ConsoleView) (status : ℕ) where
           (λ lines h. inl (done (events lines), does lines, whole e h refl)) old.left said;
       stands = inl (subst (Contains (task_statuses task)) (sym e) (task_has_0 task));
       silent = λ f. absurd (omega arith);
-      lines = inl e;
+      lines = inl (inl e);
       files = stays;
       shelf_later = omega arith;
       later = cause.later;
@@ -204,11 +227,11 @@ module _ (old new : ConsoleView) (status : ℕ) where
           (λ lines h. inl (done (events lines), does lines, unsaid e cause.failed h refl)) old.left part;
       stands = inr (inr (inl (e, cause.failed)));
       silent = λ f. absurd (omega arith);
-      lines = inr (inl e);
+      lines = inl (inr (inl e));
       files = stays;
       shelf_later = omega arith;
       later = cause.later;
-      steady = λ h. elim h [ inl f ↦ absurd (omega arith) | inr f ↦ absurd (omega arith) ];
+      steady = λ h. absurd (not_steady status h e);
     }
 
     pub obeys-shown : {T E : Type 0} (expected : Result Task Unfit) (result : Result T E) → expected ≡ Ok task

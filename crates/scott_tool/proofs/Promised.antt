@@ -1,19 +1,23 @@
 -- What holds of all ways in which a request is handled.
-use Rattle.std.proofs.Common.{◌≡◌, ℕ, List, [], ◌∷◌, Option, Some, None, IfSome, Result, Ok, Err, sym, ap, subst, inl, inr}
+use Rattle.std.proofs.Common.{◌≡◌, ◌∙◌, ◌⊎◌, ℕ, List, [], ◌∷◌, Option, Some, None, IfSome, Result, Ok, Err, sym, ap, subst, inl, inr}
 use Rattle.std.specs.Prelude.{Contains}
 use Rattle.adv_io.specs.Console.{ConsoleView}
 use Rattle.adv_io.specs.Faults.{Rose}
 use Rattle.adv_io.specs.Shelf.{Files, ShelfView}
 use Rattle.scott_requests.specs.Request.{Request}
 use Rattle.scott_tool.specs.Steps.{◌>>=◌}
-use Rattle.scott_tool.specs.Refusal.{Refusal, refusing}
+use Rattle.scott_tool.specs.Refusal.{Refusal, unread, refusing}
 use Rattle.scott_tool.specs.Loading.{Texts, texts_of}
-use Rattle.scott_tool.specs.Work.{Task, work, expected, task_statuses, statuses_of}
-use Rattle.scott_tool.specs.Obeying.{Stands}
-use Rattle.scott_tool.specs.Causes.{IsAccepted}
-use Rattle.scott_tool.specs.Promises.{HasStatus, Completes, IsSeen, NameKeeps, KeepsFiles, HasChecked, HasCompiled, HasDecompiled, HasPlayed, Counts}
-use Rattle.scott_tool.proofs.Statuses.{first, task_0}
-use Rattle.scott_tool.proofs.Readings.{Laws, accepted}
+use Rattle.scott_tool.specs.Work.{Task, reporting, storing, playing, running, work, expected, task_statuses, statuses_of}
+use Rattle.scott_tool.specs.Obeying.{Stands, Answers}
+use Rattle.scott_tool.specs.Causes.{OneLoaded, IsAccepted}
+use Rattle.scott_tool.specs.Outcome.{refused, Concludes, whole, unsaid, unstored}
+use Rattle.scott_tool.specs.Run.{stop_after, stop_status}
+use Rattle.inform_tree.specs.declared.widths.Width.{Width}
+use Rattle.inform_tree.specs.Programs.{DirectiveTree}
+use Rattle.scott_tool.specs.Promises.{HasStatus, Completes, IsSeen, NameKeeps, KeepsFiles, HasChecked, HasCompiled, HasDecompiled, HasPlayed, HasRun, IfKnown, SaysUnread, Counts}
+use Rattle.scott_tool.proofs.Statuses.{IsEnd, first}
+use Rattle.scott_tool.proofs.Readings.{Laws, EndsWith0, accepted}
 
 -- all clauses of the program
 pub record Promises (shelf shelf' : ShelfView) (console console' : ConsoleView) (asked : Option Request) (status : ℕ) : Type 0 where
@@ -25,6 +29,7 @@ pub record Promises (shelf shelf' : ShelfView) (console console' : ConsoleView) 
   pub compiled : status ≡ 0 → HasCompiled shelf shelf' asked
   pub decompiled : status ≡ 0 → HasDecompiled shelf shelf' asked
   pub played : status ≡ 0 → HasPlayed shelf console console' asked
+  pub ran : IsEnd status → HasRun shelf console console' asked status
   pub counts : Counts shelf shelf' console console' status
 
 -- what holds of the files that are known
@@ -68,15 +73,49 @@ module _ (shelf shelf' : ShelfView) (console console' : ConsoleView) (status : �
 
   -- ---- what follows for every way
 
-  stand_0 : (task : Task) → Stand (task_statuses task) → Stand (0 ∷ [])
-  stand_0 task (inl h) = inl (subst (Contains (0 ∷ [])) (sym (task_0 task status h)) (first 0))
-  stand_0 task (inr h) = inr h
+  abbrev Seen : Option Request → Files → List (List ℕ) → Type 0
+  Seen asked files lines = Answers shelf shelf' console console' lines (expected files asked) status ⊎ SaysUnread shelf shelf' console console' asked status
 
-  pub complete_from : (laws : Laws) (asked : Option Request) → IfSome shelf.files (λ files. Stand (statuses_of (expected files asked)))
-      → IfSome shelf.files (λ files. IsAccepted files asked → Stand (0 ∷ []))
-  complete_from laws None h = for_files shelf.files (λ files. IsAccepted files None → Stand (0 ∷ [])) (λ files no. absurd no)
-  complete_from laws (Some request) h =
-      from_files shelf.files (λ files. Stand (statuses_of (expected files (Some request)))) (λ files. IsAccepted files (Some request) → Stand (0 ∷ []))
-      (λ files s ok.
-      let task = accepted files laws request ok in
-      stand_0 task.0 (subst (λ (r : Result Task Refusal). Stand (statuses_of r)) task.1 s)) h
+  -- a run that ends with 0 did so, unless something failed
+  run_0 : (width : Width) (p : List DirectiveTree) (draws : List ℕ) (steps : ℕ) (lines : List (List ℕ)) → stop_status (stop_after width p steps lines draws) ≡ 0
+      → Answers shelf shelf' console console' lines (Ok (running width p draws steps)) status → Stand (0 ∷ [])
+  run_0 width p draws steps lines zero (inl (o, does, whole is grew files)) =
+      inl (subst (Contains (0 ∷ [])) (sym (is ∙ ap (λ x. x.status) does ∙ zero)) (first 0))
+  run_0 width p draws steps lines zero (inl (o, does, unsaid three failed part files)) = inr (inr (inl (three, failed)))
+  run_0 width p draws steps lines zero (inl (o, does, unstored file is loses said)) = absurd (let none = sym (ap (λ x. x.stored) does) ∙ is in cc)
+  run_0 width p draws steps lines zero (inr silent) = inr (inl silent.0)
+
+  unread_stands : (asked : Option Request) → SaysUnread shelf shelf' console console' asked status → Stand (0 ∷ [])
+  unread_stands asked (lost, said) = by asked said where
+    by : (asked : Option Request) → OneLoaded asked (λ load. Concludes console console' (refused (unread load.name)) status) → Stand (0 ∷ [])
+    by None h = absurd h
+    by (Some request) (load, is, inl h) = inr (inr (inr (h.0, lost)))
+    by (Some request) (load, is, inr h) = inr (inr (inl (h.0, h.1)))
+
+  -- what was seen, with these lines
+  seen_with : (asked : Option Request) (files : Files) (lines : List (List ℕ)) (left : Option (List (List ℕ))) → left ≡ Some lines → IfSome left (Seen asked files) → Seen asked files lines
+  seen_with asked files lines left is h = subst (λ (o : Option (List (List ℕ))). IfSome o (Seen asked files)) is h
+
+  stand_0 : (request : Request) (files : Files) (task : Task) → expected files (Some request) ≡ Ok task → EndsWith0 task console.left
+      → Stand (task_statuses task) → IfSome console.left (Seen (Some request) files) → Stand (0 ∷ [])
+  stand_0 request files (reporting db) is ends stand seen = stand
+  stand_0 request files (storing name bytes) is ends stand seen = stand
+  stand_0 request files (playing style db draws) is ends stand seen = stand
+  stand_0 request files (running width p draws steps) is (lines, left, zero) stand seen =
+      elim (seen_with (Some request) files lines console.left left seen) [
+        | inl h ↦
+            run_0 width p draws steps lines zero
+            (subst (λ (r : Result Task Refusal). Answers shelf shelf' console console' lines r status) is h)
+        | inr h ↦ unread_stands (Some request) h
+      ]
+
+  pub complete_from : (laws : Laws) (asked : Option Request) → IfSome shelf.files (λ files. Stand (statuses_of (expected files asked))) → IfKnown shelf console (Seen asked)
+      → IfSome shelf.files (λ files. IsAccepted files console.left asked → Stand (0 ∷ []))
+  complete_from laws None h seen = for_files shelf.files (λ files. IsAccepted files console.left None → Stand (0 ∷ [])) (λ files no. absurd no)
+  complete_from laws (Some request) h seen = by shelf.files h seen where
+    by : (known : Option Files) → IfSome known (λ files. Stand (statuses_of (expected files (Some request)))) → IfSome known (λ files. IfSome console.left (Seen (Some request) files))
+        → IfSome known (λ files. IsAccepted files console.left (Some request) → Stand (0 ∷ []))
+    by None h seen = tt
+    by (Some files) h seen = λ ok.
+        let task = accepted files laws request console.left ok in
+        stand_0 request files task.0 task.1 task.2 (subst (λ (r : Result Task Refusal). Stand (statuses_of r)) task.1 h) seen

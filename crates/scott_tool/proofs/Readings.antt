@@ -1,6 +1,7 @@
 -- What the work of a request says of what was loaded for it.
-use Rattle.std.proofs.Common.{◌≡◌, ◌∙◌, ℕ, List, [], Some, Result, Ok, Err, refl, sym, ap, inl, inr}
+use Rattle.std.proofs.Common.{◌≡◌, ◌∙◌, ℕ, List, [], Option, Some, Result, Ok, Err, refl, sym, ap, inl, inr}
 use Rattle.std.specs.FinMap.{get}
+use Rattle.std.specs.Prelude.{unwrap_or}
 use Rattle.adv_draws.specs.Listed.{listed_draws}
 use Rattle.adv_io.specs.Shelf.{Files}
 use Rattle.scott_format.specs.Faults.{Fault}
@@ -14,17 +15,23 @@ use Rattle.source_reader.specs.Faults as reading
 use Rattle.source_reader.specs.Laws.{SourceIn, FaultIn as SourceFaultIn}
 use Rattle.source_reader.specs.Text.{SourceText, TextFault, source_in}
 use Rattle.source_reader.specs.declared.tree.Source.{Source}
+use Rattle.inform_tree.specs.declared.widths.Width.{Width}
+use Rattle.inform_tree.specs.Programs.{DirectiveTree}
+use Rattle.inform_reader.specs.Reading as reader
+use Rattle.inform_reader.specs.Reading.{IsProgram, IsFaulty, program_in}
+use Rattle.inform_reader.specs.Laws.{ProgramIn, FaultIn as ProgramFaultIn}
 use Rattle.scott_requests.specs.Settings.{DrawSource, listed, seeded}
-use Rattle.scott_requests.specs.Request.{Request, check, compile, decompile, play}
+use Rattle.scott_requests.specs.Request.{Request, check, compile, decompile, play, run}
 use Rattle.scott_types.specs.declared.styles.Style.{Style}
 use Rattle.scott_types.specs.Database.{Database}
 use Rattle.scott_tool.specs.Steps.{◌>>=◌}
 use Rattle.scott_tool.specs.Refusal.{Refusal, Unfit, refusing, content_status}
-use Rattle.scott_tool.specs.Loading.{Load, main_of, draws_of, draws_load, database_load, source_load, loaded, Texts}
+use Rattle.scott_tool.specs.Loading.{Load, main_of, draws_of, draws_load, database_load, source_load, program_load, loaded, Texts}
 use Rattle.scott_tool.specs.Check.{database_or_unfit, database_of_file}
 use Rattle.scott_tool.specs.Compile.{source_or_unfit, meaning_or_unfit, compiled_from, IsNoSource}
 use Rattle.scott_tool.specs.Play.{draws_or_unfit, draws_from, DrawsAre}
-use Rattle.scott_tool.specs.Work.{Task, reporting, storing, playing, work, expected}
+use Rattle.scott_tool.specs.Run.{program_or_unfit, program_of_file, stop_after, stop_status}
+use Rattle.scott_tool.specs.Work.{Task, reporting, storing, playing, running, work, expected}
 use Rattle.scott_tool.specs.Causes.{IsAccepted}
 use Rattle.scott_tool.proofs.Files.{bind-ok, bind-err, there-loaded, loaded-there}
 
@@ -34,6 +41,8 @@ pub record Laws : Type 0 where
   pub database_fault : FaultIn
   pub source : SourceIn
   pub source_fault : SourceFaultIn
+  pub program : ProgramIn
+  pub program_fault : ProgramFaultIn
 
 -- ---- why a content is refused
 
@@ -77,6 +86,11 @@ compiled_unfit laws name bytes u e =
           (inr (m.0, f.0, (laws.source bytes m.0).0 (source_fit name (source_in bytes) m.0 m.1), f.1), f.2))
     ]
 
+program_unfit : (name : List ℕ) (read : Result (List DirectiveTree) reader.Fault) (u : Unfit) → program_or_unfit name read ≡ Err u
+    → (fault : reader.Fault) × (read ≡ Err fault) × (content_status u.fault ≡ 6)
+program_unfit name (Ok p) u e = absurd cc
+program_unfit name (Err fault) u e = (fault, refl, sym (ap status_in e))
+
 draws_unfit : (source : DrawSource) (bytes : List ℕ) (u : Unfit) → draws_from source bytes ≡ Err u
     → (load : Load) × (at : ℕ) × (draws_load source ≡ Some load) × (listed_draws bytes ≡ Err at) × (content_status u.fault ≡ 5)
 draws_unfit (seeded seed) bytes u e = absurd cc
@@ -87,11 +101,13 @@ draws_unfit (listed name) bytes u e = by (listed_draws bytes) refl e
     by (Ok draws) f g = absurd cc
     by (Err at) f g = (_, at, refl, f, sym (ap status_in g))
 
--- the content that is refused is that of the database, of the source, or of the draws
+-- the content that is refused is that of the database, of the source, of the program, or of the draws
 pub data Fails (request : Request) (texts : Texts) (u : Unfit) : Type 0 where
   bad_database : (load : Load) (fault : Fault) → main_of request ≡ Some load → database_in texts.main ≡ Err fault
       → content_status u.fault ≡ 4 → Fails request texts u
   bad_source : (source game : List ℕ) → request ≡ compile source game → IsNoSource texts.main → content_status u.fault ≡ 5 → Fails request texts u
+  bad_program : (name : List ℕ) (source : DrawSource) (steps : ℕ) (width : Width) (fault : reader.Fault) → request ≡ run name source steps width
+      → IsFaulty width texts.main fault → content_status u.fault ≡ 6 → Fails request texts u
   bad_draws : (load : Load) (at : ℕ) → draws_of request ≡ Some load → listed_draws texts.draws ≡ Err at
       → content_status u.fault ≡ 5 → Fails request texts u
 
@@ -106,6 +122,12 @@ play_of style db draws = Ok (playing style db draws)
 
 abbrev with_draws : DrawSource → List ℕ → Style → Database → Result Task Unfit
 with_draws source bytes style db = draws_from source bytes >>= play_of style db
+
+abbrev run_of : Width → ℕ → List DirectiveTree → List ℕ → Result Task Unfit
+run_of width steps p draws = Ok (running width p draws steps)
+
+abbrev run_with : DrawSource → List ℕ → Width → ℕ → List DirectiveTree → Result Task Unfit
+run_with source bytes width steps p = draws_from source bytes >>= run_of width steps p
 
 pub fails : Laws → (request : Request) (texts : Texts) (u : Unfit) → work request texts ≡ Err u → Fails request texts u
 fails laws (check game) texts u e =
@@ -132,12 +154,58 @@ fails laws (play game source style) texts u e =
             | inr r ↦ absurd (let g = r.2 in cc)
           ]
     ]
+fails laws (run name source steps width) texts u e =
+    elim (bind-err (program_of_file width name texts.main) (run_with source texts.draws width steps) u e) [
+      | inl d ↦
+          (let f = program_unfit name (program_in width texts.main) u d in
+          bad_program name source steps width f.0 refl ((laws.program_fault width texts.main f.0).0 f.1) f.2)
+      | inr d ↦
+          elim (bind-err (draws_from source texts.draws) (run_of width steps d.0) u d.2) [
+            | inl r ↦ (let f = draws_unfit source texts.draws u r in bad_draws f.0 f.1 f.2 f.3 f.4)
+            | inr r ↦ absurd (let g = r.2 in cc)
+          ]
+    ]
+
+-- a task that is a run comes of a request to run the program
+pub run_request : (request : Request) (texts : Texts) (width : Width) (p : List DirectiveTree) (draws : List ℕ) (steps : ℕ)
+    → work request texts ≡ Ok (running width p draws steps) → (name : List ℕ) × (source : DrawSource) × (request ≡ run name source steps width)
+run_request (check game) texts width p draws steps e =
+    absurd (let d = bind-ok (database_of_file game texts.main) report_of (running width p draws steps) e in let f = d.2 in cc)
+run_request (compile source game) texts width p draws steps e =
+    absurd (let d = bind-ok (compiled_from source texts.main) (store_of game canon) (running width p draws steps) e in let f = d.2 in cc)
+run_request (decompile game source) texts width p draws steps e =
+    absurd (let d = bind-ok (database_of_file game texts.main) (store_of source plain) (running width p draws steps) e in let f = d.2 in cc)
+run_request (play game source style) texts width p draws steps e =
+    absurd (
+    let d = bind-ok (database_of_file game texts.main) (with_draws source texts.draws style) (running width p draws steps) e in
+    let r = bind-ok (draws_from source texts.draws) (play_of style d.0) (running width p draws steps) d.2 in
+    let f = r.2 in
+    cc)
+run_request (run name source most wide) texts width p draws steps e =
+    let d = bind-ok (program_of_file wide name texts.main) (run_with source texts.draws wide most) (running width p draws steps) e in
+    let r = bind-ok (draws_from source texts.draws) (run_of wide most d.0) (running width p draws steps) d.2 in
+    let same : running wide d.0 r.0 most ≡ running width p draws steps = (let f = r.2 in cc) in
+    let width_is : wide ≡ width = cc in
+    let steps_are : most ≡ steps = cc in
+    (name, source, ap (λ x. run name source x wide) steps_are ∙ ap (run name source steps) width_is)
 
 -- ---- what is accepted
 
 database_fit : (name : List ℕ) (read : Result Database Fault) (db : Database) → database_or_unfit name read ≡ Ok db → read ≡ Ok db
 database_fit name (Ok other) db e = let same : other ≡ db = cc in ap Ok same
 database_fit name (Err fault) db e = absurd cc
+
+program_fit : (name : List ℕ) (read : Result (List DirectiveTree) reader.Fault) (p : List DirectiveTree) → program_or_unfit name read ≡ Ok p → read ≡ Ok p
+program_fit name (Ok other) p e = let same : other ≡ p = cc in ap Ok same
+program_fit name (Err fault) p e = absurd cc
+
+-- a task that is a run ends with 0, with the lines that are left
+abbrev pub EndsWith0 : Task → Option (List (List ℕ)) → Type 0
+EndsWith0 (reporting db) left = Unit {0}
+EndsWith0 (storing name bytes) left = Unit {0}
+EndsWith0 (playing style db draws) left = Unit {0}
+EndsWith0 (running width p draws steps) left =
+    (lines : List (List ℕ)) × (left ≡ Some lines) × (stop_status (stop_after width p steps lines draws) ≡ 0)
 
 module _ (files : Files) where
   -- the database of a request
@@ -154,6 +222,12 @@ module _ (files : Files) where
         (s.0, (laws.source bytes s.0).0 (source_fit source (source_in bytes) s.0 s.1), meaning_fit source (meant s.0) db s.2),
       )
 
+  -- the program of a request
+  pub program_is : (laws : Laws) (width : Width) (name bytes : List ℕ) (p : List DirectiveTree) → loaded files (Some (program_load name)) ≡ Ok bytes
+      → program_of_file width name bytes ≡ Ok p → (get files name ≡ Some bytes) × IsProgram width bytes p
+  program_is laws width name bytes p l e =
+      (there-loaded files (program_load name) bytes l, (laws.program width bytes p).0 (program_fit name (program_in width bytes) p e))
+
   -- the draws of a request
   pub draws_are : (source : DrawSource) (bytes draws : List ℕ) → loaded files (draws_load source) ≡ Ok bytes → draws_from source bytes ≡ Ok draws
       → DrawsAre files source draws
@@ -166,8 +240,8 @@ module _ (files : Files) where
 
   -- ---- a request that is accepted comes to a task
 
-  abbrev Comes : Request → Type 0
-  Comes request = (task : Task) × (expected files (Some request) ≡ Ok task)
+  abbrev Comes : Request → Option (List (List ℕ)) → Type 0
+  Comes request left = (task : Task) × (expected files (Some request) ≡ Ok task) × EndsWith0 task left
 
   abbrev rest : Request → List ℕ → Result Texts Refusal
   rest request main = loaded files (draws_of request) >>= λ draws. Ok (record { main = main; draws = draws })
@@ -175,9 +249,9 @@ module _ (files : Files) where
   abbrev come : Request → Result Texts Refusal → Result Task Refusal
   come request r = r >>= λ t. refusing (work request t)
 
-  comes : (request : Request) (texts : Texts) (task : Task) → loaded files (main_of request) ≡ Ok texts.main → loaded files (draws_of request) ≡ Ok texts.draws
-      → work request texts ≡ Ok task → Comes request
-  comes request texts task m d w = (task, loads_main ∙ loads_draws ∙ ap refusing w)
+  comes : (request : Request) (left : Option (List (List ℕ))) (texts : Texts) (task : Task) → loaded files (main_of request) ≡ Ok texts.main → loaded files (draws_of request) ≡ Ok texts.draws
+      → work request texts ≡ Ok task → EndsWith0 task left → Comes request left
+  comes request left texts task m d w ends = (task, loads_main ∙ loads_draws ∙ ap refusing w, ends)
     where
       loads_main : expected files (Some request) ≡ come request (rest request texts.main)
       loads_main = ap (λ r. come request (r >>= rest request)) m
@@ -192,23 +266,40 @@ module _ (files : Files) where
   source_compiles laws name bytes tree db text e =
       ap (λ r. source_or_unfit name r >>= means name) ((laws.source bytes tree).1 text) ∙ ap (meaning_or_unfit name) e
 
-  pub accepted : (laws : Laws) (request : Request) → IsAccepted files (Some request) → Comes request
-  accepted laws (check game) h =
-      comes (check game) (record { main = h.0; draws = [] }) (reporting h.1)
-      (loaded-there files (database_load game) h.0 h.2) refl (ap (λ r. r >>= report_of) (game_reads laws game h.0 h.1 h.3))
-  accepted laws (compile source game) h =
-      comes (compile source game) (record { main = h.0; draws = [] }) (storing game (canon h.2))
-      (loaded-there files (source_load source) h.0 h.3) refl (ap (λ r. r >>= store_of game canon) (source_compiles laws source h.0 h.1 h.2 h.4 h.5))
-  accepted laws (decompile game source) h =
-      comes (decompile game source) (record { main = h.0; draws = [] }) (storing source (plain h.1))
-      (loaded-there files (database_load game) h.0 h.2) refl (ap (λ r. r >>= store_of source plain) (game_reads laws game h.0 h.1 h.3))
-  accepted laws (play game (seeded seed) style) h =
+  program_reads : (laws : Laws) (width : Width) (name bytes : List ℕ) (p : List DirectiveTree) → IsProgram width bytes p → program_of_file width name bytes ≡ Ok p
+  program_reads laws width name bytes p is = ap (program_or_unfit name) ((laws.program width bytes p).1 is)
+
+  same_file : (name : List ℕ) {a b : List ℕ} → get files name ≡ Some a → get files name ≡ Some b → a ≡ b
+  same_file name {a} {b} there other = ap (λ o. unwrap_or o a) (sym there ∙ other)
+
+  pub accepted : (laws : Laws) (request : Request) (left : Option (List (List ℕ))) → IsAccepted files left (Some request) → Comes request left
+  accepted laws (check game) left h =
+      comes (check game) left (record { main = h.0; draws = [] }) (reporting h.1)
+      (loaded-there files (database_load game) h.0 h.2) refl (ap (λ r. r >>= report_of) (game_reads laws game h.0 h.1 h.3)) tt
+  accepted laws (compile source game) left h =
+      comes (compile source game) left (record { main = h.0; draws = [] }) (storing game (canon h.2))
+      (loaded-there files (source_load source) h.0 h.3) refl (ap (λ r. r >>= store_of game canon) (source_compiles laws source h.0 h.1 h.2 h.4 h.5)) tt
+  accepted laws (decompile game source) left h =
+      comes (decompile game source) left (record { main = h.0; draws = [] }) (storing source (plain h.1))
+      (loaded-there files (database_load game) h.0 h.2) refl (ap (λ r. r >>= store_of source plain) (game_reads laws game h.0 h.1 h.3)) tt
+  accepted laws (play game (seeded seed) style) left h =
       let g = h.0 in
-      comes (play game (seeded seed) style) (record { main = g.0; draws = [] }) _
-      (loaded-there files (database_load game) g.0 g.2) refl (ap (λ r. r >>= with_draws (seeded seed) [] style) (game_reads laws game g.0 g.1 g.3))
-  accepted laws (play game (listed name) style) h =
+      comes (play game (seeded seed) style) left (record { main = g.0; draws = [] }) _
+      (loaded-there files (database_load game) g.0 g.2) refl (ap (λ r. r >>= with_draws (seeded seed) [] style) (game_reads laws game g.0 g.1 g.3)) tt
+  accepted laws (play game (listed name) style) left h =
       let g = h.0 in
       let d = h.1 in
-      comes (play game (listed name) style) (record { main = g.0; draws = d.0 }) (playing style g.1 d.1)
+      comes (play game (listed name) style) left (record { main = g.0; draws = d.0 }) (playing style g.1 d.1)
       (loaded-there files (database_load game) g.0 g.2) (loaded-there files _ d.0 d.2)
-      (ap (λ r. r >>= with_draws (listed name) d.0 style) (game_reads laws game g.0 g.1 g.3) ∙ ap (λ r. draws_or_unfit name r >>= play_of style g.1) d.3)
+      (ap (λ r. r >>= with_draws (listed name) d.0 style) (game_reads laws game g.0 g.1 g.3) ∙ ap (λ r. draws_or_unfit name r >>= play_of style g.1) d.3) tt
+  accepted laws (run name (seeded seed) steps width) left ((bytes, p, draws, lines, loads, is, from_seed, lines_are, zero), h) =
+      comes (run name (seeded seed) steps width) left (record { main = bytes; draws = [] }) (running width p draws steps)
+      (loaded-there files (program_load name) bytes loads) refl
+      (ap (λ r. r >>= run_with (seeded seed) [] width steps) (program_reads laws width name bytes p is) ∙ ap (λ d. Ok (running width p d steps)) (sym from_seed))
+      (lines, lines_are, zero)
+  accepted laws (run name (listed file) steps width) left ((bytes, p, draws, lines, loads, is, (more, there, lists), lines_are, zero), h) =
+      comes (run name (listed file) steps width) left (record { main = bytes; draws = h.0 }) (running width p draws steps)
+      (loaded-there files (program_load name) bytes loads) (loaded-there files _ h.0 h.2)
+      (ap (λ r. r >>= run_with (listed file) h.0 width steps) (program_reads laws width name bytes p is)
+      ∙ ap (λ r. draws_or_unfit file r >>= run_of width steps p) (ap listed_draws (same_file file h.2.0 there) ∙ lists))
+      (lines, lines_are, zero)

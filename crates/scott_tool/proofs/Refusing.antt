@@ -13,8 +13,8 @@ use Rattle.scott_tool.specs.Obeying.{Stands, Answers, Refuses, Misses}
 use Rattle.scott_tool.specs.Causes.{OneLoaded, IsTooLong, HasCause}
 use Rattle.scott_tool.specs.Promises.{IfKnown, SaysUnread}
 use Rattle.scott_tool.proofs.Files.{long_one}
-use Rattle.scott_tool.proofs.Statuses.{is_3, is_9, is_known, first}
-use Rattle.scott_tool.proofs.Obeying.{refusal_not, refused_not_0, refused_not_9}
+use Rattle.scott_tool.proofs.Statuses.{is_3, is_9, is_known, first, not_end}
+use Rattle.scott_tool.proofs.Obeying.{refusal_not, refused_not_0, refused_not_9, refused_not_end, refused_not_steady}
 use Rattle.scott_tool.proofs.Readings.{Laws}
 use Rattle.scott_tool.proofs.Promised.{Promises, for_files, from_files, for_lines, expected-err, name_keeps, complete_from}
 
@@ -42,7 +42,7 @@ module _ (shelf shelf' : ShelfView) (console console' : ConsoleView) (status : �
     own n not_3 e = elim ended [ inl h ↦ sym h.0 ∙ e | inr h ↦ absurd (not_3 (sym e ∙ h.0)) ]
 
     broke : status ≡ 3 → Broke
-    broke e = elim ended [ inl h ↦ absurd (refusal_not refusal 3 (inr (inr refl)) (sym h.0 ∙ e)) | inr h ↦ h.1 ]
+    broke e = elim ended [ inl h ↦ absurd (refusal_not refusal 3 (inr (inr (inl refl))) (sym h.0 ∙ e)) | inr h ↦ h.1 ]
 
     stand_refused : Stand (status_of refusal ∷ [])
     stand_refused = elim ended [
@@ -74,6 +74,9 @@ module _ (shelf shelf' : ShelfView) (console console' : ConsoleView) (status : �
       → Promises shelf shelf' console console' None status
   not_asked_promised laws same steady r =
       let stands = for_files shelf.files (λ files. Stand (statuses_of (expected files None))) (λ files. stand_expected no_request r.ended files None refl) in
+      let seen : IfKnown shelf console (λ files lines. Answers shelf shelf' console console' lines (expected files None) status ⊎ SaysUnread shelf shelf' console console' None status) = for_files shelf.files (λ files. IfSome console.left (λ lines. Answers shelf shelf' console console' lines (expected files None) status ⊎ SaysUnread shelf shelf' console console' None status))
+      (λ files. for_lines console.left (λ lines. Answers shelf shelf' console console' lines (expected files None) status ⊎ SaysUnread shelf shelf' console console' None status)
+      (λ lines. inl (answers_expected no_request r.ended same files None lines refl))) in
       record {
         status_is = record {
           known = known_refused no_request r.ended;
@@ -83,32 +86,31 @@ module _ (shelf shelf' : ShelfView) (console console' : ConsoleView) (status : �
             unsaid = broke no_request r.ended;
             no_database = λ e. absurd (let f = own no_request r.ended 4 (λ e. omega arith) e in omega arith);
             no_source_or_draws = λ e. absurd (let f = own no_request r.ended 5 (λ e. omega arith) e in omega arith);
+            no_program = λ e. absurd (let f = own no_request r.ended 6 (λ e. omega arith) e in omega arith);
+            trapped = λ e. absurd (let f = own no_request r.ended 8 (λ e. omega arith) e in omega arith);
+            spent = λ e. absurd (let f = own no_request r.ended 10 (λ e. omega arith) e in omega arith);
             memory = λ e. absurd (refused_not_9 console console' status no_request r.ended e);
             too_long = λ e. absurd (let f = own no_request r.ended 11 (λ e. omega arith) e in omega arith);
           };
           first = stands;
         };
         seen = record {
-          all = for_files shelf.files (λ files. IfSome console.left (λ lines. Answers shelf shelf' console console' lines (expected files None) status ⊎ SaysUnread shelf shelf' console console' None status))
-              (λ files. for_lines console.left (λ lines. Answers shelf shelf' console console' lines (expected files None) status ⊎ SaysUnread shelf shelf' console console' None status)
-              (λ lines. inl (answers_expected no_request r.ended same files None lines refl)));
+          all = seen;
           usage = λ e. r.ended;
           silent = λ e. absurd (refused_not_9 console console' status no_request r.ended e);
-          lines = inr (inr r.lines);
+          lines = inr r.lines;
         };
         files = same;
-        complete = complete_from shelf shelf' console console' status laws None stands;
+        complete = complete_from shelf shelf' console console' status laws None stands seen;
         checked = λ zero game e. absurd cc;
         compiled = λ zero source game e. absurd cc;
         decompiled = λ zero game source e. absurd cc;
         played = λ zero game source style e. absurd cc;
+        ran = λ end name source steps width e. absurd cc;
         counts = record {
           shelf_later = omega arith;
           console_later = r.later;
-          steady = λ h. elim h [
-            | inl e ↦ absurd (refused_not_0 console console' status no_request r.ended e)
-            | inr e ↦ (steady, r.steady e)
-          ];
+          steady = λ h. absurd (refused_not_steady console console' status no_request r.ended h);
         };
       }
 
@@ -150,20 +152,18 @@ module _ (shelf shelf' : ShelfView) (console console' : ConsoleView) (status : �
         → Refuses console console' (Some refusal) status → Cause → AllStands → AllSeen → Promised
     refused_promised laws refusal same later r cause stands seen = record {
       status_is = record { known = known_refused refusal r.ended; cause = cause; first = stands };
-      seen = record { all = seen; usage = λ e. absurd cc; silent = λ e. absurd (refused_not_9 console console' status refusal r.ended e); lines = inr (inr r.lines) };
+      seen = record { all = seen; usage = λ e. absurd cc; silent = λ e. absurd (refused_not_9 console console' status refusal r.ended e); lines = inr r.lines };
       files = name_keeps shelf shelf' console console' status (stores request) same;
-      complete = complete_from shelf shelf' console console' status laws (Some request) stands;
+      complete = complete_from shelf shelf' console console' status laws (Some request) stands seen;
       checked = λ zero game e. absurd (refused_not_0 console console' status refusal r.ended zero);
       compiled = λ zero source game e. absurd (refused_not_0 console console' status refusal r.ended zero);
       decompiled = λ zero game source e. absurd (refused_not_0 console console' status refusal r.ended zero);
       played = λ zero game source style e. absurd (refused_not_0 console console' status refusal r.ended zero);
+      ran = λ end name source steps width e. absurd (refused_not_end console console' status refusal r.ended end);
       counts = record {
         shelf_later = later;
         console_later = r.later;
-        steady = λ h. elim h [
-          | inl e ↦ absurd (refused_not_0 console console' status refusal r.ended e)
-          | inr e ↦ absurd (refused_not_9 console console' status refusal r.ended e)
-        ];
+        steady = λ h. absurd (refused_not_steady console console' status refusal r.ended h);
       };
     }
 
@@ -175,6 +175,9 @@ module _ (shelf shelf' : ShelfView) (console console' : ConsoleView) (status : �
       unsaid = broke (unread name) ended;
       no_database = λ e. absurd (let f = own (unread name) ended 4 (λ e. omega arith) e in omega arith);
       no_source_or_draws = λ e. absurd (let f = own (unread name) ended 5 (λ e. omega arith) e in omega arith);
+      no_program = λ e. absurd (let f = own (unread name) ended 6 (λ e. omega arith) e in omega arith);
+      trapped = λ e. absurd (let f = own (unread name) ended 8 (λ e. omega arith) e in omega arith);
+      spent = λ e. absurd (let f = own (unread name) ended 10 (λ e. omega arith) e in omega arith);
       memory = λ e. refl;
       too_long = λ e. absurd (let f = own (unread name) ended 11 (λ e. omega arith) e in omega arith);
     }
@@ -187,6 +190,9 @@ module _ (shelf shelf' : ShelfView) (console console' : ConsoleView) (status : �
       unsaid = broke (too_long name limit) ended;
       no_database = λ e. absurd (let f = own (too_long name limit) ended 4 (λ e. omega arith) e in omega arith);
       no_source_or_draws = λ e. absurd (let f = own (too_long name limit) ended 5 (λ e. omega arith) e in omega arith);
+      no_program = λ e. absurd (let f = own (too_long name limit) ended 6 (λ e. omega arith) e in omega arith);
+      trapped = λ e. absurd (let f = own (too_long name limit) ended 8 (λ e. omega arith) e in omega arith);
+      spent = λ e. absurd (let f = own (too_long name limit) ended 10 (λ e. omega arith) e in omega arith);
       memory = λ e. refl;
       too_long = λ e. long;
     }
@@ -195,6 +201,7 @@ module _ (shelf shelf' : ShelfView) (console console' : ConsoleView) (status : �
     memory_promised laws same steady r =
         let nine : status ≡ 9 = r.ended.0 in
         let stands : AllStands = for_files shelf.files (λ files. Stand (statuses_of (expected files (Some request)))) (λ files. inr (inl nine)) in
+        let all : AllSeen = seen_by (λ files lines. inl (inr r.ended)) in
         record {
           status_is = record {
             known = subst (Contains statuses) (sym nine) is_9;
@@ -204,18 +211,22 @@ module _ (shelf shelf' : ShelfView) (console console' : ConsoleView) (status : �
               unsaid = λ e. absurd (omega arith);
               no_database = λ e. absurd (omega arith);
               no_source_or_draws = λ e. absurd (omega arith);
+              no_program = λ e. absurd (omega arith);
+              trapped = λ e. absurd (omega arith);
+              spent = λ e. absurd (omega arith);
               memory = λ e. refl;
               too_long = λ e. absurd (omega arith);
             };
             first = stands;
           };
-          seen = record { all = seen_by (λ files lines. inl (inr r.ended)); usage = λ e. absurd cc; silent = λ e. r.ended.1; lines = inr (inr r.lines) };
+          seen = record { all = all; usage = λ e. absurd cc; silent = λ e. r.ended.1; lines = inr r.lines };
           files = name_keeps shelf shelf' console console' status (stores request) same;
-          complete = complete_from shelf shelf' console console' status laws (Some request) stands;
+          complete = complete_from shelf shelf' console console' status laws (Some request) stands all;
           checked = λ zero game e. absurd (omega arith);
           compiled = λ zero source game e. absurd (omega arith);
           decompiled = λ zero game source e. absurd (omega arith);
           played = λ zero game source style e. absurd (omega arith);
+          ran = λ end name source steps width e. absurd (not_end status 9 end (λ f. omega arith) (λ f. omega arith) (λ f. omega arith) nine);
           counts = record { shelf_later = omega arith; console_later = r.later; steady = λ h. (steady, r.steady nine) };
         }
 

@@ -1,14 +1,14 @@
 -- The statuses that an expected task or refusal can have.
-use Rattle.std.proofs.Common.{◌≡◌, ◌<◌, ℕ, zero, suc, [], ◌∷◌, get_or, Result, Ok, Err, refl, sym, inl, inr, ◌⊎◌, arith, lit<}
+use Rattle.std.proofs.Common.{◌≡◌, ◌∙◌, ◌<◌, ℕ, zero, suc, [], ◌∷◌, get_or, Result, Ok, Err, refl, sym, subst, inl, inr, ◌⊎◌, arith, lit<}
 use Rattle.std.specs.Prelude.{Contains}
 use Rattle.scott_tool.specs.declared.refusals.ContentFault.{ContentFault}
-use Rattle.scott_tool.specs.declared.refusals.ContentFault.TheVariants.{NoDatabase, NoSource, NoMeaning, NoDraws}
+use Rattle.scott_tool.specs.declared.refusals.ContentFault.TheVariants.{NoDatabase, NoSource, NoMeaning, NoDraws, NoProgram}
 use Rattle.scott_tool.specs.Refusal.{Refusal, Unfit, no_request, unread, too_long, unfit, unwritten, refusing, content_status, status_of}
 use Rattle.scott_tool.specs.Outcome.{statuses}
-use Rattle.scott_tool.specs.Work.{Task, reporting, storing, playing, task_statuses, statuses_of}
+use Rattle.scott_tool.specs.Work.{Task, reporting, storing, playing, running, task_statuses, statuses_of}
 use Rattle.scott_tool.specs.Obeying.{Stands}
 
--- ---- each is one of the eight
+-- ---- each is one of the eleven
 
 pub is_0 : Contains statuses 0
 is_0 = (0, lit< tt, refl)
@@ -17,18 +17,19 @@ pub is_3 : Contains statuses 3
 is_3 = (3, lit< tt, refl)
 
 pub is_9 : Contains statuses 9
-is_9 = (6, lit< tt, refl)
+is_9 = (8, lit< tt, refl)
 
 pub is_content : (fault : ContentFault) → Contains statuses (content_status fault)
 is_content (NoDatabase fault) = (4, lit< tt, refl)
 is_content (NoSource fault) = (5, lit< tt, refl)
 is_content (NoMeaning fault) = (5, lit< tt, refl)
 is_content (NoDraws fault) = (5, lit< tt, refl)
+is_content (NoProgram fault) = (6, lit< tt, refl)
 
 pub is_known : (refusal : Refusal) → Contains statuses (status_of refusal)
 is_known no_request = (1, lit< tt, refl)
 is_known (unread name) = (2, lit< tt, refl)
-is_known (too_long name limit) = (7, lit< tt, refl)
+is_known (too_long name limit) = (10, lit< tt, refl)
 is_known (unfit u) = is_content u.fault
 is_known (unwritten name) = (2, lit< tt, refl)
 
@@ -51,19 +52,46 @@ first x = (0, lit< tt, refl)
 
 -- a status is that of a task, or that of a content that is refused; or memory ran out, or the console or the shelf failed
 pub data Tells (ShelfFailed ConsoleFailed : Type 0) (expected : Result Task Unfit) (status : ℕ) : Type 0 where
-  of_task : (task : Task) → expected ≡ Ok task → status ≡ 0 → Tells ShelfFailed ConsoleFailed expected status
+  of_task : (task : Task) → expected ≡ Ok task → Contains (task_statuses task) status → Tells ShelfFailed ConsoleFailed expected status
   of_fault : (u : Unfit) → expected ≡ Err u → status ≡ content_status u.fault → Tells ShelfFailed ConsoleFailed expected status
   of_memory : status ≡ 9 → Tells ShelfFailed ConsoleFailed expected status
   of_console : status ≡ 3 → ConsoleFailed → Tells ShelfFailed ConsoleFailed expected status
   of_shelf : status ≡ 2 → ShelfFailed → Tells ShelfFailed ConsoleFailed expected status
 
-pub task_0 : (task : Task) (status : ℕ) → Contains (task_statuses task) status → status ≡ 0
-task_0 (reporting db) status h = sym (only 0 status h)
-task_0 (storing name bytes) status h = sym (only 0 status h)
-task_0 (playing style db draws) status h = sym (only 0 status h)
+-- a task ends with 0, and a run with 8 or 10 too
+abbrev pub IsEnd : (status : ℕ) → Type 0
+IsEnd status = (status ≡ 0) ⊎ (status ≡ 8) ⊎ (status ≡ 10)
+
+run_end : (status i : ℕ) → i < 3 → get_or (0 ∷ 8 ∷ 10 ∷ []) i status ≡ status → IsEnd status
+run_end status zero less e = inl (sym e)
+run_end status (suc zero) less e = inr (inl (sym e))
+run_end status (suc (suc zero)) less e = inr (inr (sym e))
+run_end status (suc (suc (suc i))) less e = absurd (omega arith)
+
+pub task_end : (task : Task) (status : ℕ) → Contains (task_statuses task) status → IsEnd status
+task_end (reporting db) status h = inl (sym (only 0 status h))
+task_end (storing name bytes) status h = inl (sym (only 0 status h))
+task_end (playing style db draws) status h = inl (sym (only 0 status h))
+task_end (running width p draws steps) status h = run_end status h.0 h.1 h.2
+
+pub not_end : (status n : ℕ) → IsEnd status → (n ≡ 0 → ⊥) → (n ≡ 8 → ⊥) → (n ≡ 10 → ⊥) → status ≡ n → ⊥
+not_end status n (inl e) not_0 not_8 not_10 f = not_0 (sym f ∙ e)
+not_end status n (inr (inl e)) not_0 not_8 not_10 f = not_8 (sym f ∙ e)
+not_end status n (inr (inr e)) not_0 not_8 not_10 f = not_10 (sym f ∙ e)
+
+-- and each of these is an end of a run
+pub end_is : (status : ℕ) → IsEnd status → Contains (0 ∷ 8 ∷ 10 ∷ []) status
+end_is status (inl e) = subst (Contains (0 ∷ 8 ∷ 10 ∷ [])) (sym e) (0, lit< tt, refl)
+end_is status (inr (inl e)) = subst (Contains (0 ∷ 8 ∷ 10 ∷ [])) (sym e) (1, lit< tt, refl)
+end_is status (inr (inr e)) = subst (Contains (0 ∷ 8 ∷ 10 ∷ [])) (sym e) (2, lit< tt, refl)
+
+pub is_end : (status : ℕ) → IsEnd status → Contains statuses status
+is_end status (inl e) = subst (Contains statuses) (sym e) is_0
+is_end status (inr (inl e)) = subst (Contains statuses) (sym e) (7, lit< tt, refl)
+is_end status (inr (inr e)) = subst (Contains statuses) (sym e) (9, lit< tt, refl)
 
 by_expected : (S F : Type 0) (expected : Result Task Unfit) (status : ℕ) → Contains (statuses_of (refusing expected)) status → Tells S F expected status
-by_expected S F (Ok task) status h = of_task task refl (task_0 task status h)
+by_expected S F (Ok task) status h = of_task task refl h
 by_expected S F (Err u) status h = of_fault u refl (sym (only (content_status u.fault) status h))
 
 pub tells : (S F : Type 0) (expected : Result Task Unfit) (status : ℕ) → Stands S F (statuses_of (refusing expected)) status → Tells S F expected status
@@ -76,3 +104,4 @@ pub task_has_0 : (task : Task) → Contains (task_statuses task) 0
 task_has_0 (reporting db) = first 0
 task_has_0 (storing name bytes) = first 0
 task_has_0 (playing style db draws) = first 0
+task_has_0 (running width p draws steps) = (0, lit< tt, refl)

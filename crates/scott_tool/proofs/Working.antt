@@ -19,25 +19,30 @@ use Rattle.scott_format.specs.Canon.{canon}
 use Rattle.source_reader.specs.Text.{SourceText}
 use Rattle.source_reader.specs.declared.tree.Source.{Source}
 use Rattle.scott_requests.specs.Settings.{DrawSource}
-use Rattle.scott_requests.specs.Request.{Request, check, compile, decompile, play}
+use Rattle.scott_requests.specs.Request.{Request, check, compile, decompile, play, run}
 use Rattle.scott_rules.specs.Play as rules
 use Rattle.adv_io.specs.Steps.{trace_of}
 use Rattle.scott_tool.specs.Steps.{◌>>=◌}
 use Rattle.scott_tool.specs.Refusal.{Refusal, Unfit, unfit, unwritten, refusing, content_status}
 use Rattle.scott_tool.specs.Outcome.{Outcome, done, refused, statuses, Concludes, Loses, Ends, whole, unsaid, unstored}
-use Rattle.scott_tool.specs.Loading.{Load, main_of, draws_of, source_load, stores, loaded, Texts, texts_of}
+use Rattle.scott_tool.specs.Loading.{Load, main_of, draws_of, source_load, program_load, stores, loaded, Texts, texts_of}
 use Rattle.scott_tool.specs.Check.{Checked, database_of_file}
 use Rattle.scott_tool.specs.Compile.{Compiled, IsNoSource, compiled_from}
 use Rattle.scott_tool.specs.Decompile.{Decompiled}
 use Rattle.scott_tool.specs.Play.{Played, draws_from}
-use Rattle.scott_tool.specs.Work.{Task, reporting, storing, playing, Does, work, expected, statuses_of}
+use Rattle.scott_tool.specs.Work.{Task, reporting, storing, playing, running, Does, task_statuses, work, expected, statuses_of}
 use Rattle.scott_tool.specs.Obeying.{Stands, Answers, Leaves, Obeys}
-use Rattle.scott_tool.specs.Causes.{MainHas, SourceHas, DrawsHave, HasCause}
+use Rattle.scott_tool.specs.Run.{Ran, ran, run_outcome, program_of_file}
+use Rattle.inform_tree.specs.declared.widths.Width.{Width}
+use Rattle.inform_tree.specs.Programs.{DirectiveTree}
+use Rattle.inform_reader.specs.Reading as reader
+use Rattle.inform_reader.specs.Reading.{IsFaulty}
+use Rattle.scott_tool.specs.Causes.{MainHas, SourceHas, DrawsHave, HasNoProgram, RunEnds, HasCause}
 use Rattle.scott_tool.specs.Promises.{IfKnown, SaysUnread, NameKeeps}
 use Rattle.scott_tool.proofs.Files.{bind-ok, texts-loaded, there-loaded}
-use Rattle.scott_tool.proofs.Statuses.{is_0, is_2, is_3, is_9, is_content, Tells, of_task, of_fault, of_memory, of_console, of_shelf, tells}
-use Rattle.scott_tool.proofs.Obeying.{refusal_not, refused_not_0}
-use Rattle.scott_tool.proofs.Readings.{Laws, Fails, bad_database, bad_source, bad_draws, fails, main_is, meant_is, draws_are}
+use Rattle.scott_tool.proofs.Statuses.{IsEnd, only, is_2, is_3, is_9, is_content, is_end, task_end, not_end, Tells, of_task, of_fault, of_memory, of_console, of_shelf, tells}
+use Rattle.scott_tool.proofs.Obeying.{refusal_not, refused_not_0, refused_not_end}
+use Rattle.scott_tool.proofs.Readings.{Laws, Fails, bad_database, bad_source, bad_program, bad_draws, fails, run_request, main_is, meant_is, program_is, draws_are}
 use Rattle.scott_tool.proofs.Promised.{Promises, from_files, from_lines, expected-ok, name_keeps, complete_from}
 
 module _ (shelf shelf' : ShelfView) (console console' : ConsoleView) (status : ℕ) where
@@ -49,6 +54,52 @@ module _ (shelf shelf' : ShelfView) (console console' : ConsoleView) (status : �
 
   abbrev Stand : List ℕ → Type 0
   Stand expected = Stands Lost Broke expected status
+
+  -- ---- a run
+
+  -- no refusal ends as a run does
+  refusal_not_run : (u : Unfit) (o : Outcome) → o ≡ refused (unfit u) → Ends shelf shelf' console console' o status → IsEnd status → ⊥
+  refusal_not_run u o is (whole same grew files) end = refused_not_end console console' status (unfit u) (inl (same ∙ ap (λ x. x.status) is, grew ∙ ap (λ x. grown console.history x.events) is)) end
+  refusal_not_run u o is (unsaid three failed part files) end = not_end status 3 end (λ n. omega arith) (λ n. omega arith) (λ n. omega arith) three
+  refusal_not_run u o is (unstored file stored loses said) end = refused_not_end console console' status (unwritten file.name) said end
+
+  ran_by : (laws : Laws) (name : List ℕ) (source : DrawSource) (steps : ℕ) (width : Width) (texts : Texts) (files : Files) (lines : List (List ℕ))
+      → texts_of files (run name source steps width) ≡ Ok texts
+      → Answers shelf shelf' console console' lines (refusing (work (run name source steps width) texts)) status → IsEnd status
+      → Ran files lines name source steps width console console' status
+  ran_by laws name source steps width texts files lines e h end = by (work (run name source steps width) texts) refl h where
+    done_by : (task : Task) (o : Outcome) → work (run name source steps width) texts ≡ Ok task → Does task lines o
+        → status ≡ o.status → console'.history ≡ grown console.history o.events → Ran files lines name source steps width console console' status
+    done_by task o w does is grew =
+        let d = bind-ok (program_of_file width name texts.main) (λ p. draws_from source texts.draws >>= λ draws. Ok (running width p draws steps)) task w in
+        let r = bind-ok (draws_from source texts.draws) (λ draws. Ok (running width d.0 draws steps)) task d.2 in
+        let l = texts-loaded files (run name source steps width) texts e in
+        let m = program_is files laws width name texts.main d.0 l.0 d.1 in
+        let same : running width d.0 r.0 steps ≡ task = (let f = r.2 in cc) in
+        let o_is : o ≡ run_outcome d.0 (ran width d.0 steps lines r.0) = subst (λ (t : Task). Does t lines o) (sym same) does in
+        record {
+          bytes = texts.main;
+          program = d.0;
+          draws = r.0;
+          there = m.0;
+          text = m.1;
+          draws_are = draws_are files source texts.draws r.0 l.1 r.1;
+          ends = is ∙ ap (λ x. x.status) o_is;
+          seen = grew ∙ ap (λ x. grown console.history x.events) o_is;
+        }
+
+    ends_by : (task : Task) (o : Outcome) → work (run name source steps width) texts ≡ Ok task → Does task lines o → Ends shelf shelf' console console' o status
+        → Ran files lines name source steps width console console' status
+    ends_by task o w does (whole is grew files) = done_by task o w does is grew
+    ends_by task o w does (unsaid three failed part files) = absurd (not_end status 3 end (λ n. omega arith) (λ n. omega arith) (λ n. omega arith) three)
+    ends_by task o w does (unstored file stored loses said) = absurd (refused_not_end console console' status (unwritten file.name) said end)
+
+    by : (due : Result Task Unfit) → work (run name source steps width) texts ≡ due → Answers shelf shelf' console console' lines (refusing due) status
+        → Ran files lines name source steps width console console' status
+    by (Ok task) w (inl (o, does, ends)) = ends_by task o w does ends
+    by (Ok task) w (inr silent) = absurd (not_end status 9 end (λ n. omega arith) (λ n. omega arith) (λ n. omega arith) silent.0)
+    by (Err u) w (inl (o, is, ends)) = absurd (refusal_not_run u o is ends end)
+    by (Err u) w (inr silent) = absurd (not_end status 9 end (λ n. omega arith) (λ n. omega arith) (λ n. omega arith) silent.0)
 
   module _ (request : Request) where
     abbrev Seen : Files → List (List ℕ) → Type 0
@@ -73,7 +124,7 @@ module _ (shelf shelf' : ShelfView) (console console' : ConsoleView) (status : �
       content_known u e = subst (Contains statuses) (sym e) (is_content u.fault)
 
       known_worked : Answered → Contains statuses status
-      known_worked (of_task task e zero) = subst (Contains statuses) (sym zero) is_0
+      known_worked (of_task task e h) = is_end status (task_end task status h)
       known_worked (of_fault u e is) = content_known u is
       known_worked (of_memory nine) = subst (Contains statuses) (sym nine) is_9
       known_worked (of_console three failed) = subst (Contains statuses) (sym three) is_3
@@ -100,6 +151,7 @@ module _ (shelf shelf' : ShelfView) (console console' : ConsoleView) (status : �
       database_cause laws u (bad_database load fault is reads e) four =
           main_has (λ bytes. (f : Fault) × DatFault bytes f) load is (fault, (laws.database_fault texts.main fault).0 reads)
       database_cause laws u (bad_source source game is why e) four = absurd (omega arith)
+      database_cause laws u (bad_program name source steps width fault is why e) four = absurd (omega arith)
       database_cause laws u (bad_draws load at is lists e) four = absurd (omega arith)
 
       -- the source of a request that compiles it
@@ -113,38 +165,87 @@ module _ (shelf shelf' : ShelfView) (console console' : ConsoleView) (status : �
       source_or_draws_cause u (bad_database load fault is reads e) five = absurd (omega arith)
       source_or_draws_cause u (bad_source source game is why e) five =
           from_files shelf.files (λ files. SourceHas files (Some request) IsNoSource) _ (λ files h. inl h) (source_has source game is why)
+      source_or_draws_cause u (bad_program name source steps width fault is why e) five = absurd (omega arith)
       source_or_draws_cause u (bad_draws load at is lists e) five =
           from_files shelf.files (λ files. DrawsHave files (Some request) (λ bytes. (place : ℕ) × (listed_draws bytes ≡ Err place))) _ (λ files h. inr h)
           (draws_have (λ bytes. (place : ℕ) × (listed_draws bytes ≡ Err place)) load is (at, lists))
 
-      content_is : (u : Unfit) (n : ℕ) → Fails request texts u → status ≡ content_status u.fault → status ≡ n → (n ≡ 4) ⊎ (n ≡ 5)
-      content_is u n (bad_database load fault is reads e) s f = inl (omega arith)
-      content_is u n (bad_source source game is why e) s f = inr (omega arith)
-      content_is u n (bad_draws load at is lists e) s f = inr (omega arith)
+      -- the program of a request that runs it
+      abbrev NoProgram : Type 0
+      NoProgram = IfSome shelf.files (λ files. HasNoProgram files (Some request))
 
-      not_content : (u : Unfit) (n : ℕ) → Fails request texts u → status ≡ content_status u.fault → (n ≡ 4 → ⊥) → (n ≡ 5 → ⊥) → status ≡ n → ⊥
-      not_content u n f s not_4 not_5 e = elim (content_is u n f s e) [ inl h ↦ not_4 h | inr h ↦ not_5 h ]
+      program_has : (name : List ℕ) (source : DrawSource) (steps : ℕ) (width : Width) (fault : reader.Fault) → request ≡ run name source steps width
+          → IsFaulty width texts.main fault → NoProgram
+      program_has name source steps width fault is why =
+          from_files shelf.files (λ files. texts_of files request ≡ Ok texts) (λ files. HasNoProgram files (Some request))
+          (λ files e. subst (λ (r : Request). HasNoProgram files (Some r)) (sym is)
+          (texts.main, fault, there-loaded files (program_load name) texts.main (ap (λ r. loaded files (main_of r)) (sym is) ∙ (texts-loaded files request texts e).0), why)) there
+
+      program_cause : (u : Unfit) → Fails request texts u → content_status u.fault ≡ 6 → NoProgram
+      program_cause u (bad_database load fault is reads e) six = absurd (omega arith)
+      program_cause u (bad_source source game is why e) six = absurd (omega arith)
+      program_cause u (bad_program name source steps width fault is why e) six = program_has name source steps width fault is why
+      program_cause u (bad_draws load at is lists e) six = absurd (omega arith)
+
+      content_is : (u : Unfit) (n : ℕ) → Fails request texts u → status ≡ content_status u.fault → status ≡ n → (n ≡ 4) ⊎ (n ≡ 5) ⊎ (n ≡ 6)
+      content_is u n (bad_database load fault is reads e) s f = inl (omega arith)
+      content_is u n (bad_source source game is why e) s f = inr (inl (omega arith))
+      content_is u n (bad_program name source steps width fault is why e) s f = inr (inr (omega arith))
+      content_is u n (bad_draws load at is lists e) s f = inr (inl (omega arith))
+
+      not_content : (u : Unfit) (n : ℕ) → Fails request texts u → status ≡ content_status u.fault → (n ≡ 4 → ⊥) → (n ≡ 5 → ⊥) → (n ≡ 6 → ⊥) → status ≡ n → ⊥
+      not_content u n f s not_4 not_5 not_6 e = elim (content_is u n f s e) [ inl h ↦ not_4 h | inr (inl h) ↦ not_5 h | inr (inr h) ↦ not_6 h ]
+
+      -- the run of the request ends with this status, with the lines that are left
+      abbrev Ended : ℕ → Type 0
+      Ended n = IfSome shelf.files (λ files. IfSome console.left (λ lines. RunEnds files lines (Some request) n))
+
+      run_ended : (laws : Laws) (name : List ℕ) (source : DrawSource) (steps : ℕ) (width : Width) → request ≡ run name source steps width → IsEnd status → Ended status
+      run_ended laws name source steps width is end =
+          from_files shelf.files (λ files. texts_of files request ≡ Ok texts) (λ files. IfSome console.left (λ lines. RunEnds files lines (Some request) status))
+          (λ files e. from_lines console.left (λ lines. Answers shelf shelf' console console' lines (refusing (work request texts)) status) (λ lines. RunEnds files lines (Some request) status)
+          (λ lines h. subst (λ (q : Request). RunEnds files lines (Some q) status) (sym is)
+          (let r = ran_by laws name source steps width texts files lines (subst (λ (q : Request). texts_of files q ≡ Ok texts) is e)
+          (subst (λ (q : Request). Answers shelf shelf' console console' lines (refusing (work q texts)) status) is h) end in
+          (r.bytes, r.program, r.draws, r.there, r.text, r.draws_are, sym r.ends))) obeys.answered) there
+
+      task_ended : (laws : Laws) (task : Task) → work request texts ≡ Ok task → Contains (task_statuses task) status → (status ≡ 0 → ⊥) → Ended status
+      task_ended laws (reporting db) is h not_0 = absurd (not_0 (sym (only 0 status h)))
+      task_ended laws (storing name bytes) is h not_0 = absurd (not_0 (sym (only 0 status h)))
+      task_ended laws (playing style db draws) is h not_0 = absurd (not_0 (sym (only 0 status h)))
+      task_ended laws (running width p draws steps) is h not_0 =
+          let q = run_request request texts width p draws steps is in
+          run_ended laws q.0 q.1 steps width q.2 (task_end (running width p draws steps) status h)
 
       worked_cause : Laws → Answered → Cause
-      worked_cause laws (of_task task is zero) = record {
-        no_request = λ e. absurd (omega arith);
-        unread = λ e. absurd (omega arith);
-        unsaid = λ e. absurd (omega arith);
-        no_database = λ e. absurd (omega arith);
-        no_source_or_draws = λ e. absurd (omega arith);
-        memory = λ e. refl;
-        too_long = λ e. absurd (omega arith);
-      }
+      worked_cause laws (of_task task is h) =
+          let no = not_end status in
+          let end = task_end task status h in
+          record {
+            no_request = λ e. absurd (no 1 end (λ n. omega arith) (λ n. omega arith) (λ n. omega arith) e);
+            unread = λ e. absurd (no 2 end (λ n. omega arith) (λ n. omega arith) (λ n. omega arith) e);
+            unsaid = λ e. absurd (no 3 end (λ n. omega arith) (λ n. omega arith) (λ n. omega arith) e);
+            no_database = λ e. absurd (no 4 end (λ n. omega arith) (λ n. omega arith) (λ n. omega arith) e);
+            no_source_or_draws = λ e. absurd (no 5 end (λ n. omega arith) (λ n. omega arith) (λ n. omega arith) e);
+            no_program = λ e. absurd (no 6 end (λ n. omega arith) (λ n. omega arith) (λ n. omega arith) e);
+            trapped = λ e. subst Ended e (task_ended laws task is h (λ z. omega arith));
+            memory = λ e. refl;
+            spent = λ e. subst Ended e (task_ended laws task is h (λ z. omega arith));
+            too_long = λ e. absurd (no 11 end (λ n. omega arith) (λ n. omega arith) (λ n. omega arith) e);
+          }
       worked_cause laws (of_fault u is s) =
           let f = fails laws request texts u is in
           record {
-            no_request = λ e. absurd (not_content u 1 f s (λ n. omega arith) (λ n. omega arith) e);
-            unread = λ e. absurd (not_content u 2 f s (λ n. omega arith) (λ n. omega arith) e);
-            unsaid = λ e. absurd (not_content u 3 f s (λ n. omega arith) (λ n. omega arith) e);
+            no_request = λ e. absurd (not_content u 1 f s (λ n. omega arith) (λ n. omega arith) (λ n. omega arith) e);
+            unread = λ e. absurd (not_content u 2 f s (λ n. omega arith) (λ n. omega arith) (λ n. omega arith) e);
+            unsaid = λ e. absurd (not_content u 3 f s (λ n. omega arith) (λ n. omega arith) (λ n. omega arith) e);
             no_database = λ e. database_cause laws u f (sym s ∙ e);
             no_source_or_draws = λ e. source_or_draws_cause u f (sym s ∙ e);
+            no_program = λ e. program_cause u f (sym s ∙ e);
+            trapped = λ e. absurd (not_content u 8 f s (λ n. omega arith) (λ n. omega arith) (λ n. omega arith) e);
+            spent = λ e. absurd (not_content u 10 f s (λ n. omega arith) (λ n. omega arith) (λ n. omega arith) e);
             memory = λ e. refl;
-            too_long = λ e. absurd (not_content u 11 f s (λ n. omega arith) (λ n. omega arith) e);
+            too_long = λ e. absurd (not_content u 11 f s (λ n. omega arith) (λ n. omega arith) (λ n. omega arith) e);
           }
       worked_cause laws (of_memory nine) = record {
         no_request = λ e. absurd (omega arith);
@@ -152,6 +253,9 @@ module _ (shelf shelf' : ShelfView) (console console' : ConsoleView) (status : �
         unsaid = λ e. absurd (omega arith);
         no_database = λ e. absurd (omega arith);
         no_source_or_draws = λ e. absurd (omega arith);
+        no_program = λ e. absurd (omega arith);
+        trapped = λ e. absurd (omega arith);
+        spent = λ e. absurd (omega arith);
         memory = λ e. refl;
         too_long = λ e. absurd (omega arith);
       }
@@ -161,6 +265,9 @@ module _ (shelf shelf' : ShelfView) (console console' : ConsoleView) (status : �
         unsaid = λ e. failed;
         no_database = λ e. absurd (omega arith);
         no_source_or_draws = λ e. absurd (omega arith);
+        no_program = λ e. absurd (omega arith);
+        trapped = λ e. absurd (omega arith);
+        spent = λ e. absurd (omega arith);
         memory = λ e. refl;
         too_long = λ e. absurd (omega arith);
       }
@@ -170,6 +277,9 @@ module _ (shelf shelf' : ShelfView) (console console' : ConsoleView) (status : �
         unsaid = λ e. absurd (omega arith);
         no_database = λ e. absurd (omega arith);
         no_source_or_draws = λ e. absurd (omega arith);
+        no_program = λ e. absurd (omega arith);
+        trapped = λ e. absurd (omega arith);
+        spent = λ e. absurd (omega arith);
         memory = λ e. refl;
         too_long = λ e. absurd (omega arith);
       }
@@ -315,6 +425,13 @@ module _ (shelf shelf' : ShelfView) (console console' : ConsoleView) (status : �
       by (Err u) h = h
   keeps_name (compile source game) texts leaves = kept_as game canon (compiled_from source texts.main) leaves
   keeps_name (decompile game source) texts leaves = kept_as source plain (database_of_file game texts.main) leaves
+  keeps_name (run name source steps width) texts leaves = by (program_of_file width name texts.main) (draws_from source texts.draws) leaves
+    where
+      by : (read : Result (List DirectiveTree) Unfit) (listed : Result (List ℕ) Unfit)
+          → Leaves shelf shelf' (refusing (read >>= λ p. listed >>= λ draws. Ok (running width p draws steps))) status → shelf'.files ≡ shelf.files
+      by (Ok p) (Ok draws) h = h
+      by (Ok p) (Err u) h = h
+      by (Err u) listed h = h
   keeps_name (play game source style) texts leaves = by (database_of_file game texts.main) (draws_from source texts.draws) leaves
     where
       by : (read : Result Database Unfit) (listed : Result (List ℕ) Unfit)
@@ -335,7 +452,7 @@ module _ (shelf shelf' : ShelfView) (console console' : ConsoleView) (status : �
         status_is = record { known = known_worked request texts there obeys answered; cause = worked_cause request texts there obeys laws answered; first = stands };
         seen = record { all = worked_seen request texts there obeys; usage = λ e. absurd cc; silent = obeys.silent; lines = obeys.lines };
         files = keeps_name request texts obeys.files;
-        complete = complete_from shelf shelf' console console' status laws (Some request) stands;
+        complete = complete_from shelf shelf' console console' status laws (Some request) stands (worked_seen request texts there obeys);
         checked = λ zero game e.
             let is : request ≡ check game = cc in
             known_both (check game) texts (subst P is there) (subst Q is obeys) (λ files lines. Checked files game console console') zero
@@ -354,5 +471,13 @@ module _ (shelf shelf' : ShelfView) (console console' : ConsoleView) (status : �
             let is : request ≡ play game source style = cc in
             known_both (play game source style) texts (subst P is there) (subst Q is obeys) (λ files lines. Played files lines game source style console console') zero
             (λ files lines f d. played_by laws game source style texts files lines f d.0 d.1 d.2 d.3 d.4);
+        ran = λ end name source steps width e.
+            let is : request ≡ run name source steps width = cc in
+            let O : Request → Type 0 = λ r. IfSome console.left (λ lines. Answers shelf shelf' console console' lines (refusing (work r texts)) status) in
+            from_files shelf.files (λ files. texts_of files request ≡ Ok texts) (λ files. IfSome console.left (λ lines. Ran files lines name source steps width console console' status))
+            (λ files f. from_lines console.left (λ lines. Answers shelf shelf' console console' lines (refusing (work (run name source steps width) texts)) status)
+            (λ lines. Ran files lines name source steps width console console' status)
+            (λ lines h. ran_by laws name source steps width texts files lines (subst (λ (r : Request). texts_of files r ≡ Ok texts) is f) h end)
+            (subst O is obeys.answered)) there;
         counts = record { shelf_later = obeys.shelf_later; console_later = obeys.later; steady = obeys.steady };
       }

@@ -7,13 +7,20 @@ use Rattle.adv_io.specs.Faults.{Rose}
 use Rattle.adv_io.specs.Shelf.{Files, ShelfView, Lacks}
 use Rattle.scott_format.specs.Faults.{Fault}
 use Rattle.scott_format.specs.File.{DatText, DatFault}
-use Rattle.scott_requests.specs.Request.{Request, check, compile, decompile, play}
+use Rattle.scott_requests.specs.Settings.{DrawSource}
+use Rattle.scott_requests.specs.Request.{Request, check, compile, decompile, play, run}
 use Rattle.scott_types.specs.Database.{Database}
 use Rattle.adv_compiler.specs.Meaning.{meant}
 use Rattle.source_reader.specs.Text.{SourceText}
 use Rattle.source_reader.specs.declared.tree.Source.{Source}
 use Rattle.scott_tool.specs.Compile.{IsNoSource}
-use Rattle.scott_tool.specs.Loading.{Load, main_of, draws_of, IsLoad, database_load, source_load, draws_load}
+use Rattle.scott_tool.specs.Play.{DrawsAre}
+use Rattle.scott_tool.specs.Run.{stop_after, stop_status}
+use Rattle.inform_tree.specs.declared.widths.Width.{Width}
+use Rattle.inform_tree.specs.Programs.{DirectiveTree}
+use Rattle.inform_reader.specs.Reading.{IsProgram, IsFaulty}
+use Rattle.inform_reader.specs.Reading as program
+use Rattle.scott_tool.specs.Loading.{Load, main_of, draws_of, IsLoad, database_load, source_load, draws_load, program_load}
 
 -- one of the files that the request loads has this
 abbrev pub OneLoaded : Option Request → (Load → Type 0) → Type 0
@@ -29,6 +36,18 @@ MainHas files (Some request) P = (load : Load) × (bytes : List ℕ) × (main_of
 abbrev pub SourceHas : Files → Option Request → (List ℕ → Type 0) → Type 0
 SourceHas files (Some (compile source game)) P = (bytes : List ℕ) × (get files source ≡ Some bytes) × P bytes
 SourceHas files _ P = ⊥
+
+-- the file that the request runs is there, and its bytes have no program that is accepted where words have the request's width
+abbrev pub HasNoProgram : Files → Option Request → Type 0
+HasNoProgram files (Some (run name source steps width)) = (bytes : List ℕ) × (fault : program.Fault) × (get files name ≡ Some bytes) × IsFaulty width bytes fault
+HasNoProgram files _ = ⊥
+
+-- the run of the request, with these lines, ends with this status
+abbrev pub RunEnds : Files → List (List ℕ) → Option Request → ℕ → Type 0
+RunEnds files lines (Some (run name source steps width)) status =
+    (bytes : List ℕ) × (p : List DirectiveTree) × (draws : List ℕ) × (get files name ≡ Some bytes) × IsProgram width bytes p
+    × DrawsAre files source draws × (stop_status (stop_after width p steps lines draws) ≡ status)
+RunEnds files lines _ status = ⊥
 
 -- the file of draws that the request loads is there, and its bytes have this
 abbrev pub DrawsHave : Files → Option Request → (List ℕ → Type 0) → Type 0
@@ -46,7 +65,10 @@ pub record HasCause (shelf shelf' : ShelfView) (console console' : ConsoleView) 
   pub unsaid : status ≡ 3 → Rose console.faults console'.faults
   pub no_database : status ≡ 4 → IfSome shelf.files (λ files. MainHas files asked (λ bytes. (fault : Fault) × DatFault bytes fault))
   pub no_source_or_draws : status ≡ 5 → IfSome shelf.files (λ files. SourceHas files asked IsNoSource ⊎ DrawsHave files asked (λ bytes. (at : ℕ) × (listed_draws bytes ≡ Err at)))
+  pub no_program : status ≡ 6 → IfSome shelf.files (λ files. HasNoProgram files asked)
+  pub trapped : status ≡ 8 → IfSome shelf.files (λ files. IfSome console.left (λ lines. RunEnds files lines asked 8))
   pub memory : status ≡ 9 → IsSome asked
+  pub spent : status ≡ 10 → IfSome shelf.files (λ files. IfSome console.left (λ lines. RunEnds files lines asked 10))
   pub too_long : status ≡ 11 → IfSome shelf.files (λ files. OneLoaded asked (IsTooLong files))
 
 -- ---- what is accepted
@@ -63,15 +85,22 @@ abbrev pub IsSource : Files → List ℕ → Type 0
 IsSource files name =
     (bytes : List ℕ) × (tree : Source) × (db : Database) × IsLoadable files (source_load name) bytes × SourceText bytes tree × (meant tree ≡ Ok db)
 
+-- a text of an accepted program, whose run with these lines and draws neither traps nor wants more steps
+abbrev pub IsRun : Files → Option (List (List ℕ)) → List ℕ → DrawSource → ℕ → Width → Type 0
+IsRun files left name source steps width =
+    (bytes : List ℕ) × (p : List DirectiveTree) × (draws : List ℕ) × (lines : List (List ℕ)) × IsLoadable files (program_load name) bytes
+    × IsProgram width bytes p × DrawsAre files source draws × (left ≡ Some lines) × (stop_status (stop_after width p steps lines draws) ≡ 0)
+
 -- the draws are given by a seed, or listed by a file
 abbrev pub HasDraws : Files → Option Load → Type 0
 HasDraws files None = Unit {0}
 HasDraws files (Some load) = (bytes : List ℕ) × (draws : List ℕ) × IsLoadable files load bytes × (listed_draws bytes ≡ Ok draws)
 
--- each file of a request is there, within its limit, and what it should be
-abbrev pub IsAccepted : Files → Option Request → Type 0
-IsAccepted files None = ⊥
-IsAccepted files (Some (check game)) = IsGame files game
-IsAccepted files (Some (compile source game)) = IsSource files source
-IsAccepted files (Some (decompile game source)) = IsGame files game
-IsAccepted files (Some (play game source style)) = IsGame files game × HasDraws files (draws_load source)
+-- each file of a request is there, within its limit, and what it should be; and a run ends with 0
+abbrev pub IsAccepted : Files → Option (List (List ℕ)) → Option Request → Type 0
+IsAccepted files left None = ⊥
+IsAccepted files left (Some (check game)) = IsGame files game
+IsAccepted files left (Some (compile source game)) = IsSource files source
+IsAccepted files left (Some (decompile game source)) = IsGame files game
+IsAccepted files left (Some (play game source style)) = IsGame files game × HasDraws files (draws_load source)
+IsAccepted files left (Some (run name source steps width)) = IsRun files left name source steps width × HasDraws files (draws_load source)

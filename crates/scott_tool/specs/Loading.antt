@@ -4,7 +4,8 @@ use Rattle.std.specs.FinMap.{get}
 use Rattle.adv_io.specs.Shelf.{Files}
 use Rattle.scott_format.specs.declared.reading.TheConstants.{DATABASE_LIMIT}
 use Rattle.scott_requests.specs.Settings.{DrawSource, listed, seeded}
-use Rattle.scott_requests.specs.Request.{Request, check, compile, decompile, play}
+use Rattle.scott_requests.specs.Request.{Request, check, compile, decompile, play, run}
+use Rattle.inform_reader.specs.declared.reading.TheConstants.{PROGRAM_LIMIT}
 use Rattle.scott_tool.specs.declared.loads.TheConstants.{SOURCE_LIMIT, DRAWS_LIMIT}
 use Rattle.scott_tool.specs.Steps.{◌>>=◌}
 use Rattle.scott_tool.specs.Refusal.{Refusal, unread, too_long}
@@ -20,6 +21,9 @@ database_load name = record { name = name; limit = DATABASE_LIMIT }
 abbrev pub source_load : List ℕ → Load
 source_load name = record { name = name; limit = SOURCE_LIMIT }
 
+abbrev pub program_load : List ℕ → Load
+program_load name = record { name = name; limit = PROGRAM_LIMIT }
+
 abbrev pub draws_load : DrawSource → Option Load
 draws_load (listed name) = Some (record { name = name; limit = DRAWS_LIMIT })
 draws_load (seeded seed) = None
@@ -31,12 +35,14 @@ main_of (check game) = Some (database_load game)
 main_of (compile source game) = Some (source_load source)
 main_of (decompile game source) = Some (database_load game)
 main_of (play game source style) = Some (database_load game)
+main_of (run program source steps width) = Some (program_load program)
 
 abbrev pub draws_of : Request → Option Load
 draws_of (check game) = None
 draws_of (compile source game) = None
 draws_of (decompile game source) = None
 draws_of (play game source style) = draws_load source
+draws_of (run program source steps width) = draws_load source
 
 -- the name of the file that a request stores
 abbrev pub stores : Request → Option (List ℕ)
@@ -44,6 +50,7 @@ stores (check game) = None
 stores (compile source game) = Some game
 stores (decompile game source) = Some source
 stores (play game source style) = None
+stores (run program source steps width) = None
 
 -- one of the files that a request loads
 abbrev pub IsLoad : Request → Load → Type 0

@@ -12,7 +12,7 @@ use Rattle.scott_tool.specs.declared.refusals.Refusal.{Refusal as HeldRefusal}
 use Rattle.scott_tool.specs.Refusal.{Refusal, Unfit, no_request, unread, too_long, unfit, unwritten, refusing}
 use Rattle.scott_tool.specs.Outcome.{Outcome, done, refused, Concludes, Silent, Loses, Ends}
 use Rattle.scott_tool.specs.Loading.{Load, Texts, main_of, IsLoad, texts_of}
-use Rattle.scott_tool.specs.Work.{Task, reporting, storing, playing, Does, work, statuses_of, IsExpected}
+use Rattle.scott_tool.specs.Work.{Task, reporting, storing, playing, running, Does, work, statuses_of, IsExpected}
 use Rattle.scott_tool.specs.Views.{refusal_of}
 
 -- ---- outcomes
@@ -37,18 +37,27 @@ abbrev pub Leaves : (shelf shelf' : ShelfView) → Result Task Refusal → (stat
 Leaves shelf shelf' (Ok (reporting db)) status = shelf'.files ≡ shelf.files
 Leaves shelf shelf' (Ok (storing name bytes)) status = Keeps shelf shelf' name bytes status
 Leaves shelf shelf' (Ok (playing style db draws)) status = shelf'.files ≡ shelf.files
+Leaves shelf shelf' (Ok (running width p draws steps)) status = shelf'.files ≡ shelf.files
 Leaves shelf shelf' (Err refusal) status = shelf'.files ≡ shelf.files
+
+-- only what is done, is a run that ends otherwise, or fails at the console, may take a line
+abbrev pub MayTake : (status : ℕ) → Type 0
+MayTake status = (status ≡ 0) ⊎ (status ≡ 3) ⊎ (status ≡ 8) ⊎ (status ≡ 10)
+
+-- the statuses with which nothing outside failed
+abbrev pub IsSteady : (status : ℕ) → Type 0
+IsSteady status = (status ≡ 0) ⊎ (status ≡ 8) ⊎ (status ≡ 9) ⊎ (status ≡ 10)
 
 -- what a call promises that does what is expected
 pub record Obeys (shelf shelf' : ShelfView) (old new : ConsoleView) (expected : Result Task Refusal) (status : ℕ) : Type 0 where
   pub answered : IfSome old.left (λ lines. Answers shelf shelf' old new lines expected status)
   pub stands : Stands (Rose shelf.faults shelf'.faults) (Rose old.faults new.faults) (statuses_of expected) status
   pub silent : status ≡ 9 → new.history ≡ old.history
-  pub lines : (status ≡ 0) ⊎ (status ≡ 3) ⊎ (new.left ≡ old.left)
+  pub lines : MayTake status ⊎ (new.left ≡ old.left)
   pub files : Leaves shelf shelf' expected status
   pub shelf_later : shelf.faults ≤ shelf'.faults
   pub later : old.faults ≤ new.faults
-  pub steady : (status ≡ 0) ⊎ (status ≡ 9) → (shelf'.faults ≡ shelf.faults) × (new.faults ≡ old.faults)
+  pub steady : IsSteady status → (shelf'.faults ≡ shelf.faults) × (new.faults ≡ old.faults)
 
 -- the same of a call that has no shelf
 abbrev pub ObeysAlone : (old new : ConsoleView) → Result Task Refusal → (status : ℕ) → Type 0

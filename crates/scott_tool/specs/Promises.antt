@@ -4,18 +4,20 @@ use Rattle.adv_io.specs.Console.{ConsoleView}
 use Rattle.adv_io.specs.Faults.{Rose}
 use Rattle.adv_io.specs.Shelf.{Files, ShelfView, with_file}
 use Rattle.scott_requests.specs.Settings.{DrawSource}
+use Rattle.scott_requests.specs.Request.{Request, check, compile, decompile, play, run}
 use Rattle.scott_types.specs.declared.styles.Style.{Style}
-use Rattle.scott_requests.specs.Request.{Request, check, compile, decompile, play}
 use Rattle.scott_tool.specs.Refusal.{no_request, unread}
 use Rattle.scott_tool.specs.Outcome.{statuses, refused, Concludes, Loses}
 use Rattle.scott_tool.specs.Loading.{stores}
 use Rattle.scott_tool.specs.Work.{expected, statuses_of}
-use Rattle.scott_tool.specs.Obeying.{Stands, Answers}
+use Rattle.scott_tool.specs.Obeying.{Stands, Answers, MayTake, IsSteady}
 use Rattle.scott_tool.specs.Causes.{OneLoaded, HasCause, IsAccepted}
 use Rattle.scott_tool.specs.Check.{Checked}
 use Rattle.scott_tool.specs.Compile.{Compiled}
 use Rattle.scott_tool.specs.Decompile.{Decompiled}
 use Rattle.scott_tool.specs.Play.{Played}
+use Rattle.scott_tool.specs.Run.{Ran}
+use Rattle.inform_tree.specs.declared.widths.Width.{Width}
 
 -- where the files and the lines are known, this holds of both
 abbrev pub IfKnown : ShelfView → ConsoleView → (Files → List (List ℕ) → Type 0) → Type 0
@@ -27,7 +29,7 @@ IfKnown shelf console P = IfSome shelf.files (λ files. IfSome console.left (P f
 abbrev pub IsOneOf : (shelf shelf' : ShelfView) → (console console' : ConsoleView) → List ℕ → (status : ℕ) → Type 0
 IsOneOf shelf shelf' console console' wanted status = Stands (Rose shelf.faults shelf'.faults) (Rose console.faults console'.faults) wanted status
 
--- There are eight statuses, each comes only with its cause, and it is the expected one: that of the first refusal in the order of the
+-- There are eleven statuses, each comes only with its cause, and it is the expected one: that of the first refusal in the order of the
 -- steps, or of what is done.
 pub record HasStatus (shelf shelf' : ShelfView) (console console' : ConsoleView) (asked : Option Request) (status : ℕ) : Type 0 where
   pub known : Contains statuses status
@@ -37,7 +39,7 @@ pub record HasStatus (shelf shelf' : ShelfView) (console console' : ConsoleView)
 -- where all files are there and accepted, it is 0
 abbrev pub Completes : (shelf shelf' : ShelfView) → (console console' : ConsoleView) → Option Request → (status : ℕ) → Type 0
 Completes shelf shelf' console console' asked status =
-    IfSome shelf.files (λ files. IsAccepted files asked → IsOneOf shelf shelf' console console' (0 ∷ []) status)
+    IfSome shelf.files (λ files. IsAccepted files console.left asked → IsOneOf shelf shelf' console console' (0 ∷ []) status)
 
 -- ---- what is seen
 
@@ -46,13 +48,13 @@ abbrev pub SaysUnread : (shelf shelf' : ShelfView) → (console console' : Conso
 SaysUnread shelf shelf' console console' asked status =
     Rose shelf.faults shelf'.faults × OneLoaded asked (λ load. Concludes console console' (refused (unread load.name)) status)
 
--- It is what is expected, or a prefix of it where the console failed. With 9 it is nothing, and only what is done, or fails at the
--- console, may take a line.
+-- It is what is expected, or a prefix of it where the console failed. With 9 it is nothing, and only what is done, is a
+-- run that ends otherwise, or fails at the console, may take a line.
 pub record IsSeen (shelf shelf' : ShelfView) (console console' : ConsoleView) (asked : Option Request) (status : ℕ) : Type 0 where
   pub all : IfKnown shelf console (λ files lines. Answers shelf shelf' console console' lines (expected files asked) status ⊎ SaysUnread shelf shelf' console console' asked status)
   pub usage : asked ≡ None → Concludes console console' (refused no_request) status
   pub silent : status ≡ 9 → console'.history ≡ console.history
-  pub lines : (status ≡ 0) ⊎ (status ≡ 3) ⊎ (console'.left ≡ console.left)
+  pub lines : MayTake status ⊎ (console'.left ≡ console.left)
 
 -- ---- the files
 
@@ -86,10 +88,16 @@ HasPlayed shelf console console' asked =
     (game : List ℕ) (source : DrawSource) (style : Style) → asked ≡ Some (play game source style)
     → IfKnown shelf console (λ files lines. Played files lines game source style console console')
 
+-- with 0, and with the statuses of a run that ends otherwise
+abbrev pub HasRun : ShelfView → (console console' : ConsoleView) → Option Request → (status : ℕ) → Type 0
+HasRun shelf console console' asked status =
+    (name : List ℕ) (source : DrawSource) (steps : ℕ) (width : Width) → asked ≡ Some (run name source steps width)
+    → IfKnown shelf console (λ files lines. Ran files lines name source steps width console console' status)
+
 -- ---- counts of faults
 
--- none falls, and with 0 and 9 none rose
+-- none falls, and with 0, 8, 9 and 10 none rose
 pub record Counts (shelf shelf' : ShelfView) (console console' : ConsoleView) (status : ℕ) : Type 0 where
   pub shelf_later : shelf.faults ≤ shelf'.faults
   pub console_later : console.faults ≤ console'.faults
-  pub steady : (status ≡ 0) ⊎ (status ≡ 9) → (shelf'.faults ≡ shelf.faults) × (console'.faults ≡ console.faults)
+  pub steady : IsSteady status → (shelf'.faults ≡ shelf.faults) × (console'.faults ≡ console.faults)

@@ -4,9 +4,10 @@ use Rattle.std.specs.List.{flat_map}
 use Rattle.adv_compiler.specs.FaultTexts as compiler
 use Rattle.adv_draws.specs.Texts as draws
 use Rattle.scott_format.specs.FaultTexts as format
+use Rattle.inform_reader.specs.FaultTexts as program
 use Rattle.source_reader.specs.FaultTexts as source
 use Rattle.scott_tool.specs.declared.refusals.ContentFault.{ContentFault}
-use Rattle.scott_tool.specs.declared.refusals.ContentFault.TheVariants.{NoDatabase, NoSource, NoMeaning, NoDraws}
+use Rattle.scott_tool.specs.declared.refusals.ContentFault.TheVariants.{NoDatabase, NoSource, NoMeaning, NoDraws, NoProgram}
 
 -- the content of the file of this name has a fault
 pub record Unfit : Type 0 where
@@ -33,6 +34,7 @@ content_status (NoDatabase fault) = 4
 content_status (NoSource fault) = 5
 content_status (NoMeaning fault) = 5
 content_status (NoDraws fault) = 5
+content_status (NoProgram fault) = 6
 
 abbrev pub status_of : Refusal → ℕ
 status_of no_request = 1
@@ -45,7 +47,7 @@ status_of (unwritten name) = 2
 
 -- how the program is called
 unfoldable pub usage : List ℕ
-usage = codes "usage: scott check F | compile S F | decompile F S | play F\n"
+usage = codes "usage: scott check F | compile S F | decompile F S | play F | run G\n"
 
 unfoldable pub cannot_read : List ℕ
 cannot_read = codes "cannot read "
@@ -70,6 +72,7 @@ content_pieces (NoDatabase fault) = format.fault_pieces fault
 content_pieces (NoSource fault) = source.fault_pieces fault
 content_pieces (NoMeaning fault) = compiler.fault_pieces fault
 content_pieces (NoDraws fault) = draws.fault_pieces fault
+content_pieces (NoProgram fault) = program.fault_pieces fault
 
 abbrev pub whole : List (List ℕ) → List ℕ
 whole pieces = flat_map (λ piece. piece) pieces

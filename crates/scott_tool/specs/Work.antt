@@ -5,7 +5,7 @@ use Rattle.adv_decompiler.specs.Plain.{plain}
 use Rattle.adv_io.specs.History.{says, shown}
 use Rattle.adv_io.specs.Shelf.{Files}
 use Rattle.scott_format.specs.Canon.{canon}
-use Rattle.scott_requests.specs.Request.{Request, check, compile, decompile, play}
+use Rattle.scott_requests.specs.Request.{Request, check, compile, decompile, play, run}
 use Rattle.scott_rules.specs.Play as rules
 use Rattle.adv_io.specs.Steps.{trace_of}
 use Rattle.scott_types.specs.declared.styles.Style.{Style}
@@ -18,25 +18,31 @@ use Rattle.scott_tool.specs.Loading.{Texts, texts_of}
 use Rattle.scott_tool.specs.Check.{database_of_file}
 use Rattle.scott_tool.specs.Compile.{compiled_from}
 use Rattle.scott_tool.specs.Play.{draws_from}
+use Rattle.scott_tool.specs.Run.{program_of_file, ran, run_outcome}
+use Rattle.inform_tree.specs.declared.widths.Width.{Width}
+use Rattle.inform_tree.specs.Programs.{DirectiveTree}
 
--- a database is to be reported on, bytes are to be stored under a name, or a database is to be played in this
--- style with these draws
+-- a database is to be reported on, bytes are to be stored under a name, a database is to be played in this style with these draws,
+-- or a program to be run with these draws for so many steps at most, with words of this width
 pub data Task : Type 0 where
   reporting : Database → Task
   storing : List ℕ → List ℕ → Task
   playing : Style → Database → List ℕ → Task
+  running : Width → List DirectiveTree → List ℕ → ℕ → Task
 
 -- what a task does, by the lines that are left
 abbrev pub Does : Task → List (List ℕ) → Outcome → Type 0
 Does (reporting db) lines o = o ≡ done (says (report_text db))
 Does (storing name bytes) lines o = o ≡ keeping name bytes
 Does (playing style db draws) lines o = o ≡ done (shown (trace_of (rules.play (in_style style db) lines draws).events))
+Does (running width p draws steps) lines o = o ≡ run_outcome p (ran width p steps lines draws)
 
 -- the statuses with which it can end
 abbrev pub task_statuses : Task → List ℕ
 task_statuses (reporting db) = 0 ∷ []
 task_statuses (storing name bytes) = 0 ∷ []
 task_statuses (playing style db draws) = 0 ∷ []
+task_statuses (running width p draws steps) = 0 ∷ 8 ∷ 10 ∷ []
 
 -- The task of a request, by what was loaded; or the first content that is refused, the database before the draws.
 abbrev pub work : Request → Texts → Result Task Unfit
@@ -53,6 +59,10 @@ work (play game source style) texts = do
   db ← database_of_file game texts.main
   draws ← draws_from source texts.draws
   Ok (playing style db draws)
+work (run program source steps width) texts = do
+  p ← program_of_file width program texts.main
+  draws ← draws_from source texts.draws
+  Ok (running width p draws steps)
 
 -- ---- what is expected of the words, by the files that there are
 

@@ -9,6 +9,7 @@ mod check;
 mod compile;
 mod decompile;
 mod play;
+mod run;
 mod saying;
 mod storing;
 
@@ -18,6 +19,7 @@ use check::check;
 use compile::compile;
 use decompile::decompile;
 use play::play;
+use run::run;
 use scott_requests::Request;
 use std::alloc::Global;
 
@@ -38,5 +40,8 @@ pub fn work<S: Shelf, C: Console>(
         Request::Compile(source, game) => compile(alloc, source, game, texts, shelf, console),
         Request::Decompile(game, source) => decompile(alloc, game, source, texts, shelf, console),
         Request::Play(game, source, style) => play(alloc, game, source, style, texts, console),
+        Request::Run(program, source, steps, width) => {
+            run(alloc, program, source, steps, width, texts, console)
+        }
     }
 }

@@ -8,12 +8,17 @@ ghost use Rattle.source_reader.specs.WellFormed.{WellFormed};
 ghost use Rattle.scott_tool.specs.Check.{database_of_file};
 ghost use Rattle.scott_tool.specs.Compile.{source_or_unfit, meaning_or_unfit, compiled_from};
 ghost use Rattle.scott_tool.specs.Play.{draws_or_unfit, draws_from};
+ghost use Rattle.scott_tool.specs.Run.{program_of_file};
+ghost use Rattle.inform_names.specs.Views.{directives_of};
 ghost use Rattle.scott_tool.specs.Views.{refusal_of};
 ghost use Rattle.scott_tool.specs.Obeying.{Gives, database_refusal};
 
 use crate::refusals::{ContentFault, Refusal};
 use adv_compiler::{CompileFault, compile};
 use adv_draws::{DrawFault, Draws};
+use inform_names::Accepted;
+use inform_reader::{ProgramFault, read_program};
+use inform_tree::Width;
 use scott_format::{DATABASE_LIMIT, FormatFault, read_db};
 use scott_requests::DrawSource;
 use scott_types::Db;
@@ -102,5 +107,23 @@ pub fn draws_from<'a>(
     match source {
         DrawSource::Listed(name) => listed(alloc, name, bytes),
         DrawSource::Seeded(seed) => Ok(Draws::seeded(seed)),
+    }
+}
+
+/// The program of a file's bytes, if it is accepted where words have this width.
+#[tactic(auto, using(crate::proofs::Programs::declined))]
+pub fn program<'a>(
+    alloc: Global,
+    name: &'a str,
+    width: Width,
+    bytes: &[u8],
+) -> Result<Accepted, Refusal<'a>>
+    ensures width { IfOk result (λ accepted. accepted.width ≡ width) }
+    ensures given { Gives directives_of result (program_of_file width name.now bytes.now) }
+{
+    match read_program(alloc, bytes, width) {
+        Ok(accepted) => Ok(accepted),
+        Err(ProgramFault::Memory) => Err(Refusal::Memory),
+        Err(fault) => Err(Refusal::Unfit(name, ContentFault::NoProgram(fault))),
     }
 }

@@ -2,12 +2,13 @@
 ghost use Rattle.std.specs.Prelude.{◌≡◌, ◌≤◌, [], length, option_map, IfOk, IfSome};
 ghost use Rattle.adv_io.specs.Shelf.{Files};
 ghost use Rattle.scott_requests.specs.Views.{request_of, source_of};
-ghost use Rattle.scott_tool.specs.Loading.{database_load, source_load, main_of, draws_of, draws_load, IsLoad, loaded, texts_of};
+ghost use Rattle.scott_tool.specs.Loading.{database_load, source_load, program_load, main_of, draws_of, draws_load, IsLoad, loaded, texts_of};
 ghost use Rattle.scott_tool.specs.Views.{load_of, texts_in};
 ghost use Rattle.scott_tool.specs.Obeying.{Fetches, MainFits};
 
 use crate::refusals::Refusal;
 use adv_io::{Shelf, ShelfFault};
+use inform_reader::PROGRAM_LIMIT;
 use scott_format::DATABASE_LIMIT;
 use scott_requests::{DrawSource, Request};
 use std::alloc::Global;
@@ -50,6 +51,15 @@ fn source_load(name: &str) -> Load<'_>
     }
 }
 
+fn program_load(name: &str) -> Load<'_>
+    ensures { load_of result ≡ program_load name.now }
+{
+    Load {
+        name,
+        limit: PROGRAM_LIMIT,
+    }
+}
+
 fn draws_load(source: DrawSource<'_>) -> Option<Load<'_>>
     ensures { option_map load_of result ≡ draws_load (source_of source.entry) }
 {
@@ -71,6 +81,7 @@ fn main_of(request: Request<'_>) -> Option<Load<'_>>
         Request::Compile(source, _) => Some(source_load(source)),
         Request::Decompile(game, _) => Some(database_load(game)),
         Request::Play(game, _, _) => Some(database_load(game)),
+        Request::Run(program, _, _, _) => Some(program_load(program)),
     }
 }
 
@@ -83,6 +94,7 @@ fn draws_of(request: Request<'_>) -> Option<Load<'_>>
         Request::Compile(_, _) => None,
         Request::Decompile(_, _) => None,
         Request::Play(_, source, _) => draws_load(source),
+        Request::Run(_, source, _, _) => draws_load(source),
     }
 }
 

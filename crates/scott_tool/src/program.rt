@@ -1,14 +1,15 @@
 //! The program's one call.
-ghost use Rattle.std.specs.Prelude.{◌≡◌, Some};
+ghost use Rattle.std.specs.Prelude.{◌≡◌, ◌⊎◌, Some};
 ghost use Rattle.scott_requests.specs.Request.{asked_by};
 ghost use Rattle.scott_requests.specs.Views.{request_of};
 ghost use Rattle.scott_tool.specs.Obeying.{Handled};
-ghost use Rattle.scott_tool.specs.Promises.{HasStatus, IsSeen, KeepsFiles, Completes, HasChecked, HasCompiled, HasDecompiled, HasPlayed, Counts};
+ghost use Rattle.scott_tool.specs.Promises.{HasStatus, IsSeen, KeepsFiles, Completes, HasChecked, HasCompiled, HasDecompiled, HasPlayed, HasRun, Counts};
 
 use crate::commands::work;
 use crate::loads::load_texts;
 use crate::refusals::Refusal;
 use adv_io::{Console, Shelf};
+use inform_reader::laws::{fault_in as program_fault_in, program_in};
 use scott_format::laws::{database_in, fault_in};
 use scott_requests::{Request, request_in};
 use source_reader::laws::{fault_in as source_fault_in, source_in};
@@ -88,7 +89,11 @@ pub fn scott<S: Shelf, C: Console>(
     ensures played { result ≡ 0 → HasPlayed (S.seen shelf.old)
         (C.seen console.old) (C.seen console.new) (asked_by words.now) }
 
-    // No count of faults falls, and with 0 and 9 none rose.
+    // With 0, 8 and 10 `run` has shown the run of the file's program, and then its line.
+    ensures ran { (result ≡ 0) ⊎ (result ≡ 8) ⊎ (result ≡ 10) → HasRun (S.seen shelf.old)
+        (C.seen console.old) (C.seen console.new) (asked_by words.now) result }
+
+    // No count of faults falls, and with 0, 8, 9 and 10 none rose.
     ensures counts { Counts (S.seen shelf.old) (S.seen shelf.new)
         (C.seen console.old) (C.seen console.new) result }
 {
@@ -96,5 +101,7 @@ pub fn scott<S: Shelf, C: Console>(
     fault_in();
     source_in();
     source_fault_in();
+    program_in();
+    program_fault_in();
     handle(alloc, words, shelf, console)
 }

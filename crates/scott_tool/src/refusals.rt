@@ -1,25 +1,27 @@
 //! Why a request isn't done: its status, and the line that is said of it.
-ghost use Rattle.std.specs.Prelude.{◌≡◌, ◌≤◌, MatchResult};
+ghost use Rattle.std.specs.Prelude.{◌≡◌, ◌≤◌, [], ◌∷◌, ◌++◌, map, MatchResult};
 ghost use Rattle.adv_io.specs.History.{says};
 ghost use Rattle.adv_io.specs.Console.{Speaks};
-ghost use Rattle.scott_tool.specs.declared.refusals.ContentFault.TheVariants.{NoDatabase, NoSource, NoMeaning, NoDraws};
-ghost use Rattle.scott_tool.specs.Refusal.{no_request, unread, too_long, unfit, unwritten, content_status, usage, cannot_read, cannot_write, after_name, longer_than, bytes_end, line_end, line_of};
+ghost use Rattle.scott_tool.specs.declared.refusals.ContentFault.TheVariants.{NoDatabase, NoSource, NoMeaning, NoDraws, NoProgram};
+ghost use Rattle.scott_tool.specs.Refusal.{no_request, unread, too_long, unfit, unwritten, content_status, whole, usage, cannot_read, cannot_write, after_name, longer_than, bytes_end, line_end, line_of};
 
 use adv_compiler::CompileFault;
 use adv_draws::DrawFault;
 use adv_io::{Console, ConsoleFault, say_all};
+use inform_reader::ProgramFault;
 use itoa::Buffer;
 use scott_format::FormatFault;
 use source_reader::SourceFault;
 
 /// What is wrong with the content of a file: it is no database, no source, a source that means no
-/// database, or no list of draws. `Memory` is no fault of a content.
-#[derive(Clone, Copy, Debug, PartialEq, Eq)]
+/// database, no list of draws, or no Inform program that is accepted. `Memory` is no fault of a content.
+#[derive(Drop)]
 pub enum ContentFault {
     NoDatabase(FormatFault),
     NoSource(SourceFault),
     NoMeaning(CompileFault),
     NoDraws(DrawFault),
+    NoProgram(ProgramFault),
 }
 
 /// Why a request isn't done.
@@ -30,7 +32,7 @@ pub enum ContentFault {
 /// - `Unfit`: the content of the file of this name has a fault.
 /// - `Unwritten`: the shelf failed as it stored the file of this name.
 /// - `Memory`: memory ran out. Nothing is said of it.
-#[derive(Clone, Copy, Debug, PartialEq, Eq)]
+#[derive(Drop)]
 pub enum Refusal<'a> {
     NoRequest,
     Unread(&'a str),
@@ -45,7 +47,7 @@ pub enum Refusal<'a> {
 fn usage<'a>() -> &'a [u8]
     ensures { result.now ≡ usage }
 {
-    b"usage: scott check F | compile S F | decompile F S | play F\n"
+    b"usage: scott check F | compile S F | decompile F S | play F | run G\n"
 }
 
 #[tactic(auto, unfolding(crate::specs::Refusal::cannot_read))]
@@ -202,6 +204,42 @@ fn say_no_draws<C: Console>(
     )
 }
 
+// Says a file's name, and what is wrong with its program in these pieces.
+fn say_pieces<C: Console>(
+    name: &str,
+    pieces: [&[u8]; 3],
+    console: &mut C,
+) -> Result<(), ConsoleFault>
+    ensures { Speaks (C.seen console.old) (C.seen console.new) result
+        (says (whole (name.now ∷ after_name ∷ (map (λ piece. piece.now) pieces.entry
+        ++ (line_end ∷ []))))) }
+{
+    let [opening, subject, ending] = pieces;
+    say_all(
+        console,
+        &[
+            name.as_bytes(),
+            after_name(),
+            opening,
+            subject,
+            ending,
+            line_end(),
+        ],
+    )
+}
+
+fn say_no_program<C: Console>(
+    name: &str,
+    fault: &ProgramFault,
+    console: &mut C,
+) -> Result<(), ConsoleFault>
+    ensures { Speaks (C.seen console.old) (C.seen console.new) result
+        (says (line_of (unfit (record { name = name.now; fault = NoProgram fault.now })))) }
+{
+    let mut digits = Buffer::new();
+    say_pieces(name, fault.pieces(&mut digits), console)
+}
+
 /// The status after something that was said: this one, or 3 where the console failed.
 pub fn concluded(said: Result<(), ConsoleFault>, status: u8) -> u8
     ensures { MatchResult said (λ _. result ≡ status) (λ _. result ≡ 3) }
@@ -216,27 +254,29 @@ impl ContentFault {
     ghost use Rattle.scott_tool.specs.Refusal.{content_status, unfit, line_of};
 
     // The status of a request that reads such a content.
-    fn status(self) -> u8
-        ensures { result ≡ content_status self }
+    fn status(&self) -> u8
+        ensures { result ≡ content_status self.now }
     {
         match self {
             ContentFault::NoDatabase(_) => 4,
             ContentFault::NoSource(_) => 5,
             ContentFault::NoMeaning(_) => 5,
             ContentFault::NoDraws(_) => 5,
+            ContentFault::NoProgram(_) => 6,
         }
     }
 
     // Says it of the file of this name.
-    fn say<C: Console>(self, name: &str, console: &mut C) -> Result<(), ConsoleFault>
+    fn say<C: Console>(&self, name: &str, console: &mut C) -> Result<(), ConsoleFault>
         ensures { Speaks (C.seen console.old) (C.seen console.new) result
-            (says (line_of (unfit (record { name = name.now; fault = self })))) }
+            (says (line_of (unfit (record { name = name.now; fault = self.now })))) }
     {
         match self {
-            ContentFault::NoDatabase(fault) => say_no_database(name, fault, console),
-            ContentFault::NoSource(fault) => say_no_source(name, fault, console),
-            ContentFault::NoMeaning(fault) => say_no_meaning(name, fault, console),
-            ContentFault::NoDraws(fault) => say_no_draws(name, fault, console),
+            ContentFault::NoDatabase(fault) => say_no_database(name, *fault, console),
+            ContentFault::NoSource(fault) => say_no_source(name, *fault, console),
+            ContentFault::NoMeaning(fault) => say_no_meaning(name, *fault, console),
+            ContentFault::NoDraws(fault) => say_no_draws(name, *fault, console),
+            ContentFault::NoProgram(fault) => say_no_program(name, fault, console),
         }
     }
 }

@@ -8,6 +8,7 @@ mod trying;
 // What is expected, as tables.
 mod plays;
 mod refusals;
+mod runs;
 mod sources;
 
 // The tests.

@@ -2,8 +2,8 @@
 use super::games::T;
 use super::plays::{self, WALK};
 use super::refusals::{self, USAGE};
-use super::sources;
 use super::trying::{Case, File, NOTHING, answer_of, console_of, expect};
+use super::{runs, sources};
 use crate::program::scott;
 use crate::status_without_words;
 use adv_io::MemoryShelf;
@@ -26,6 +26,20 @@ fn commands_are_answered(rt: HostRuntime) -> Result<(), Fail> {
     expect_all(&rt, &plays::ALL)?;
     expect_all(&rt, &refusals::ALL)?;
     expect_all(&rt, &sources::ALL)?;
+    Ok(())
+}
+
+#[test]
+fn runs_are_answered(rt: HostRuntime) -> Result<(), Fail> {
+    expect_all(&rt, &runs::ALL)?;
+    // A byte that is no character of its own.
+    let case = Case {
+        program: File::Bytes(br#"[ Main; print "a~b^@@200"; ];"#),
+        ..runs::DONE
+    };
+    let (status, console, _) = answer_of(rt.alloc(), &case)?;
+    assert_eq!(rt; status, 0);
+    assert_eq!(rt; console.said(), [b'a', b'"', b'b', b'\n', 200].as_slice());
     Ok(())
 }
 

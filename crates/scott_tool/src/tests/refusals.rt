@@ -3,7 +3,7 @@ use super::games::T;
 use super::plays::{ASK, HALL};
 use super::trying::{Case, File, NOTHING};
 
-pub const USAGE: &str = "usage: scott check F | compile S F | decompile F S | play F\n";
+pub const USAGE: &str = "usage: scott check F | compile S F | decompile F S | play F | run G\n";
 
 const UNASKED: Case<'static> = Case {
     status: 1,
@@ -11,8 +11,24 @@ const UNASKED: Case<'static> = Case {
     ..NOTHING
 };
 
-const NO_REQUESTS: [Case<'static>; 8] = [
+const NO_REQUESTS: [Case<'static>; 12] = [
     UNASKED,
+    Case {
+        command: "run",
+        ..UNASKED
+    },
+    Case {
+        command: "run g.inf steps=0",
+        ..UNASKED
+    },
+    Case {
+        command: "run g.inf words=8",
+        ..UNASKED
+    },
+    Case {
+        command: "play t.dat steps=5",
+        ..UNASKED
+    },
     Case {
         command: "play",
         ..UNASKED

@@ -15,13 +15,14 @@ pub enum File<'a> {
     Of(Game<'a>),
 }
 
-/// A command, the files `t.dat`, `t.adv` and `d.txt` before it, and what is expected: its status, what
-/// is said, piece by piece, and files after it.
+/// A command, the files `t.dat`, `t.adv`, `g.inf` and `d.txt` before it, and what is expected: its status,
+/// what is said, piece by piece, and files after it.
 #[derive(Clone, Copy)]
 pub struct Case<'a> {
     pub command: &'a str,
     pub game: File<'a>,
     pub source: File<'a>,
+    pub program: File<'a>,
     pub draws: Option<&'a [u8]>,
     pub lines: &'a [&'a [u8]],
     pub failing_loads: &'a [u64],
@@ -36,6 +37,7 @@ pub const NOTHING: Case<'static> = Case {
     command: "",
     game: File::Absent,
     source: File::Absent,
+    program: File::Absent,
     draws: None,
     lines: &[],
     failing_loads: &[],
@@ -81,6 +83,9 @@ fn shelf_of(alloc: Global, case: &Case<'_>) -> Result<MemoryShelf, Fail> {
     }
     if let Some(bytes) = bytes_of(alloc, &case.source)? {
         let _ = shelf.store(alloc, "t.adv", &bytes);
+    }
+    if let Some(bytes) = bytes_of(alloc, &case.program)? {
+        let _ = shelf.store(alloc, "g.inf", &bytes);
     }
     if let Some(draws) = case.draws {
         let _ = shelf.store(alloc, "d.txt", draws);

@@ -7,6 +7,8 @@ returns-clause-status g c = (promised (record {
   database_fault = c.fault_in.ensures;
   source = c.source_in.ensures;
   source_fault = c.fault_in-2.ensures;
+  program = c.program_in.ensures;
+  program_fault = c.fault_in-3.ensures;
 }) _ _ _ _ _ _ c.handle.ensures).status_is
 
 pub returns-clause-seen : goal.returns-clause-seen
@@ -15,6 +17,8 @@ returns-clause-seen g c = (promised (record {
   database_fault = c.fault_in.ensures;
   source = c.source_in.ensures;
   source_fault = c.fault_in-2.ensures;
+  program = c.program_in.ensures;
+  program_fault = c.fault_in-3.ensures;
 }) _ _ _ _ _ _ c.handle.ensures).seen
 
 pub returns-clause-files : goal.returns-clause-files
@@ -23,6 +27,8 @@ returns-clause-files g c = (promised (record {
   database_fault = c.fault_in.ensures;
   source = c.source_in.ensures;
   source_fault = c.fault_in-2.ensures;
+  program = c.program_in.ensures;
+  program_fault = c.fault_in-3.ensures;
 }) _ _ _ _ _ _ c.handle.ensures).files
 
 pub returns-clause-complete : goal.returns-clause-complete
@@ -31,6 +37,8 @@ returns-clause-complete g c = (promised (record {
   database_fault = c.fault_in.ensures;
   source = c.source_in.ensures;
   source_fault = c.fault_in-2.ensures;
+  program = c.program_in.ensures;
+  program_fault = c.fault_in-3.ensures;
 }) _ _ _ _ _ _ c.handle.ensures).complete
 
 pub returns-clause-checked : goal.returns-clause-checked
@@ -39,6 +47,8 @@ returns-clause-checked g c = (promised (record {
   database_fault = c.fault_in.ensures;
   source = c.source_in.ensures;
   source_fault = c.fault_in-2.ensures;
+  program = c.program_in.ensures;
+  program_fault = c.fault_in-3.ensures;
 }) _ _ _ _ _ _ c.handle.ensures).checked
 
 pub returns-clause-played : goal.returns-clause-played
@@ -47,7 +57,19 @@ returns-clause-played g c = (promised (record {
   database_fault = c.fault_in.ensures;
   source = c.source_in.ensures;
   source_fault = c.fault_in-2.ensures;
+  program = c.program_in.ensures;
+  program_fault = c.fault_in-3.ensures;
 }) _ _ _ _ _ _ c.handle.ensures).played
+
+pub returns-clause-ran : goal.returns-clause-ran
+returns-clause-ran g c = (promised (record {
+  database = c.database_in.ensures;
+  database_fault = c.fault_in.ensures;
+  source = c.source_in.ensures;
+  source_fault = c.fault_in-2.ensures;
+  program = c.program_in.ensures;
+  program_fault = c.fault_in-3.ensures;
+}) _ _ _ _ _ _ c.handle.ensures).ran
 
 pub returns-clause-counts : goal.returns-clause-counts
 returns-clause-counts g c = (promised (record {
@@ -55,6 +77,8 @@ returns-clause-counts g c = (promised (record {
   database_fault = c.fault_in.ensures;
   source = c.source_in.ensures;
   source_fault = c.fault_in-2.ensures;
+  program = c.program_in.ensures;
+  program_fault = c.fault_in-3.ensures;
 }) _ _ _ _ _ _ c.handle.ensures).counts
 
 pub returns-clause-compiled : goal.returns-clause-compiled
@@ -63,6 +87,8 @@ returns-clause-compiled g c = (promised (record {
   database_fault = c.fault_in.ensures;
   source = c.source_in.ensures;
   source_fault = c.fault_in-2.ensures;
+  program = c.program_in.ensures;
+  program_fault = c.fault_in-3.ensures;
 }) _ _ _ _ _ _ c.handle.ensures).compiled
 
 pub returns-clause-decompiled : goal.returns-clause-decompiled
@@ -71,4 +97,6 @@ returns-clause-decompiled g c = (promised (record {
   database_fault = c.fault_in.ensures;
   source = c.source_in.ensures;
   source_fault = c.fault_in-2.ensures;
+  program = c.program_in.ensures;
+  program_fault = c.fault_in-3.ensures;
 }) _ _ _ _ _ _ c.handle.ensures).decompiled

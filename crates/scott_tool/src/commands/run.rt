@@ -1,0 +1,178 @@
+//! `run G`: an Inform program is run on the console.
+ghost use Rattle.std.specs.Prelude.{◌≡◌, ℕ, Ok, IfOk};
+ghost use Rattle.adv_io.specs.Console.{Speaks};
+ghost use Rattle.adv_io.specs.History.{says};
+ghost use Rattle.inform_names.specs.Views.{directives_of};
+ghost use Rattle.inform_run.specs.Turns.{stop_seen};
+ghost use Rattle.scott_requests.specs.Request.{run};
+ghost use Rattle.scott_requests.specs.Views.{source_of};
+ghost use Rattle.scott_tool.specs.Refusal.{refusing};
+ghost use Rattle.scott_tool.specs.Run.{trap_opening, within, trap_end, steps_spent, routine_name, trap_line, stop_line, stop_status};
+ghost use Rattle.scott_tool.specs.Work.{running, work};
+ghost use Rattle.scott_tool.specs.Views.{texts_in};
+ghost use Rattle.scott_tool.specs.Obeying.{Gives, ObeysAlone};
+
+use crate::contents::{draws_from, program};
+use crate::loads::Texts;
+use crate::refusals::{Refusal, concluded};
+use adv_draws::Draws;
+use adv_io::{Console, ConsoleFault, say_all};
+use inform_meaning::Trap;
+use inform_names::Accepted;
+use inform_run::{Runner, Stop};
+use inform_tree::{Directive, Width};
+use scott_requests::DrawSource;
+use std::alloc::Global;
+use std::mem::forget;
+
+#[tactic(auto, unfolding(crate::specs::Run::trap_opening))]
+fn trap_opening<'a>() -> &'a [u8]
+    ensures { result.now ≡ trap_opening }
+{
+    b"[Trap: "
+}
+
+#[tactic(auto, unfolding(crate::specs::Run::within))]
+fn within<'a>() -> &'a [u8]
+    ensures { result.now ≡ within }
+{
+    b" in "
+}
+
+#[tactic(auto, unfolding(crate::specs::Run::trap_end))]
+fn trap_end<'a>() -> &'a [u8]
+    ensures { result.now ≡ trap_end }
+{
+    b"]\n"
+}
+
+#[tactic(auto, unfolding(crate::specs::Run::steps_spent))]
+fn steps_spent<'a>() -> &'a [u8]
+    ensures { result.now ≡ steps_spent }
+{
+    b"[Steps spent.]\n"
+}
+
+// The name of the routine that is this directive.
+fn routine_name(accepted: &Accepted, at: usize) -> &[u8]
+    ensures { result.now ≡ routine_name (directives_of accepted.now) at }
+{
+    match accepted.program().directives.get(at) {
+        Some(Directive::Routine(routine)) => routine.name.bytes(),
+        Some(Directive::Constant(_, _)) => b"",
+        Some(Directive::Global(_, _)) => b"",
+        Some(Directive::Array(_, _, _)) => b"",
+        None => b"",
+    }
+}
+
+// Says of a trap what it is and where.
+fn say_trap<C: Console>(
+    accepted: &Accepted,
+    trap: Trap,
+    at: usize,
+    console: &mut C,
+) -> Result<(), ConsoleFault>
+    ensures { Speaks (C.seen console.old) (C.seen console.new) result
+        (says (trap_line (directives_of accepted.now) trap at)) }
+{
+    let routine = routine_name(accepted, at);
+    say_all(
+        console,
+        &[trap_opening(), trap.word(), within(), routine, trap_end()],
+    )
+}
+
+// Says the line of a run that stopped so, if it has one.
+fn say_stop<C: Console>(
+    accepted: &Accepted,
+    stop: Stop,
+    console: &mut C,
+) -> Result<(), ConsoleFault>
+    ensures { Speaks (C.seen console.old) (C.seen console.new) result
+        (says (stop_line (directives_of accepted.now) (stop_seen stop))) }
+{
+    match stop {
+        Stop::Quit => Ok(()),
+        Stop::NeedsLine => Ok(()),
+        Stop::NeedsDraw => Ok(()),
+        Stop::Trap(trap, at) => say_trap(accepted, trap, at, console),
+        Stop::Spent => console.say(steps_spent()),
+    }
+}
+
+// The status of a run that stopped so.
+fn stop_status(stop: Stop) -> u8
+    ensures { result ≡ stop_status (stop_seen stop) }
+{
+    match stop {
+        Stop::Quit => 0,
+        Stop::NeedsLine => 0,
+        Stop::NeedsDraw => 0,
+        Stop::Trap(_, _) => 8,
+        Stop::Spent => 10,
+    }
+}
+
+// A program, and the draws with which it is run.
+fn program_and_draws<'a>(
+    alloc: Global,
+    name: &'a str,
+    source: DrawSource<'a>,
+    width: Width,
+    texts: &Texts,
+) -> Result<(Accepted, Draws), Refusal<'a>>
+    ensures width { IfOk result (λ made. made.0.width ≡ width) }
+    ensures given { (steps : ℕ) → Gives
+        (λ made. running width (directives_of made.0) made.1.left steps) result
+        (work (run name.now (source_of source.entry) steps width) (texts_in texts.now)) }
+{
+    let accepted = program(alloc, name, width, &texts.main)?;
+    let draws = draws_from(alloc, source, &texts.draws)?;
+    Ok((accepted, draws))
+}
+
+// Runs a program with these draws, for so many steps at most.
+fn run_with<C: Console>(
+    alloc: Global,
+    accepted: &Accepted,
+    mut draws: Draws,
+    steps: u64,
+    console: &mut C,
+) -> u8
+    ensures { ObeysAlone (C.seen console.old) (C.seen console.new)
+        (Ok (running accepted.now.width (directives_of accepted.now) draws.left steps)) result }
+{
+    match Runner::open(alloc, accepted) {
+        Ok(mut runner) => match runner.run(&mut draws, steps, console) {
+            Ok(stop) => concluded(say_stop(accepted, stop, console), stop_status(stop)),
+            Err(_) => 3,
+        },
+        Err(_) => 9,
+    }
+}
+
+/// Runs a program.
+pub fn run<C: Console>(
+    alloc: Global,
+    name: &str,
+    source: DrawSource<'_>,
+    steps: u64,
+    width: Width,
+    texts: &Texts,
+    console: &mut C,
+) -> u8
+    ensures { ObeysAlone (C.seen console.old) (C.seen console.new)
+        (refusing (work (run name.now (source_of source.entry) steps width)
+        (texts_in texts.now))) result }
+{
+    match program_and_draws(alloc, name, source, width, texts) {
+        Ok((accepted, draws)) => {
+            let status = run_with(alloc, &accepted, draws, steps, console);
+            // The system takes the program's memory back at once when it ends.
+            forget(accepted);
+            status
+        }
+        Err(refusal) => refusal.end(console),
+    }
+}
