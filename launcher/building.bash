@@ -8,7 +8,11 @@
 # seconds of one processor.
 prover_memory=3000
 disk_per_1000=250
-seconds_per_1000=150
+seconds_per_1000=160
+
+# How many crates are proved side by side on the way to the program, on average and at most: each waits for those
+# below it, so that more provers would have nothing to do.
+side_by_side=2
 
 # The lines of code of each crate, and the second at which a prover began with it.
 declare -gA lines began
@@ -63,13 +67,14 @@ gigabytes() {
 
 # Says once what is going to be done, how long that takes, and with what.
 say_plan() {
-    local name much=0 free
+    local name much=0 free busy=$side_by_side
+    [ "$busy" -le "$places" ] || busy=$places
     for name in "${names[@]}"; do
         much=$((much + lines[$name]))
     done
     free=$(df -Pm "$workshop" | awk 'NR == 2 { print $4 }')
     say "proving ${#names[@]} crates, up to $places side by side, and building the program:"
-    say "about $((much * seconds_per_1000 / 60000 / places + 2)) minutes, up to" \
+    say "about $((much * seconds_per_1000 / 60000 / busy + 2)) minutes, up to" \
         "$((places * prover_memory / 1000)) GB of memory, and for that time $(gigabytes $((much * disk_per_1000 / 1000)))" \
         "of disk in ${workshop%/*} ($(gigabytes "$free") free)"
 }

@@ -1,5 +1,5 @@
 -- The frames of the program, as the meaning has them.
-use Rattle.std.specs.Prelude.{Option, Some, None, option_map, map}
+use Rattle.std.specs.Prelude.{List, [], ◌∷◌, ◌++◌, Option, Some, None, option_map, map}
 use Rattle.inform_tree.specs.Values.{expression_of, arguments_of, terms_of, factors_of}
 use Rattle.inform_tree.specs.Conditions.{condition_of, conditions_of}
 use Rattle.inform_tree.specs.Statements.{assignment_of, print_item_of, statement_of, statements_of, cases_of}
@@ -103,3 +103,14 @@ frame_of (x.Looping l) = f.Looping (loop_of l)
 frame_of (x.Calling scope) = f.Calling (scope_of scope)
 frame_of x.Main = f.Main
 frame_of (x.Over halt) = f.Over (halt_of halt)
+
+-- ---- the frames of a stack, innermost first
+
+abbrev pub frames_of : List Frame → List f.Frame
+frames_of [] = []
+frames_of (x ∷ xs) = frames_of xs ++ frame_of x ∷ []
+
+-- all but the innermost
+abbrev pub rest_of : List f.Frame → List f.Frame
+rest_of [] = []
+rest_of (x ∷ xs) = xs

@@ -1,18 +1,21 @@
 -- The moves of the program, as the meaning has them.
-use Rattle.std.specs.Prelude.{List, [], ◌∷◌, take, map, None}
+use Rattle.std.specs.Prelude.{ℕ, ◌≡◌, ◌+◌, ◌≤◌, List, [], ◌∷◌, ◌++◌, length, None}
 use Rattle.std.specs.Fmt.{signed_decimal}
 use Rattle.inform_meaning.specs.Worlds as w
 use Rattle.inform_meaning.specs.Worlds.{assigned, stored}
 use Rattle.inform_meaning.specs.Frames as f
 use Rattle.inform_moves.specs.Moves as m
+use Rattle.inform_moves.specs.Moves.{pushed_in, outcome_in, effect_in}
+use Rattle.inform_moves.specs.Needs as n
 use Rattle.inform_worlds.specs.Scopes.{scope_of}
+use Rattle.inform_frames.specs.declared.needs.Need.{Need}
+use Rattle.inform_frames.specs.declared.needs.Need.TheVariants as d
 use Rattle.inform_frames.specs.declared.nexts.Effect.{Effect}
 use Rattle.inform_frames.specs.declared.nexts.Effect.TheVariants as e
-use Rattle.inform_frames.specs.declared.nexts.Pushed.{Pushed}
-use Rattle.inform_frames.specs.declared.nexts.NextKind.{NextKind}
-use Rattle.inform_frames.specs.declared.nexts.NextKind.TheVariants as k
 use Rattle.inform_frames.specs.declared.nexts.Next.{Next}
+use Rattle.inform_frames.specs.declared.stacks.Stack.{Stack}
 use Rattle.inform_frames.specs.Frames.{frame_of, signal_of}
+use Rattle.inform_frames.specs.Stacks.{stack_of}
 
 abbrev pub effect_of : w.World → Effect → m.Effect
 effect_of world e.Keeps = m.Keeps
@@ -24,15 +27,28 @@ effect_of world (e.Says text) = m.Says text.now
 effect_of world (e.SaysNumber n) = m.Says (signed_decimal n)
 effect_of world (e.SaysByte byte) = m.Says (byte ∷ [])
 
-abbrev pub pushed_of : Pushed → List f.Frame
-pushed_of p = map frame_of (take p.count p.frames)
+-- the frames that stand after a move, what is handed to the innermost of them, and what the move does
+pub data Made : Type 0 where
+  made : List f.Frame → f.Outcome → m.Effect → Made
 
-abbrev pub move_by : NextKind → List f.Frame → f.Outcome → m.Effect → m.Move
-move_by k.Goes frames outcome effect = m.Goes frames outcome effect
-move_by k.Ticks frames outcome effect = m.Ticks frames outcome effect
-move_by (k.Reads name) frames outcome effect = m.Reads name.now
-move_by (k.Draws n) frames outcome effect = m.Draws n
+abbrev pub made_of : m.Move → List f.Frame → Made
+made_of (m.Goes frames e effect) rest = made (frames ++ rest) e effect
+made_of (m.Ticks frames e effect) rest = made (frames ++ rest) e effect
+made_of (m.Reads name) rest = made rest f.Normal m.Keeps
+made_of (m.Draws n) rest = made rest f.Normal m.Keeps
 
-abbrev pub move_of : w.World → Next → m.Move
-move_of world n =
-    move_by n.kind (pushed_of n.pushed) (signal_of n.signal) (effect_of world n.effect)
+-- this is what a move makes of a stack
+abbrev pub Makes : w.World → m.Move → Stack → Stack → Next → Type 0
+Makes world move old new next =
+    made (stack_of new) (signal_of next.signal) (effect_of world next.effect) ≡ made_of move (stack_of old)
+
+-- the same of a move that puts no frame on the stack
+abbrev pub Hands : w.World → m.Move → Next → Type 0
+Hands world move next = (rest : List f.Frame)
+    → made rest (signal_of next.signal) (effect_of world next.effect) ≡ made_of move rest
+
+abbrev pub need_seen : Need → n.Need
+need_seen d.Nothing = n.Nothing
+need_seen d.Step = n.AStep
+need_seen (d.Line name) = n.ALine name.now
+need_seen (d.Draw m) = n.ADraw m

@@ -1,16 +1,17 @@
 //! The moves of calls.
-ghost use Rattle.std.specs.Prelude.{◌≡◌, option_map, IfSome, IfNone, Some, None};
+ghost use Rattle.std.specs.Prelude.{◌≡◌, IfSome, IfNone, Some, None};
 ghost use Rattle.inform_tree.specs.Statements.{statements_of};
-ghost use Rattle.inform_meaning.specs.Worlds as w;
 ghost use Rattle.inform_moves.specs.Moves.{enter_move, call_move};
 ghost use Rattle.inform_worlds.specs.Scopes.{values_of};
 ghost use Rattle.inform_worlds.specs.Worlds.{program_of};
 ghost use Rattle.inform_worlds.specs.Views.{world_of, program_seen};
-ghost use Rattle.inform_frames.specs.Nexts.{move_of};
+ghost use Rattle.inform_frames.specs.Stacks.{HasRoom};
+ghost use Rattle.inform_frames.specs.Nexts.{Makes};
 
 use crate::frames::{Begin, Frame};
-use crate::nexts::{Effect, Next, Pushed};
+use crate::nexts::{Effect, Next};
 use crate::signals::{Halt, Signal};
+use crate::stacks::Stack;
 use inform_meaning::Trap;
 use inform_names::Names;
 use inform_names::laws::meanings_are_of_directives;
@@ -41,36 +42,45 @@ fn routine<'a>(names: &Names<'a>, name: &Name) -> Option<(usize, &'a Routine)>
 }
 
 // A call where more calls may be open.
-fn enter_next<'a>(world: &World<'a>, name: &'a Name, values: &Arguments) -> Next<'a>
-    ensures { let p = program_seen world.now in move_of (world_of world.now) result
-        ≡ enter_move p (world_of world.now) name.now (p.routines name.now) (values_of values.now) }
+fn enter_next<'a>(
+    world: &World<'a>,
+    stack: &mut Stack<'a>,
+    name: &'a Name,
+    values: &Arguments,
+) -> Next<'a>
+    requires { HasRoom stack.old }
+    ensures { let p = program_seen world.now in Makes (world_of world.now)
+        (enter_move p (world_of world.now) name.now (p.routines name.now) (values_of values.now))
+        stack.old stack.new result }
 {
     match routine(world.names(), name) {
-        None => Next::ticks(Pushed::none(), Signal::Value(0), Effect::Keeps),
-        Some((directive, routine)) => Next::ticks(
-            Pushed::two(
-                Frame::Begins(Begin::Blocks(&routine.body)),
-                Frame::Calling(world.scope()),
-            ),
-            Signal::Normal,
-            Effect::Opens(Scope::of(directive, routine, values)),
-        ),
+        None => Next::hands(Signal::Value(0)),
+        Some((directive, routine)) => {
+            stack.push(Frame::Calling(world.scope()));
+            stack.push(Frame::Begins(Begin::Blocks(&routine.body)));
+            Next {
+                signal: Signal::Normal,
+                effect: Effect::Opens(Scope::of(directive, routine, values)),
+            }
+        }
     }
 }
 
 /// A call whose arguments are known, where so many more calls may be open.
-pub fn call_next<'a>(world: &World<'a>, room: usize, name: &'a Name, values: &Arguments) -> Next<'a>
-    ensures { move_of (world_of world.now) result
-        ≡ call_move (program_seen world.now) room (world_of world.now) name.now
-        (values_of values.now) }
+pub fn call_next<'a>(
+    world: &World<'a>,
+    stack: &mut Stack<'a>,
+    room: usize,
+    name: &'a Name,
+    values: &Arguments,
+) -> Next<'a>
+    requires { HasRoom stack.old }
+    ensures { Makes (world_of world.now) (call_move (program_seen world.now) room
+        (world_of world.now) name.now (values_of values.now)) stack.old stack.new result }
 {
     if room == 0 {
         let directive = world.scope().directive;
-        return Next::ticks(
-            Pushed::none(),
-            Signal::Halts(Halt::Trapped(Trap::Depth, directive)),
-            Effect::Keeps,
-        );
+        return Next::hands(Signal::Halts(Halt::Trapped(Trap::Depth, directive)));
     }
-    enter_next(world, name, values)
+    enter_next(world, stack, name, values)
 }

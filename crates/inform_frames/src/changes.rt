@@ -1,57 +1,54 @@
 //! The moves of changes.
 ghost use Rattle.std.specs.Prelude.{◌≡◌};
+ghost use Rattle.inform_tree.specs.Values.{expression_of};
 ghost use Rattle.inform_tree.specs.Statements.{assignment_of};
-ghost use Rattle.inform_meaning.specs.Worlds as w;
-ghost use Rattle.inform_meaning.specs.Worlds.{assigned, entry_at, entries_of, stored};
-ghost use Rattle.inform_moves.specs.Moves.{alters, counts_move, alter_move, entry_move, store_move};
+ghost use Rattle.inform_meaning.specs.Words.{word_sum};
+ghost use Rattle.inform_meaning.specs.Worlds.{value_of, entry_at, entries_of};
+ghost use Rattle.inform_moves.specs.Moves.{alter_move, entry_move, store_move, place_move};
 ghost use Rattle.inform_worlds.specs.Views.{world_of, program_seen};
-ghost use Rattle.inform_frames.specs.Nexts.{move_of};
+ghost use Rattle.inform_frames.specs.Stacks.{HasRoom};
+ghost use Rattle.inform_frames.specs.Nexts.{Hands, Makes};
 
 use crate::frames::Want;
-use crate::nexts::{Effect, Next, Pushed};
+use crate::immediate::immediate_value;
+use crate::nexts::{Effect, Next};
 use crate::signals::Signal;
-use crate::values::{done, evals, trapped};
+use crate::stacks::Stack;
+use crate::values::{evals, trapped};
 use inform_meaning::{Trap, add};
-use inform_tree::{Change, Name};
+use inform_tree::{Change, Expr, Name};
 use inform_worlds::World;
 
 /// A variable gets a value.
 pub fn assigns<'a>(name: &'a Name, value: i32) -> Next<'a>
-    ensures { (world : w.World) → move_of world result ≡ alters (assigned name.now value world) }
+    ensures { result ≡ record { signal = Signal.Normal; effect = Effect.Writes name.entry value } }
 {
-    Next::goes(Pushed::none(), Signal::Normal, Effect::Writes(name, value))
+    Next {
+        signal: Signal::Normal,
+        effect: Effect::Writes(name, value),
+    }
 }
 
-/// A variable counts by 1 or -1.
+// A variable counts by 1 or -1.
 fn counts<'a>(world: &World<'a>, name: &'a Name, by: i32) -> Next<'a>
-    ensures { move_of (world_of world.now) result
-        ≡ counts_move (program_seen world.now) (world_of world.now) name.now by }
+    ensures { result ≡ record {
+      signal = Signal.Normal;
+      effect = Effect.Writes name.entry (word_sum (program_seen world.now).width
+          (value_of (program_seen world.now) name.now (world_of world.now)) by);
+    } }
 {
     let width = world.names().accepted().width();
     assigns(name, add(width, world.value(name), by))
 }
 
-/// A change that hasn't begun.
-pub fn alter_next<'a>(world: &World<'a>, x: &'a Change) -> Next<'a>
-    ensures { move_of (world_of world.now) result
-        ≡ alter_move (program_seen world.now) (world_of world.now) (assignment_of x.now) }
-{
-    match x {
-        Change::Set(name, x) => evals(x, Want::Sets(name)),
-        Change::SetEntry(name, words, index, x) => evals(index, Want::PlaceOf(name, *words, x)),
-        Change::Inc(name) => counts(world, name, 1),
-        Change::Dec(name) => counts(world, name, -1),
-    }
-}
-
 /// The entry of an array at an index.
 pub fn entry_next<'a>(world: &World<'a>, name: &Name, index: i32) -> Next<'a>
-    ensures { let world = world_of world.now in move_of world result
-        ≡ entry_move world (entry_at (entries_of name.now world) index) }
+    ensures { let world = world_of world.now in Hands world
+        (entry_move world (entry_at (entries_of name.now world) index)) result }
 {
     match world.entry(name, index) {
         None => trapped(world, Trap::Index),
-        Some(a) => done(Signal::Value(a)),
+        Some(a) => Next::hands(Signal::Value(a)),
     }
 }
 
@@ -63,16 +60,53 @@ pub fn store_next<'a>(
     index: i32,
     value: i32,
 ) -> Next<'a>
-    ensures { let world = world_of world.now in move_of world result
-        ≡ store_move world (entry_at (entries_of name.now world) index)
-        (stored name.now words index value world) }
+    ensures { let world = world_of world.now in Hands world
+        (store_move world name.now words index value) result }
 {
     match world.entry(name, index) {
         None => trapped(world, Trap::Index),
-        Some(_) => Next::goes(
-            Pushed::none(),
-            Signal::Normal,
-            Effect::Stores(name, words, index, value),
-        ),
+        Some(_) => Next {
+            signal: Signal::Normal,
+            effect: Effect::Stores(name, words, index, value),
+        },
+    }
+}
+
+/// The value for an entry whose place is known.
+pub fn place_next<'a>(
+    world: &World<'a>,
+    stack: &mut Stack<'a>,
+    name: &'a Name,
+    words: bool,
+    index: i32,
+    value: &'a Expr,
+) -> Next<'a>
+    requires { HasRoom stack.old }
+    ensures { Makes (world_of world.now) (place_move (program_seen world.now) (world_of world.now)
+        name.now words index (expression_of value.now)) stack.old stack.new result }
+{
+    match immediate_value(world, value) {
+        Some(a) => store_next(world, name, words, index, a),
+        None => evals(stack, value, Want::Stores(name, words, index)),
+    }
+}
+
+/// A change that hasn't begun.
+pub fn alter_next<'a>(world: &World<'a>, stack: &mut Stack<'a>, x: &'a Change) -> Next<'a>
+    requires { HasRoom stack.old }
+    ensures { Makes (world_of world.now) (alter_move (program_seen world.now) (world_of world.now)
+        (assignment_of x.now)) stack.old stack.new result }
+{
+    match x {
+        Change::Set(name, x) => match immediate_value(world, x) {
+            Some(a) => assigns(name, a),
+            None => evals(stack, x, Want::Sets(name)),
+        },
+        Change::SetEntry(name, words, index, x) => match immediate_value(world, index) {
+            Some(i) => place_next(world, stack, name, *words, i, x),
+            None => evals(stack, index, Want::PlaceOf(name, *words, x)),
+        },
+        Change::Inc(name) => counts(world, name, 1),
+        Change::Dec(name) => counts(world, name, -1),
     }
 }

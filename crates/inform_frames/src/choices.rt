@@ -8,12 +8,15 @@ ghost use Rattle.inform_meaning.specs.Statements.{constant_value, fits_choice, f
 ghost use Rattle.inform_moves.specs.Moves.{default_move, cases_move};
 ghost use Rattle.inform_worlds.specs.Worlds.{program_of};
 ghost use Rattle.inform_frames.specs.Frames.{default_of};
-ghost use Rattle.inform_frames.specs.Nexts.{move_of};
+ghost use Rattle.inform_frames.specs.Stacks.{HasRoom};
+ghost use Rattle.inform_frames.specs.Nexts.{Makes};
 
 use crate::frames::{Begin, Frame};
 use crate::nexts::Next;
 use crate::signals::Signal;
-use crate::values::{done, goes_to, number};
+use crate::stacks::Stack;
+use crate::values::goes_to;
+use crate::words::number;
 use inform_names::{Kind, Names};
 use inform_tree::{Case, Const, Name, Stmt};
 
@@ -76,30 +79,46 @@ fn fits_any(names: &Names, a: i32, choices: &Vec<(Const, Option<Const>)>) -> boo
 }
 
 // What is done where no case fits.
-fn default_next<'a>(rest: Option<&'a Vec<Stmt>>) -> Next<'a>
-    ensures { (world : w.World) → move_of world result ≡ default_move (default_of rest.entry) }
+fn default_next<'a>(stack: &mut Stack<'a>, rest: Option<&'a Vec<Stmt>>) -> Next<'a>
+    requires { HasRoom stack.old }
+    ensures { (world : w.World) → Makes world (default_move (default_of rest.entry))
+        stack.old stack.new result }
 {
     match rest {
-        None => done(Signal::Normal),
-        Some(body) => goes_to(Frame::Begins(Begin::Blocks(body))),
+        None => Next::hands(Signal::Normal),
+        Some(body) => goes_to(stack, Frame::Begins(Begin::Blocks(body))),
     }
+}
+
+// The block of the first case that fits a value, or of what is done where none does.
+fn picked<'a>(
+    names: &Names<'a>,
+    a: i32,
+    cases: &'a Vec<Case>,
+    rest: Option<&'a Vec<Stmt>>,
+) -> Option<&'a Vec<Stmt>>
+    ensures { default_move (default_of result) ≡ cases_move (program_of names.now.accepted.now) a
+        (cases_of cases.now.items) (default_of rest.entry) }
+{
+    for case in cases {
+        if fits_any(names, a, &case.choices) {
+            return Some(&case.body);
+        }
+    }
+    rest
 }
 
 /// The first case that fits a value, or what is done where none does.
 pub fn cases_next<'a>(
     names: &Names<'a>,
+    stack: &mut Stack<'a>,
     a: i32,
     cases: &'a Vec<Case>,
     rest: Option<&'a Vec<Stmt>>,
 ) -> Next<'a>
-    ensures { (world : w.World) → move_of world result
-        ≡ cases_move (program_of names.now.accepted.now) a (cases_of cases.now.items)
-        (default_of rest.entry) }
+    requires { HasRoom stack.old }
+    ensures { (world : w.World) → Makes world (cases_move (program_of names.now.accepted.now) a
+        (cases_of cases.now.items) (default_of rest.entry)) stack.old stack.new result }
 {
-    for case in cases {
-        if fits_any(names, a, &case.choices) {
-            return goes_to(Frame::Begins(Begin::Blocks(&case.body)));
-        }
-    }
-    default_next(rest)
+    default_next(stack, picked(names, a, cases, rest))
 }

@@ -1,71 +1,106 @@
 //! The moves of conditions.
 ghost use Rattle.std.specs.Prelude.{◌≡◌};
-ghost use Rattle.std.specs.Ordering.{int_eq};
+ghost use Rattle.inform_tree.specs.Values.{expression_of};
 ghost use Rattle.inform_tree.specs.Conditions.{condition_of, conditions_of};
-ghost use Rattle.inform_meaning.specs.Words.{compares};
 ghost use Rattle.inform_meaning.specs.Worlds as w;
 ghost use Rattle.inform_meaning.specs.Frames as f;
-ghost use Rattle.inform_moves.specs.Moves.{tests, all_move, any_move, test_move};
-ghost use Rattle.inform_frames.specs.Frames.{frame_of, decide_of};
-ghost use Rattle.inform_frames.specs.Nexts.{move_of};
+ghost use Rattle.inform_moves.specs.Moves.{tests, all_move, any_move, truth_parts, test_move, right_move};
+ghost use Rattle.inform_worlds.specs.Views.{world_of, program_seen};
+ghost use Rattle.inform_frames.specs.Frames.{decide_of};
+ghost use Rattle.inform_frames.specs.Stacks.{HasRoom};
+ghost use Rattle.inform_frames.specs.Nexts.{Makes};
 
 use crate::frames::{Begin, Decide, Frame, Want};
+use crate::immediate::{immediate_truth, immediate_value};
 use crate::nexts::Next;
 use crate::signals::Signal;
-use crate::values::{done, evals, goes_with};
-use inform_tree::{Cond, Relation};
-
-/// Whether two values are so related.
-pub fn compares(relation: Relation, a: i32, b: i32) -> bool
-    ensures { result ≡ compares relation a b }
-{
-    match relation {
-        Relation::Eq => a == b,
-        Relation::Ne => a != b,
-        Relation::Lt => a < b,
-        Relation::Gt => a > b,
-        Relation::Le => a <= b,
-        Relation::Ge => a >= b,
-    }
-}
+use crate::stacks::Stack;
+use crate::values::{evals, goes_with};
+use crate::words::compares;
+use inform_tree::{Cond, Expr, Relation};
+use inform_worlds::World;
 
 /// A condition is due, and then what waits for it.
-pub fn tests<'a>(x: &'a Cond, decide: Decide<'a>) -> Next<'a>
-    ensures { (world : w.World) → move_of world result
-        ≡ tests (condition_of x.now) (f.Decides (decide_of decide.entry)) }
+#[inline(always)]
+pub fn tests<'a>(stack: &mut Stack<'a>, x: &'a Cond, decide: Decide<'a>) -> Next<'a>
+    requires { HasRoom stack.old }
+    ensures { (world : w.World) → Makes world (tests (condition_of x.now)
+        (f.Decides (decide_of decide.entry))) stack.old stack.new result }
 {
-    goes_with(Frame::Begins(Begin::Tests(x)), Frame::Decides(decide))
+    goes_with(
+        stack,
+        Frame::Begins(Begin::Tests(x)),
+        Frame::Decides(decide),
+    )
 }
 
 /// Conditions of which all have to hold.
-pub fn all_next<'a>(xs: &'a [Cond]) -> Next<'a>
-    ensures { (world : w.World) → move_of world result ≡ all_move (conditions_of xs.now) }
+pub fn all_next<'a>(stack: &mut Stack<'a>, xs: &'a [Cond]) -> Next<'a>
+    requires { HasRoom stack.old }
+    ensures { (world : w.World) → Makes world (all_move (conditions_of xs.now))
+        stack.old stack.new result }
 {
     match xs {
-        [] => done(Signal::Truth(true)),
-        [x, rest @ ..] => tests(x, Decide::AllOf(rest)),
+        [] => Next::hands(Signal::Truth(true)),
+        [x, rest @ ..] => tests(stack, x, Decide::AllOf(rest)),
     }
 }
 
 /// Conditions of which one has to hold.
-pub fn any_next<'a>(xs: &'a [Cond]) -> Next<'a>
-    ensures { (world : w.World) → move_of world result ≡ any_move (conditions_of xs.now) }
+pub fn any_next<'a>(stack: &mut Stack<'a>, xs: &'a [Cond]) -> Next<'a>
+    requires { HasRoom stack.old }
+    ensures { (world : w.World) → Makes world (any_move (conditions_of xs.now))
+        stack.old stack.new result }
 {
     match xs {
-        [] => done(Signal::Truth(false)),
-        [x, rest @ ..] => tests(x, Decide::AnyOf(rest)),
+        [] => Next::hands(Signal::Truth(false)),
+        [x, rest @ ..] => tests(stack, x, Decide::AnyOf(rest)),
+    }
+}
+
+// A condition that hasn't begun, part by part.
+fn truth_parts<'a>(stack: &mut Stack<'a>, x: &'a Cond) -> Next<'a>
+    requires { HasRoom stack.old }
+    ensures { (world : w.World) → Makes world (truth_parts (condition_of x.now))
+        stack.old stack.new result }
+{
+    match x {
+        Cond::Compare(relation, left, right) => {
+            evals(stack, left, Want::LeftOf(*relation, right))
+        }
+        Cond::Nonzero(x) => evals(stack, x, Want::IsNonzero),
+        Cond::All(xs) => all_next(stack, xs),
+        Cond::Any(xs) => any_next(stack, xs),
+        Cond::Not(x) => tests(stack, x, Decide::Flips),
     }
 }
 
 /// A condition that hasn't begun.
-pub fn test_next<'a>(x: &'a Cond) -> Next<'a>
-    ensures { (world : w.World) → move_of world result ≡ test_move (condition_of x.now) }
+pub fn test_next<'a>(world: &World<'a>, stack: &mut Stack<'a>, x: &'a Cond) -> Next<'a>
+    requires { HasRoom stack.old }
+    ensures { Makes (world_of world.now) (test_move (program_seen world.now) (world_of world.now)
+        (condition_of x.now)) stack.old stack.new result }
 {
-    match x {
-        Cond::Compare(relation, left, right) => evals(left, Want::LeftOf(*relation, right)),
-        Cond::Nonzero(x) => evals(x, Want::IsNonzero),
-        Cond::All(xs) => all_next(xs),
-        Cond::Any(xs) => any_next(xs),
-        Cond::Not(x) => tests(x, Decide::Flips),
+    match immediate_truth(world, x) {
+        Some(b) => Next::hands(Signal::Truth(b)),
+        None => truth_parts(stack, x),
+    }
+}
+
+/// The right side of a comparison.
+pub fn right_next<'a>(
+    world: &World<'a>,
+    stack: &mut Stack<'a>,
+    relation: Relation,
+    left: i32,
+    right: &'a Expr,
+) -> Next<'a>
+    requires { HasRoom stack.old }
+    ensures { Makes (world_of world.now) (right_move (program_seen world.now) (world_of world.now)
+        relation left (expression_of right.now)) stack.old stack.new result }
+{
+    match immediate_value(world, right) {
+        Some(b) => Next::hands(Signal::Truth(compares(relation, left, b))),
+        None => evals(stack, right, Want::RightOf(relation, left)),
     }
 }

@@ -1,13 +1,19 @@
-//! The frames of a run of an Inform program, and the next move of each: what takes its place when the outcome of
-//! its part is handed to it.
+//! The frames of a run of an Inform program, and the next move of each: the frames that take its place when the
+//! outcome of its part is handed to it, and what else the move does.
 #![tactic(auto)]
 
 // What has begun, and what is handed to it.
 mod frames;
 mod signals;
+mod stacks;
 
-// What a move does.
+// What a move needs, and what it does.
+mod needs;
 mod nexts;
+
+// What is computed at once.
+mod immediate;
+mod words;
 
 // The moves, by what is about to be done.
 mod begins;
@@ -24,5 +30,7 @@ mod wants;
 
 pub use frames::{Begin, Decide, Frame, Loop, Want};
 pub use moves::{halt_of, next};
-pub use nexts::{Effect, Next, NextKind, Pushed};
+pub use needs::{Need, need_of};
+pub use nexts::{Effect, Next};
 pub use signals::{Halt, Signal};
+pub use stacks::Stack;

@@ -3,16 +3,22 @@ ghost use Rattle.std.specs.Prelude.{◌≡◌, option_map, Some, None};
 ghost use Rattle.inform_tree.specs.Conditions.{condition_of};
 ghost use Rattle.inform_tree.specs.Statements.{assignment_of, assignment_if_any, condition_if_any, statements_of};
 ghost use Rattle.inform_meaning.specs.Worlds as w;
+ghost use Rattle.inform_meaning.specs.Frames.{Normal};
 ghost use Rattle.inform_meaning.specs.Statements.{while_loop, do_loop, for_loop, loop_goes_on};
-ghost use Rattle.inform_moves.specs.Moves.{turn_move, change_frames, body_move, tested_move};
+ghost use Rattle.inform_moves.specs.Moves.{Goes, Keeps, turn_test, turn_move, change_frames, body_move, tested_move};
+ghost use Rattle.inform_worlds.specs.Views.{world_of, program_seen};
 ghost use Rattle.inform_frames.specs.Frames.{loop_of, signal_of};
-ghost use Rattle.inform_frames.specs.Nexts.{move_of, pushed_of};
+ghost use Rattle.inform_frames.specs.Stacks.{HasRoom};
+ghost use Rattle.inform_frames.specs.Nexts.{Makes};
 
 use crate::frames::{Begin, Decide, Frame, Loop};
-use crate::nexts::{Effect, Next, Pushed};
+use crate::immediate::immediate_truth;
+use crate::nexts::Next;
 use crate::signals::Signal;
-use crate::values::{done, goes_with};
+use crate::stacks::Stack;
+use crate::values::{goes_to, goes_with};
 use inform_tree::{Change, Cond, Stmt};
+use inform_worlds::World;
 
 /// A loop that goes on while its test holds.
 pub fn while_loop<'a>(test: &'a Cond, body: &'a Vec<Stmt>) -> Loop<'a>
@@ -75,78 +81,94 @@ pub fn for_loop<'a>(
     }
 }
 
-// The frames of a change, if there is one, and of a turn after it.
-fn frames_before_turn<'a>(l: Loop<'a>, change: Option<&'a Change>) -> Pushed<'a>
-    ensures { pushed_of result ≡ change_frames (loop_of l.entry)
-        (option_map (λ x. assignment_of x.now) change.entry) }
+// A change, if there is one, and a turn after it.
+fn change_before_turn<'a>(
+    stack: &mut Stack<'a>,
+    l: Loop<'a>,
+    change: Option<&'a Change>,
+) -> Next<'a>
+    requires { HasRoom stack.old }
+    ensures { (world : w.World) → Makes world (Goes (change_frames (loop_of l.entry)
+        (option_map (λ x. assignment_of x.now) change.entry)) Normal Keeps)
+        stack.old stack.new result }
 {
     match change {
-        None => Pushed::one(Frame::Begins(Begin::TurnDue(l))),
-        Some(x) => Pushed::two(
+        None => goes_to(stack, Frame::Begins(Begin::TurnDue(l))),
+        Some(x) => goes_with(
+            stack,
             Frame::Begins(Begin::Alters(x)),
             Frame::Begins(Begin::TurnDue(l)),
         ),
     }
 }
 
-/// The frames of a first change, if there is one, and of a turn after it.
-pub fn change_frames<'a>(l: Loop<'a>, first: &'a Option<Change>) -> Pushed<'a>
-    ensures { pushed_of result ≡ change_frames (loop_of l.entry) (assignment_if_any first.now) }
+/// A first change, if there is one, and a turn after it.
+pub fn first_next<'a>(stack: &mut Stack<'a>, l: Loop<'a>, first: &'a Option<Change>) -> Next<'a>
+    requires { HasRoom stack.old }
+    ensures { (world : w.World) → Makes world (Goes (change_frames (loop_of l.entry)
+        (assignment_if_any first.now)) Normal Keeps) stack.old stack.new result }
 {
-    frames_before_turn(l, change_if_any(first))
-}
-
-/// A turn that is due.
-pub fn turn_next<'a>(l: Loop<'a>) -> Next<'a>
-    ensures { (world : w.World) → move_of world result
-        ≡ turn_move (loop_of l.entry) (loop_of l.entry).test }
-{
-    match l.test {
-        None => Next::ticks(
-            Pushed::one(Frame::Decides(Decide::Testing(l))),
-            Signal::Truth(true),
-            Effect::Keeps,
-        ),
-        Some(x) => Next::ticks(
-            Pushed::two(
-                Frame::Begins(Begin::Tests(x)),
-                Frame::Decides(Decide::Testing(l)),
-            ),
-            Signal::Normal,
-            Effect::Keeps,
-        ),
-    }
+    change_before_turn(stack, l, change_if_any(first))
 }
 
 /// What follows the test of a turn: the body, or the end of the loop.
-pub fn tested_next<'a>(l: Loop<'a>, holds: bool) -> Next<'a>
-    ensures { (world : w.World) → move_of world result
-        ≡ tested_move (loop_of l.entry) (loop_goes_on (loop_of l.entry) holds) }
+pub fn tested_next<'a>(stack: &mut Stack<'a>, l: Loop<'a>, holds: bool) -> Next<'a>
+    requires { HasRoom stack.old }
+    ensures { (world : w.World) → Makes world (tested_move (loop_of l.entry)
+        (loop_goes_on (loop_of l.entry) holds)) stack.old stack.new result }
 {
     let goes_on = if holds { l.goes_on } else { !l.goes_on };
     if goes_on {
-        return goes_with(Frame::Begins(Begin::Blocks(l.body)), Frame::Looping(l));
+        return goes_with(
+            stack,
+            Frame::Begins(Begin::Blocks(l.body)),
+            Frame::Looping(l),
+        );
     }
-    done(Signal::Normal)
+    Next::hands(Signal::Normal)
+}
+
+// The test of a turn.
+fn turn_test<'a>(world: &World<'a>, stack: &mut Stack<'a>, l: Loop<'a>, test: &'a Cond) -> Next<'a>
+    requires { HasRoom stack.old }
+    ensures { Makes (world_of world.now) (turn_test (program_seen world.now) (world_of world.now)
+        (loop_of l.entry) (condition_of test.now)) stack.old stack.new result }
+{
+    match immediate_truth(world, test) {
+        Some(b) => tested_next(stack, l, b),
+        None => goes_with(
+            stack,
+            Frame::Begins(Begin::Tests(test)),
+            Frame::Decides(Decide::Testing(l)),
+        ),
+    }
+}
+
+/// A turn that is due.
+pub fn turn_next<'a>(world: &World<'a>, stack: &mut Stack<'a>, l: Loop<'a>) -> Next<'a>
+    requires { HasRoom stack.old }
+    ensures { Makes (world_of world.now) (turn_move (program_seen world.now) (world_of world.now)
+        (loop_of l.entry) (loop_of l.entry).test) stack.old stack.new result }
+{
+    match l.test {
+        None => {
+            stack.push(Frame::Decides(Decide::Testing(l)));
+            Next::hands(Signal::Truth(true))
+        }
+        Some(test) => turn_test(world, stack, l, test),
+    }
 }
 
 /// What follows the body of a turn: the change and the next turn, or the end of the loop.
-pub fn body_next<'a>(l: Loop<'a>, signal: Signal) -> Next<'a>
-    ensures { (world : w.World) → move_of world result
-        ≡ body_move (loop_of l.entry) (signal_of signal) }
+pub fn body_next<'a>(stack: &mut Stack<'a>, l: Loop<'a>, signal: Signal) -> Next<'a>
+    requires { HasRoom stack.old }
+    ensures { (world : w.World) → Makes world (body_move (loop_of l.entry) (signal_of signal))
+        stack.old stack.new result }
 {
     match signal {
-        Signal::Normal => Next::goes(
-            frames_before_turn(l, l.change),
-            Signal::Normal,
-            Effect::Keeps,
-        ),
-        Signal::Continues => Next::goes(
-            frames_before_turn(l, l.change),
-            Signal::Normal,
-            Effect::Keeps,
-        ),
-        Signal::Breaks => done(Signal::Normal),
-        other => done(other),
+        Signal::Normal => change_before_turn(stack, l, l.change),
+        Signal::Continues => change_before_turn(stack, l, l.change),
+        Signal::Breaks => Next::hands(Signal::Normal),
+        other => Next::hands(other),
     }
 }

@@ -1,158 +1,204 @@
 //! The moves of statements.
-ghost use Rattle.std.specs.Prelude.{◌≡◌, ◌∷◌, [], option_map};
+ghost use Rattle.std.specs.Prelude.{◌≡◌, option_map};
 ghost use Rattle.inform_tree.specs.Values.{expression_of, arguments_of};
-ghost use Rattle.inform_tree.specs.Statements.{assignment_if_any, condition_if_any, statement_of, statements_of, cases_of};
+ghost use Rattle.inform_tree.specs.Conditions.{condition_of};
+ghost use Rattle.inform_tree.specs.Statements.{statement_of, statements_of, cases_of};
 ghost use Rattle.inform_tree.specs.Statements as s;
-ghost use Rattle.inform_meaning.specs.Frames as f;
-ghost use Rattle.inform_meaning.specs.Statements.{for_loop};
 ghost use Rattle.inform_meaning.specs.Worlds as w;
 ghost use Rattle.inform_meaning.specs.Worlds.{entries_of, has_room};
-ghost use Rattle.inform_moves.specs.Moves.{call_frames, change_frames, steps_to, ends, read_move, statement_move, block_move};
-ghost use Rattle.inform_worlds.specs.Views.{world_of};
-ghost use Rattle.inform_frames.specs.Frames.{signal_of, default_tree};
-ghost use Rattle.inform_frames.specs.Nexts.{move_of, pushed_of};
+ghost use Rattle.inform_moves.specs.Moves.{call_parts, call_alone, branch_move, switch_move, read_move, statement_move, block_move};
+ghost use Rattle.inform_worlds.specs.Views.{world_of, program_seen};
+ghost use Rattle.inform_frames.specs.Frames.{default_of, default_tree};
+ghost use Rattle.inform_frames.specs.Stacks.{HasRoom};
+ghost use Rattle.inform_frames.specs.Nexts.{Makes};
 
+use crate::changes::alter_next;
+use crate::choices::cases_next;
 use crate::frames::{Begin, Decide, Frame, Want};
-use crate::loops::{change_frames, do_loop, for_loop, while_loop};
-use crate::nexts::{Effect, Next, Pushed};
+use crate::immediate::{immediate_arguments, immediate_truth, immediate_value};
+use crate::loops::{do_loop, first_next, for_loop, while_loop};
+use crate::nexts::{Effect, Next};
 use crate::signals::{Halt, Signal};
-use crate::values::{done, goes_with};
+use crate::stacks::Stack;
+use crate::values::{evals, goes_to, goes_with, trapped};
 use inform_meaning::Trap;
-use inform_tree::{Case, Change, Cond, Expr, Name, Stmt};
+use inform_tree::{Case, Cond, Expr, Name, Stmt};
 use inform_worlds::{Arguments, World};
 
-// These frames take the place, after a step.
-fn steps_to<'a>(pushed: Pushed<'a>) -> Next<'a>
-    ensures { (world : w.World) → move_of world result ≡ steps_to (pushed_of pushed.entry) }
-{
-    Next::ticks(pushed, Signal::Normal, Effect::Keeps)
-}
-
-// The frame is finished, after a step.
-fn ends<'a>(signal: Signal) -> Next<'a>
-    ensures { (world : w.World) → move_of world result ≡ ends (signal_of signal) }
-{
-    Next::ticks(Pushed::none(), signal, Effect::Keeps)
-}
-
-// The frames of a call that stands alone.
-fn call_frames<'a>(name: &'a Name, xs: &'a [Expr]) -> Pushed<'a>
-    ensures { pushed_of result ≡ call_frames name.now (arguments_of xs.now) }
+// A call that stands alone, argument by argument.
+fn call_parts<'a>(stack: &mut Stack<'a>, name: &'a Name, xs: &'a [Expr]) -> Next<'a>
+    requires { HasRoom stack.old }
+    ensures { (world : w.World) → Makes world (call_parts name.now (arguments_of xs.now))
+        stack.old stack.new result }
 {
     match xs {
-        [] => Pushed::two(
+        [] => goes_with(
+            stack,
             Frame::Begins(Begin::CallDue(name, Arguments::none())),
             Frame::Wants(Want::Forgets),
         ),
-        [x, rest @ ..] => Pushed::three(
-            Frame::Begins(Begin::Evals(x)),
-            Frame::Wants(Want::Args(name, Arguments::none(), rest)),
+        [x, rest @ ..] => {
+            stack.push(Frame::Wants(Want::Forgets));
+            stack.push(Frame::Wants(Want::Args(name, Arguments::none(), rest)));
+            stack.push(Frame::Begins(Begin::Evals(x)));
+            Next::hands(Signal::Normal)
+        }
+    }
+}
+
+// A call that stands alone: its value is forgotten.
+fn call_alone<'a>(
+    world: &World<'a>,
+    stack: &mut Stack<'a>,
+    name: &'a Name,
+    xs: &'a [Expr],
+) -> Next<'a>
+    requires { HasRoom stack.old }
+    ensures { Makes (world_of world.now) (call_alone (program_seen world.now) (world_of world.now)
+        name.now (arguments_of xs.now)) stack.old stack.new result }
+{
+    match immediate_arguments(world, Arguments::none(), xs) {
+        Some(all) => goes_with(
+            stack,
+            Frame::Begins(Begin::CallDue(name, all)),
             Frame::Wants(Want::Forgets),
         ),
+        None => call_parts(stack, name, xs),
     }
 }
 
 // A line for a buffer that has room for it.
-fn read_next<'a>(world: &World<'a>, line: &'a Name) -> Next<'a>
-    ensures { let world = world_of world.now in move_of world result
-        ≡ read_move world line.now (has_room (entries_of line.now world)) }
+fn read_next<'a>(world: &World<'a>, stack: &mut Stack<'a>, line: &'a Name) -> Next<'a>
+    requires { HasRoom stack.old }
+    ensures { let world = world_of world.now in Makes world (read_move world line.now
+        (has_room (entries_of line.now world))) stack.old stack.new result }
 {
     if world.has_room(line) {
-        return steps_to(Pushed::one(Frame::Begins(Begin::LineDue(line))));
+        return goes_to(stack, Frame::Begins(Begin::LineDue(line)));
     }
-    let directive = world.scope().directive;
-    ends(Signal::Halts(Halt::Trapped(Trap::Line, directive)))
+    trapped(world, Trap::Line)
 }
 
-// The frames of a `for`: its first change, if there is one, and its turns.
-fn for_frames<'a>(
-    first: &'a Option<Change>,
-    test: &'a Option<Cond>,
-    change: &'a Option<Change>,
+// The block that an `if` picks.
+fn branch_next<'a>(
+    world: &World<'a>,
+    stack: &mut Stack<'a>,
+    test: &'a Cond,
     body: &'a Vec<Stmt>,
-) -> Pushed<'a>
-    ensures { pushed_of result ≡ change_frames
-        (for_loop (condition_if_any test.now) (assignment_if_any change.now)
-        (statements_of body.now.items)) (assignment_if_any first.now) }
+    other: &'a Vec<Stmt>,
+) -> Next<'a>
+    requires { HasRoom stack.old }
+    ensures { Makes (world_of world.now) (branch_move (program_seen world.now) (world_of world.now)
+        (condition_of test.now) (statements_of body.now.items) (statements_of other.now.items))
+        stack.old stack.new result }
 {
-    change_frames(for_loop(test, change, body), first)
+    match immediate_truth(world, test) {
+        Some(true) => goes_to(stack, Frame::Begins(Begin::Blocks(body))),
+        Some(false) => goes_to(stack, Frame::Begins(Begin::Blocks(other))),
+        None => goes_with(
+            stack,
+            Frame::Begins(Begin::Tests(test)),
+            Frame::Decides(Decide::Branches(body, other)),
+        ),
+    }
 }
 
-// The frames of a `switch`: its value, and the cases that wait for it.
-fn switch_frames<'a>(
+// What a `switch` does where no case fits, if anything.
+fn default_if_any<'a>(rest: &'a Option<Vec<Stmt>>) -> Option<&'a Vec<Stmt>>
+    ensures { default_of result ≡ default_tree rest.now }
+{
+    match rest {
+        None => None,
+        Some(body) => Some(body),
+    }
+}
+
+// The case that a `switch` picks.
+fn switch_next<'a>(
+    world: &World<'a>,
+    stack: &mut Stack<'a>,
     value: &'a Expr,
     cases: &'a Vec<Case>,
     rest: &'a Option<Vec<Stmt>>,
-) -> Pushed<'a>
-    ensures { pushed_of result ≡ f.Begins (f.Evals (expression_of value.now))
-        ∷ f.Wants (f.Picks (cases_of cases.now.items) (default_tree rest.now)) ∷ [] }
+) -> Next<'a>
+    requires { HasRoom stack.old }
+    ensures { Makes (world_of world.now) (switch_move (program_seen world.now) (world_of world.now)
+        (expression_of value.now) (cases_of cases.now.items) (default_tree rest.now))
+        stack.old stack.new result }
 {
-    let rest = match rest {
-        None => None,
-        Some(body) => Some(body),
-    };
-    Pushed::two(
-        Frame::Begins(Begin::Evals(value)),
-        Frame::Wants(Want::Picks(cases, rest)),
-    )
+    let rest = default_if_any(rest);
+    match immediate_value(world, value) {
+        Some(a) => cases_next(world.names(), stack, a, cases, rest),
+        None => evals(stack, value, Want::Picks(cases, rest)),
+    }
 }
 
 // A routine returns this value, or 1.
-fn return_next<'a>(value: &'a Option<Expr>) -> Next<'a>
-    ensures { (world : w.World) → move_of world result
-        ≡ statement_move world (s.Return (option_map expression_of value.now)) }
+fn return_next<'a>(world: &World<'a>, stack: &mut Stack<'a>, value: &'a Option<Expr>) -> Next<'a>
+    requires { HasRoom stack.old }
+    ensures { Makes (world_of world.now) (statement_move (program_seen world.now)
+        (world_of world.now) (s.Return (option_map expression_of value.now)))
+        stack.old stack.new result }
 {
     match value {
-        None => ends(Signal::Returns(1)),
-        Some(value) => steps_to(Pushed::two(
-            Frame::Begins(Begin::Evals(value)),
-            Frame::Wants(Want::Gives),
-        )),
+        None => Next::hands(Signal::Returns(1)),
+        Some(value) => match immediate_value(world, value) {
+            Some(a) => Next::hands(Signal::Returns(a)),
+            None => evals(stack, value, Want::Gives),
+        },
     }
 }
 
 /// A statement that is due.
-pub fn statement_next<'a>(world: &World<'a>, x: &'a Stmt) -> Next<'a>
-    ensures { move_of (world_of world.now) result
-        ≡ statement_move (world_of world.now) (statement_of x.now) }
+pub fn statement_next<'a>(world: &World<'a>, stack: &mut Stack<'a>, x: &'a Stmt) -> Next<'a>
+    requires { HasRoom stack.old }
+    ensures { Makes (world_of world.now) (statement_move (program_seen world.now)
+        (world_of world.now) (statement_of x.now)) stack.old stack.new result }
 {
     match x {
-        Stmt::Empty => ends(Signal::Normal),
-        Stmt::Block(body) => steps_to(Pushed::one(Frame::Begins(Begin::Blocks(body)))),
-        Stmt::Change(change) => steps_to(Pushed::one(Frame::Begins(Begin::Alters(change)))),
-        Stmt::Call(name, xs) => steps_to(call_frames(name, xs)),
-        Stmt::If(test, body, other) => steps_to(Pushed::two(
-            Frame::Begins(Begin::Tests(test)),
-            Frame::Decides(Decide::Branches(body, other)),
-        )),
-        Stmt::While(test, body) => steps_to(Pushed::one(Frame::Begins(Begin::TurnDue(while_loop(
-            test, body,
-        ))))),
-        Stmt::Do(body, test) => steps_to(Pushed::two(
+        Stmt::Empty => Next::hands(Signal::Normal),
+        Stmt::Block(body) => goes_to(stack, Frame::Begins(Begin::Blocks(body))),
+        Stmt::Change(change) => alter_next(world, stack, change),
+        Stmt::Call(name, xs) => call_alone(world, stack, name, xs),
+        Stmt::If(test, body, other) => branch_next(world, stack, test, body, other),
+        Stmt::While(test, body) => goes_to(
+            stack,
+            Frame::Begins(Begin::TurnDue(while_loop(test, body))),
+        ),
+        Stmt::Do(body, test) => goes_with(
+            stack,
             Frame::Begins(Begin::Blocks(body)),
             Frame::Looping(do_loop(body, test)),
-        )),
-        Stmt::For(first, test, change, body) => steps_to(for_frames(first, test, change, body)),
-        Stmt::Switch(value, cases, rest) => steps_to(switch_frames(value, cases, rest)),
-        Stmt::Break => ends(Signal::Breaks),
-        Stmt::Continue => ends(Signal::Continues),
-        Stmt::Quit => ends(Signal::Halts(Halt::Quits)),
-        Stmt::Rtrue => ends(Signal::Returns(1)),
-        Stmt::Rfalse => ends(Signal::Returns(0)),
-        Stmt::Return(value) => return_next(value),
-        Stmt::NewLine => Next::ticks(Pushed::none(), Signal::Normal, Effect::SaysByte(b'\n')),
-        Stmt::Print(items) => steps_to(Pushed::one(Frame::Begins(Begin::Prints(items)))),
-        Stmt::Read(line, _) => read_next(world, line),
+        ),
+        Stmt::For(first, test, change, body) => {
+            first_next(stack, for_loop(test, change, body), first)
+        }
+        Stmt::Switch(value, cases, rest) => switch_next(world, stack, value, cases, rest),
+        Stmt::Break => Next::hands(Signal::Breaks),
+        Stmt::Continue => Next::hands(Signal::Continues),
+        Stmt::Quit => Next::hands(Signal::Halts(Halt::Quits)),
+        Stmt::Rtrue => Next::hands(Signal::Returns(1)),
+        Stmt::Rfalse => Next::hands(Signal::Returns(0)),
+        Stmt::Return(value) => return_next(world, stack, value),
+        Stmt::NewLine => Next {
+            signal: Signal::Normal,
+            effect: Effect::SaysByte(b'\n'),
+        },
+        Stmt::Print(items) => goes_to(stack, Frame::Begins(Begin::Prints(items))),
+        Stmt::Read(line, _) => read_next(world, stack, line),
     }
 }
 
 /// The statements that are still to be done.
-pub fn block_next<'a>(xs: &'a [Stmt]) -> Next<'a>
-    ensures { (world : w.World) → move_of world result ≡ block_move (statements_of xs.now) }
+pub fn block_next<'a>(stack: &mut Stack<'a>, xs: &'a [Stmt]) -> Next<'a>
+    requires { HasRoom stack.old }
+    ensures { (world : w.World) → Makes world (block_move (statements_of xs.now))
+        stack.old stack.new result }
 {
     match xs {
-        [] => done(Signal::Normal),
+        [] => Next::hands(Signal::Normal),
         [x, rest @ ..] => goes_with(
+            stack,
             Frame::Begins(Begin::Due(x)),
             Frame::Begins(Begin::Blocks(rest)),
         ),

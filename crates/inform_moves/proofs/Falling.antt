@@ -12,8 +12,10 @@ use Rattle.inform_meaning.specs.Words.{summed, multiplied}
 use Rattle.inform_meaning.specs.Frames as f
 use Rattle.inform_meaning.specs.Frames.{Loop, Begin, Want, Decide, Frame, Begins, Wants, Decides, Looping, Calling, Main, Over, Outcome, Value, Truth, Normal, Returns, Breaks, Continues, Halts, Waits}
 use Rattle.inform_meaning.specs.Statements.{loop_goes_on, fits_any}
-use Rattle.inform_moves.specs.Moves.{Move, Goes, Ticks, Reads, Draws, goes_to, arguments_move, sum_move, product_move, factor_move, eval_move, all_move, any_move, test_move, alter_move, prints_move, enter_move, call_move, turn_move, change_frames, tested_move, read_move, statement_move, block_move, default_move, cases_move, begin_move, entry_move, store_move, range_move, value_move, truth_move, next}
+use Rattle.inform_moves.specs.Immediate.{immediate_value, immediate_sum, immediate_product, immediate_arguments, immediate_truth}
+use Rattle.inform_moves.specs.Moves.{Move, Goes, Ticks, Reads, Draws, at_once, done, goes_to, goes_with, evals, alters, says_move, argument_parts, arguments_move, sum_parts, sum_move, product_parts, product_move, factor_move, value_parts, eval_move, all_move, any_move, truth_parts, test_move, right_move, alter_move, prints_move, enter_move, call_move, ticked, turn_test, turn_move, picked_move, change_frames, call_parts, call_alone, tested_move, branch_move, switch_move, return_move, read_move, statement_move, block_move, default_move, cases_move, begin_move, entry_move, store_by, store_move, place_move, range_move, value_move, truth_move, next}
 use Rattle.inform_moves.specs.Laws.{FallsBelow, MovesFall}
+use Rattle.inform_moves.proofs.AtOnce.{at_once-all}
 use Rattle.inform_moves.specs.Works.{expression_work, arguments_work, terms_work, factors_work, condition_work, conditions_work, assignment_work, change_work, items_work, block_work, cases_work, default_work, begin_work, want_work, loop_work, decide_work, work, works}
 
 -- the frames of a move without a step have less than so much to do
@@ -99,35 +101,59 @@ work-positive (Over halt) = omega arith
 
 -- ---- moves
 
-arguments-fall : (name : List ℕ) (values : List ℤ) (xs : Arguments)
-    → Falls (arguments_work xs + 2) (arguments_move name values xs)
-arguments-fall name values v.NoArguments = omega arith
-arguments-fall name values (v.MoreArguments x xs) = omega arith
+more-room : (a b : ℕ) (m : Move) → a < b + 1 → Falls a m → Falls b m
+more-room a b (Goes frames e effect) h k = omega (arith, h, k)
+more-room a b (Ticks frames e effect) h k = tt
+more-room a b (Reads name) h k = omega (arith, h, k)
+more-room a b (Draws n) h k = omega (arith, h, k)
 
-sum-falls : (a : ℤ) (xs : Terms) → Falls (terms_work xs + 1) (sum_move a xs)
-sum-falls a v.NoTerms = omega arith
-sum-falls a (v.MoreTerms op x xs) = omega arith
+argument_parts-fall : (name : List ℕ) (values : List ℤ) (xs : Arguments)
+    → Falls (arguments_work xs + 2) (argument_parts name values xs)
+argument_parts-fall name values v.NoArguments = omega arith
+argument_parts-fall name values (v.MoreArguments x xs) = omega arith
 
-product-falls : (a : ℤ) (xs : Factors) → Falls (factors_work xs + 1) (product_move a xs)
-product-falls a v.NoFactors = omega arith
-product-falls a (v.MoreFactors op x xs) = omega arith
+arguments-fall : (p : Program) (w : World) (name : List ℕ) (values : List ℤ) (xs : Arguments)
+    → Falls (arguments_work xs + 2) (arguments_move p w name values xs)
+arguments-fall p w name values xs =
+    at_once-all (Falls (arguments_work xs + 2)) (immediate_arguments p w values xs) _ _ (λ all. omega arith) (argument_parts-fall name values xs)
 
-factor-falls : (w : World) (o : Option ℤ) (xs : Factors)
-    → Falls (factors_work xs + 1) (factor_move w o xs)
-factor-falls w None xs = omega arith
-factor-falls w (Some a) xs = product-falls a xs
+sum_parts-fall : (a : ℤ) (xs : Terms) → Falls (terms_work xs + 1) (sum_parts a xs)
+sum_parts-fall a v.NoTerms = omega arith
+sum_parts-fall a (v.MoreTerms op x xs) = omega arith
+
+sum-falls : (p : Program) (w : World) (a : ℤ) (xs : Terms) → Falls (terms_work xs + 1) (sum_move p w a xs)
+sum-falls p w a xs =
+    at_once-all (Falls (terms_work xs + 1)) (immediate_sum p w a xs) _ _ (λ b. omega arith) (sum_parts-fall a xs)
+
+product_parts-fall : (a : ℤ) (xs : Factors) → Falls (factors_work xs + 1) (product_parts a xs)
+product_parts-fall a v.NoFactors = omega arith
+product_parts-fall a (v.MoreFactors op x xs) = omega arith
+
+product-falls : (p : Program) (w : World) (a : ℤ) (xs : Factors) → Falls (factors_work xs + 1) (product_move p w a xs)
+product-falls p w a xs =
+    at_once-all (Falls (factors_work xs + 1)) (immediate_product p w a xs) _ _ (λ b. omega arith) (product_parts-fall a xs)
+
+factor-falls : (p : Program) (w : World) (o : Option ℤ) (xs : Factors)
+    → Falls (factors_work xs + 1) (factor_move p w o xs)
+factor-falls p w None xs = omega arith
+factor-falls p w (Some a) xs = product-falls p w a xs
+
+value_parts-fall : (p : Program) (w : World) (x : Expression)
+    → Falls (expression_work x) (value_parts p w x)
+value_parts-fall p w (v.Number n) = omega arith
+value_parts-fall p w (v.Char byte) = omega arith
+value_parts-fall p w (v.Name name) = omega arith
+value_parts-fall p w (v.Entry name words index) = omega arith
+value_parts-fall p w (v.Call name xs) = arguments-fall p w name [] xs
+value_parts-fall p w (v.Random x) = omega arith
+value_parts-fall p w (v.Neg x) = omega arith
+value_parts-fall p w (v.Sum x xs) = omega arith
+value_parts-fall p w (v.Product x xs) = omega arith
 
 eval-falls : (p : Program) (w : World) (x : Expression)
     → Falls (expression_work x) (eval_move p w x)
-eval-falls p w (v.Number n) = omega arith
-eval-falls p w (v.Char byte) = omega arith
-eval-falls p w (v.Name name) = omega arith
-eval-falls p w (v.Entry name words index) = omega arith
-eval-falls p w (v.Call name xs) = arguments-fall name [] xs
-eval-falls p w (v.Random x) = omega arith
-eval-falls p w (v.Neg x) = omega arith
-eval-falls p w (v.Sum x xs) = omega arith
-eval-falls p w (v.Product x xs) = omega arith
+eval-falls p w x =
+    at_once-all (Falls (expression_work x)) (immediate_value p w x) _ _ (λ a. expression-positive x) (value_parts-fall p w x)
 
 all-falls : (xs : Conditions) → Falls (conditions_work xs + 1) (all_move xs)
 all-falls d.NoConditions = omega arith
@@ -137,25 +163,50 @@ any-falls : (xs : Conditions) → Falls (conditions_work xs + 1) (any_move xs)
 any-falls d.NoConditions = omega arith
 any-falls (d.MoreConditions x xs) = omega arith
 
-test-falls : (x : Condition) → Falls (condition_work x) (test_move x)
-test-falls (d.Compare relation x y) = omega arith
-test-falls (d.Nonzero x) = omega arith
-test-falls (d.All xs) = all-falls xs
-test-falls (d.Any xs) = any-falls xs
-test-falls (d.Not x) = omega arith
+truth_parts-fall : (x : Condition) → Falls (condition_work x) (truth_parts x)
+truth_parts-fall (d.Compare relation x y) = omega arith
+truth_parts-fall (d.Nonzero x) = omega arith
+truth_parts-fall (d.All xs) = all-falls xs
+truth_parts-fall (d.Any xs) = any-falls xs
+truth_parts-fall (d.Not x) = omega arith
+
+test-falls : (p : Program) (w : World) (x : Condition) → Falls (condition_work x) (test_move p w x)
+test-falls p w x =
+    at_once-all (Falls (condition_work x)) (immediate_truth p w x) _ _ (λ b. condition-positive x) (truth_parts-fall x)
+
+store_by-falls : (most : ℕ) → 0 < most → (w : World) (o : Option ℤ) (after : World)
+    → Falls most (store_by w o after)
+store_by-falls most h w None after = h
+store_by-falls most h w (Some a) after = h
+
+store-falls : (most : ℕ) → 0 < most → (w : World) (name : List ℕ) (words : Bool) (i a : ℤ)
+    → Falls most (store_move w name words i a)
+store-falls most h w name words i a =
+    store_by-falls most h w (entry_at (entries_of name w) i) (stored name words i a w)
+
+place-falls : (p : Program) (w : World) (name : List ℕ) (words : Bool) (i : ℤ) (y : Expression)
+    → Falls (expression_work y + 2) (place_move p w name words i y)
+place-falls p w name words i y =
+    at_once-all (Falls (expression_work y + 2)) (immediate_value p w y) _ _ (λ a. store-falls _ (omega arith) w name words i a) (omega arith)
 
 alter-falls : (p : Program) (w : World) (x : Assignment)
     → Falls (assignment_work x) (alter_move p w x)
-alter-falls p w (s.Set name x) = omega arith
-alter-falls p w (s.SetEntry name words x y) = omega arith
+alter-falls p w (s.Set name x) =
+    at_once-all (Falls (expression_work x + 2)) (immediate_value p w x) _ _ (λ a. omega arith) (omega arith)
+alter-falls p w (s.SetEntry name words x y) =
+    at_once-all (Falls (expression_work x + (expression_work y + 3))) (immediate_value p w x) _ _
+    (λ i. more-room _ _ (place_move p w name words i y) (omega arith) (place-falls p w name words i y)) (omega arith)
 alter-falls p w (s.Inc name) = omega arith
 alter-falls p w (s.Dec name) = omega arith
 
-prints-fall : (xs : List PrintItem) → Falls (items_work xs + 1) (prints_move xs)
-prints-fall [] = omega arith
-prints-fall (s.Text text ∷ xs) = omega arith
-prints-fall (s.Value x ∷ xs) = omega arith
-prints-fall (s.Char x ∷ xs) = omega arith
+prints-fall : (p : Program) (w : World) (xs : List PrintItem)
+    → Falls (items_work xs + 1) (prints_move p w xs)
+prints-fall p w [] = omega arith
+prints-fall p w (s.Text text ∷ xs) = omega arith
+prints-fall p w (s.Value x ∷ xs) =
+    at_once-all (Falls (expression_work x + (items_work xs + 2) + 1)) (immediate_value p w x) _ _ (λ a. omega arith) (omega arith)
+prints-fall p w (s.Char x ∷ xs) =
+    at_once-all (Falls (expression_work x + (items_work xs + 2) + 1)) (immediate_value p w x) _ _ (λ a. omega arith) (omega arith)
 
 block-falls : (xs : Statements) → Falls (block_work xs) (block_move xs)
 block-falls s.NoStatements = omega arith
@@ -164,12 +215,6 @@ block-falls (s.MoreStatements x xs) = omega arith
 default-falls : (x : Default) → Falls (default_work x + 1) (default_move x)
 default-falls s.NoDefault = omega arith
 default-falls (s.SomeDefault body) = omega arith
-
-more-room : (a b : ℕ) (m : Move) → a < b + 1 → Falls a m → Falls b m
-more-room a b (Goes frames e effect) h k = omega (arith, h, k)
-more-room a b (Ticks frames e effect) h k = tt
-more-room a b (Reads name) h k = omega (arith, h, k)
-more-room a b (Draws n) h k = omega (arith, h, k)
 
 cases-fall : (p : Program) (a : ℤ) (xs : Cases) (rest : Default)
     → Falls (cases_work xs + (default_work rest + 1)) (cases_move p a xs rest)
@@ -189,10 +234,6 @@ entry-falls : (w : World) (o : Option ℤ) → Falls 1 (entry_move w o)
 entry-falls w None = omega arith
 entry-falls w (Some a) = omega arith
 
-store-falls : (w : World) (o : Option ℤ) (after : World) → Falls 1 (store_move w o after)
-store-falls w None after = omega arith
-store-falls w (Some a) after = omega arith
-
 range-falls : (w : World) (a : ℤ) (b : Bool) → Falls 2 (range_move w a b)
 range-falls w a true = omega arith
 range-falls w a false = omega arith
@@ -207,65 +248,72 @@ call-falls : (p : Program) (n : ℕ) (w : World) (name : List ℕ) (values : Lis
 call-falls p zero w name values = tt
 call-falls p (suc n) w name values = enter-falls p w name (p.routines name) values
 
-turn-falls : (l : Loop) (x : Option Condition) → Falls 1 (turn_move l x)
-turn-falls l None = tt
-turn-falls l (Some x) = tt
+ticked-falls : (m : Move) → Falls 1 (ticked m)
+ticked-falls (Goes frames e effect) = tt
+ticked-falls (Ticks frames e effect) = tt
+ticked-falls (Reads name) = omega arith
+ticked-falls (Draws n) = omega arith
+
+turn-falls : (p : Program) (w : World) (l : Loop) (x : Option Condition)
+    → Falls 1 (turn_move p w l x)
+turn-falls p w l None = tt
+turn-falls p w l (Some x) = ticked-falls (turn_test p w l x)
 
 read-falls : (w : World) (name : List ℕ) (b : Bool) → Falls 1 (read_move w name b)
 read-falls w name true = tt
 read-falls w name false = tt
 
-statement-falls : (w : World) (x : Statement) → Falls 1 (statement_move w x)
-statement-falls w s.Empty = tt
-statement-falls w (s.Block body) = tt
-statement-falls w (s.Assign x) = tt
-statement-falls w (s.Call name xs) = tt
-statement-falls w (s.If x body other) = tt
-statement-falls w (s.While x body) = tt
-statement-falls w (s.Do body x) = tt
-statement-falls w (s.For first x change body) = tt
-statement-falls w (s.Switch x xs rest) = tt
-statement-falls w s.Break = tt
-statement-falls w s.Continue = tt
-statement-falls w s.Quit = tt
-statement-falls w s.Rtrue = tt
-statement-falls w s.Rfalse = tt
-statement-falls w (s.Return None) = tt
-statement-falls w (s.Return (Some x)) = tt
-statement-falls w s.NewLine = tt
-statement-falls w (s.Print xs) = tt
-statement-falls w (s.Read line words) = read-falls w line (has_room (entries_of line w))
+statement-falls : (p : Program) (w : World) (x : Statement) → Falls 1 (statement_move p w x)
+statement-falls p w s.Empty = tt
+statement-falls p w (s.Block body) = tt
+statement-falls p w (s.Assign x) = ticked-falls (alter_move p w x)
+statement-falls p w (s.Call name xs) = ticked-falls (call_alone p w name xs)
+statement-falls p w (s.If x body other) = ticked-falls (branch_move p w x body other)
+statement-falls p w (s.While x body) = tt
+statement-falls p w (s.Do body x) = tt
+statement-falls p w (s.For first x change body) = tt
+statement-falls p w (s.Switch x xs rest) = ticked-falls (switch_move p w x xs rest)
+statement-falls p w s.Break = tt
+statement-falls p w s.Continue = tt
+statement-falls p w s.Quit = tt
+statement-falls p w s.Rtrue = tt
+statement-falls p w s.Rfalse = tt
+statement-falls p w (s.Return None) = tt
+statement-falls p w (s.Return (Some x)) = ticked-falls (return_move p w x)
+statement-falls p w s.NewLine = tt
+statement-falls p w (s.Print xs) = tt
+statement-falls p w (s.Read line words) = read-falls w line (has_room (entries_of line w))
 
 begin-falls : (p : Program) (n : ℕ) (w : World) (x : Begin)
     → Falls (begin_work x) (begin_move p n w x)
 begin-falls p n w (f.Evals x) = eval-falls p w x
 begin-falls p n w (f.CallDue name values) = call-falls p n w name values
 begin-falls p n w (f.DrawDue m) = omega arith
-begin-falls p n w (f.Tests x) = test-falls x
+begin-falls p n w (f.Tests x) = test-falls p w x
 begin-falls p n w (f.Alters x) = alter-falls p w x
-begin-falls p n w (f.Due x) = statement-falls w x
+begin-falls p n w (f.Due x) = statement-falls p w x
 begin-falls p n w (f.Blocks xs) = block-falls xs
-begin-falls p n w (f.Prints xs) = prints-fall xs
+begin-falls p n w (f.Prints xs) = prints-fall p w xs
 begin-falls p n w (f.LineDue name) = omega arith
-begin-falls p n w (f.TurnDue l) = turn-falls l l.test
+begin-falls p n w (f.TurnDue l) = turn-falls p w l l.test
 
 value-falls : (p : Program) (w : World) (x : Want) (a : ℤ)
     → Falls (want_work x) (value_move p w x a)
 value-falls p w (f.IndexOf name) a = entry-falls w (entry_at (entries_of name w) a)
-value-falls p w (f.Args name values xs) a = arguments-fall name (with_argument values a) xs
+value-falls p w (f.Args name values xs) a = arguments-fall p w name (with_argument values a) xs
 value-falls p w f.RangeOf a = range-falls w a (int_lt a (pos 1))
 value-falls p w f.Negates a = omega arith
-value-falls p w (f.SumFrom xs) a = sum-falls a xs
-value-falls p w (f.SumOnto op b xs) a = sum-falls (summed p.width op b a) xs
-value-falls p w (f.ProductFrom xs) a = product-falls a xs
-value-falls p w (f.ProductOnto op b xs) a = factor-falls w (multiplied p.width op b a) xs
-value-falls p w (f.LeftOf relation y) a = omega arith
+value-falls p w (f.SumFrom xs) a = sum-falls p w a xs
+value-falls p w (f.SumOnto op b xs) a = sum-falls p w (summed p.width op b a) xs
+value-falls p w (f.ProductFrom xs) a = product-falls p w a xs
+value-falls p w (f.ProductOnto op b xs) a = factor-falls p w (multiplied p.width op b a) xs
+value-falls p w (f.LeftOf relation y) a =
+    at_once-all (Falls (expression_work y + 2)) (immediate_value p w y) _ _ (λ b. omega arith) (omega arith)
 value-falls p w (f.RightOf relation b) a = omega arith
 value-falls p w f.IsNonzero a = omega arith
 value-falls p w (f.Sets name) a = omega arith
-value-falls p w (f.PlaceOf name words y) a = omega arith
-value-falls p w (f.Stores name words i) a =
-    store-falls w (entry_at (entries_of name w) i) (stored name words i a w)
+value-falls p w (f.PlaceOf name words y) a = place-falls p w name words a y
+value-falls p w (f.Stores name words i) a = store-falls 1 (omega arith) w name words i a
 value-falls p w f.Forgets a = omega arith
 value-falls p w (f.Picks xs rest) a = cases-fall p a xs rest
 value-falls p w f.Gives a = omega arith

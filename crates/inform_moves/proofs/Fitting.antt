@@ -1,5 +1,5 @@
 -- The frames of each move keep within the height of the frame whose place they take.
-use Rattle.std.proofs.Common.{◌≡◌, ◌∙◌, arith, ℕ, zero, suc, pred, ◌+◌, ◌-◌, ◌*◌, ◌≤◌, ℤ, pos, Bool, true, false, List, [], ◌∷◌, ◌++◌, length, Option, Some, None, refl, ap}
+use Rattle.std.proofs.Common.{◌≡◌, ◌∙◌, arith, ℕ, zero, suc, pred, ◌+◌, ◌-◌, ◌*◌, ◌≤◌, max, ℤ, pos, Bool, true, false, List, [], ◌∷◌, ◌++◌, length, Option, Some, None, refl, ap}
 use Rattle.std.specs.Prelude.{⊤, int_lt, if◌then◌else◌}
 use Rattle.inform_tree.specs.Depths.{expression_depth, arguments_depth, terms_depth, factors_depth, condition_depth, conditions_depth, assignment_depth, items_depth, statement_depth, statements_depth, cases_depth, default_depth, optional_depth}
 use Rattle.inform_tree.specs.Values as v
@@ -13,9 +13,11 @@ use Rattle.inform_meaning.specs.Words.{summed, multiplied}
 use Rattle.inform_meaning.specs.Frames as f
 use Rattle.inform_meaning.specs.Frames.{Loop, Begin, Want, Decide, Frame, Begins, Wants, Decides, Looping, Calling, Main, Over, Outcome, Value, Truth, Normal, Returns, Breaks, Continues, Halts, Waits}
 use Rattle.inform_meaning.specs.Statements.{for_loop, loop_goes_on, fits_any}
-use Rattle.inform_moves.specs.Moves.{Move, Goes, Ticks, Reads, Draws, goes_to, arguments_move, sum_move, product_move, factor_move, eval_move, all_move, any_move, test_move, alter_move, prints_move, enter_move, call_move, turn_move, change_frames, call_frames, tested_move, read_move, statement_move, block_move, default_move, cases_move, begin_move, entry_move, store_move, range_move, value_move, truth_move, next}
+use Rattle.inform_moves.specs.Immediate.{immediate_value, immediate_sum, immediate_product, immediate_arguments, immediate_truth}
+use Rattle.inform_moves.specs.Moves.{Move, Goes, Ticks, Reads, Draws, at_once, done, goes_to, goes_with, evals, alters, says_move, argument_parts, arguments_move, sum_parts, sum_move, product_parts, product_move, factor_move, value_parts, eval_move, all_move, any_move, truth_parts, test_move, right_move, alter_move, prints_move, enter_move, call_move, ticked, turn_test, turn_move, picked_move, change_frames, call_parts, call_alone, tested_move, branch_move, switch_move, return_move, read_move, statement_move, block_move, default_move, cases_move, begin_move, entry_move, store_by, store_move, place_move, range_move, value_move, truth_move, next}
 use Rattle.inform_moves.specs.Heights.{ROUTINE_FRAMES, loop_height, begin_height, want_height, decide_height, height, Within, standing, Fits, calls_open}
 use Rattle.inform_moves.specs.Laws.{IsShallow, FitsAfter, MovesFit, OpensAtMost, MovesOpen, FramesAreFew, RoomIsLeft}
+use Rattle.inform_moves.proofs.AtOnce.{at_once-all}
 
 -- the frames of a move keep within so many
 abbrev pub Keeping : ℕ → Move → Type 0
@@ -24,35 +26,53 @@ Keeping most (Ticks frames e effect) = Within most frames
 Keeping most (Reads name) = ⊤
 Keeping most (Draws n) = ⊤
 
-pub arguments-keep : (name : List ℕ) (values : List ℤ) (xs : Arguments)
-    → Keeping (arguments_depth xs + 1) (arguments_move name values xs)
-arguments-keep name values v.NoArguments = (omega arith, tt, tt)
-arguments-keep name values (v.MoreArguments x xs) = (omega arith, tt, (omega arith, tt, tt))
+argument_parts-keep : (name : List ℕ) (values : List ℤ) (xs : Arguments)
+    → Keeping (arguments_depth xs + 1) (argument_parts name values xs)
+argument_parts-keep name values v.NoArguments = (omega arith, tt, tt)
+argument_parts-keep name values (v.MoreArguments x xs) = (omega arith, tt, (omega arith, tt, tt))
 
-sum-keeps : (a : ℤ) (xs : Terms) → Keeping (terms_depth xs + 1) (sum_move a xs)
-sum-keeps a v.NoTerms = tt
-sum-keeps a (v.MoreTerms op x xs) = (omega arith, tt, (omega arith, tt, tt))
+arguments-keep : (p : Program) (w : World) (name : List ℕ) (values : List ℤ) (xs : Arguments)
+    → Keeping (arguments_depth xs + 1) (arguments_move p w name values xs)
+arguments-keep p w name values xs =
+    at_once-all (Keeping (arguments_depth xs + 1)) (immediate_arguments p w values xs) _ _ (λ all. (omega arith, tt, tt)) (argument_parts-keep name values xs)
 
-product-keeps : (a : ℤ) (xs : Factors) → Keeping (factors_depth xs + 1) (product_move a xs)
-product-keeps a v.NoFactors = tt
-product-keeps a (v.MoreFactors op x xs) = (omega arith, tt, (omega arith, tt, tt))
+sum_parts-keep : (a : ℤ) (xs : Terms) → Keeping (terms_depth xs + 1) (sum_parts a xs)
+sum_parts-keep a v.NoTerms = tt
+sum_parts-keep a (v.MoreTerms op x xs) = (omega arith, tt, (omega arith, tt, tt))
 
-factor-keeps : (w : World) (o : Option ℤ) (xs : Factors)
-    → Keeping (factors_depth xs + 1) (factor_move w o xs)
-factor-keeps w None xs = tt
-factor-keeps w (Some a) xs = product-keeps a xs
+sum-keeps : (p : Program) (w : World) (a : ℤ) (xs : Terms) → Keeping (terms_depth xs + 1) (sum_move p w a xs)
+sum-keeps p w a xs =
+    at_once-all (Keeping (terms_depth xs + 1)) (immediate_sum p w a xs) _ _ (λ b. tt) (sum_parts-keep a xs)
+
+product_parts-keep : (a : ℤ) (xs : Factors) → Keeping (factors_depth xs + 1) (product_parts a xs)
+product_parts-keep a v.NoFactors = tt
+product_parts-keep a (v.MoreFactors op x xs) = (omega arith, tt, (omega arith, tt, tt))
+
+product-keeps : (p : Program) (w : World) (a : ℤ) (xs : Factors) → Keeping (factors_depth xs + 1) (product_move p w a xs)
+product-keeps p w a xs =
+    at_once-all (Keeping (factors_depth xs + 1)) (immediate_product p w a xs) _ _ (λ b. tt) (product_parts-keep a xs)
+
+factor-keeps : (p : Program) (w : World) (o : Option ℤ) (xs : Factors)
+    → Keeping (factors_depth xs + 1) (factor_move p w o xs)
+factor-keeps p w None xs = tt
+factor-keeps p w (Some a) xs = product-keeps p w a xs
+
+value_parts-keep : (p : Program) (w : World) (x : Expression)
+    → Keeping (expression_depth x) (value_parts p w x)
+value_parts-keep p w (v.Number n) = tt
+value_parts-keep p w (v.Char byte) = tt
+value_parts-keep p w (v.Name name) = tt
+value_parts-keep p w (v.Entry name words index) = (omega arith, tt, (omega arith, tt, tt))
+value_parts-keep p w (v.Call name xs) = arguments-keep p w name [] xs
+value_parts-keep p w (v.Random x) = (omega arith, tt, (omega arith, tt, tt))
+value_parts-keep p w (v.Neg x) = (omega arith, tt, (omega arith, tt, tt))
+value_parts-keep p w (v.Sum x xs) = (omega arith, tt, (omega arith, tt, tt))
+value_parts-keep p w (v.Product x xs) = (omega arith, tt, (omega arith, tt, tt))
 
 eval-keeps : (p : Program) (w : World) (x : Expression)
     → Keeping (expression_depth x) (eval_move p w x)
-eval-keeps p w (v.Number n) = tt
-eval-keeps p w (v.Char byte) = tt
-eval-keeps p w (v.Name name) = tt
-eval-keeps p w (v.Entry name words index) = (omega arith, tt, (omega arith, tt, tt))
-eval-keeps p w (v.Call name xs) = arguments-keep name [] xs
-eval-keeps p w (v.Random x) = (omega arith, tt, (omega arith, tt, tt))
-eval-keeps p w (v.Neg x) = (omega arith, tt, (omega arith, tt, tt))
-eval-keeps p w (v.Sum x xs) = (omega arith, tt, (omega arith, tt, tt))
-eval-keeps p w (v.Product x xs) = (omega arith, tt, (omega arith, tt, tt))
+eval-keeps p w x =
+    at_once-all (Keeping (expression_depth x)) (immediate_value p w x) _ _ (λ a. tt) (value_parts-keep p w x)
 
 all-keeps : (xs : Conditions) → Keeping (conditions_depth xs + 1) (all_move xs)
 all-keeps d.NoConditions = tt
@@ -62,25 +82,45 @@ any-keeps : (xs : Conditions) → Keeping (conditions_depth xs + 1) (any_move xs
 any-keeps d.NoConditions = tt
 any-keeps (d.MoreConditions x xs) = (omega arith, tt, (omega arith, tt, tt))
 
-test-keeps : (x : Condition) → Keeping (condition_depth x) (test_move x)
-test-keeps (d.Compare relation x y) = (omega arith, tt, (omega arith, tt, tt))
-test-keeps (d.Nonzero x) = (omega arith, tt, (omega arith, tt, tt))
-test-keeps (d.All xs) = all-keeps xs
-test-keeps (d.Any xs) = any-keeps xs
-test-keeps (d.Not x) = (omega arith, tt, (omega arith, tt, tt))
+truth_parts-keep : (x : Condition) → Keeping (condition_depth x) (truth_parts x)
+truth_parts-keep (d.Compare relation x y) = (omega arith, tt, (omega arith, tt, tt))
+truth_parts-keep (d.Nonzero x) = (omega arith, tt, (omega arith, tt, tt))
+truth_parts-keep (d.All xs) = all-keeps xs
+truth_parts-keep (d.Any xs) = any-keeps xs
+truth_parts-keep (d.Not x) = (omega arith, tt, (omega arith, tt, tt))
 
-alter-keeps : (p : Program) (w : World) (x : Assignment)
-    → Keeping (assignment_depth x + 1) (alter_move p w x)
-alter-keeps p w (s.Set name x) = (omega arith, tt, (omega arith, tt, tt))
-alter-keeps p w (s.SetEntry name words x y) = (omega arith, tt, (omega arith, tt, tt))
-alter-keeps p w (s.Inc name) = tt
-alter-keeps p w (s.Dec name) = tt
+test-keeps : (p : Program) (w : World) (x : Condition) → Keeping (condition_depth x) (test_move p w x)
+test-keeps p w x =
+    at_once-all (Keeping (condition_depth x)) (immediate_truth p w x) _ _ (λ b. tt) (truth_parts-keep x)
 
-prints-keep : (xs : List PrintItem) → Keeping (items_depth xs + 1) (prints_move xs)
-prints-keep [] = tt
-prints-keep (s.Text text ∷ xs) = (omega arith, tt, tt)
-prints-keep (s.Value x ∷ xs) = (omega arith, tt, (omega arith, tt, tt))
-prints-keep (s.Char x ∷ xs) = (omega arith, tt, (omega arith, tt, tt))
+store-keeps : (most : ℕ) (w : World) (o : Option ℤ) (after : World) → Keeping most (store_by w o after)
+store-keeps most w None after = tt
+store-keeps most w (Some a) after = tt
+
+place-keeps : (p : Program) (w : World) (most : ℕ) (name : List ℕ) (words : Bool) (i : ℤ) (y : Expression)
+    → expression_depth y + 1 ≤ most → Keeping most (place_move p w name words i y)
+place-keeps p w most name words i y h =
+    at_once-all (Keeping most) (immediate_value p w y) _ _
+    (λ a. store-keeps most w (entry_at (entries_of name w) i) (stored name words i a w)) (omega (arith, h), tt, (omega (arith, h), tt, tt))
+
+alter-keeps : (p : Program) (w : World) (most : ℕ) (x : Assignment) → assignment_depth x + 1 ≤ most
+    → Keeping most (alter_move p w x)
+alter-keeps p w most (s.Set name x) h =
+    at_once-all (Keeping most) (immediate_value p w x) _ _ (λ a. tt) (omega (arith, h), tt, (omega (arith, h), tt, tt))
+alter-keeps p w most (s.SetEntry name words x y) h =
+    at_once-all (Keeping most) (immediate_value p w x) _ _ (λ i. place-keeps p w most name words i y (omega (arith, h)))
+    (omega (arith, h), tt, (omega (arith, h), tt, tt))
+alter-keeps p w most (s.Inc name) h = tt
+alter-keeps p w most (s.Dec name) h = tt
+
+prints-keep : (p : Program) (w : World) (xs : List PrintItem)
+    → Keeping (items_depth xs + 1) (prints_move p w xs)
+prints-keep p w [] = tt
+prints-keep p w (s.Text text ∷ xs) = (omega arith, tt, tt)
+prints-keep p w (s.Value x ∷ xs) =
+    at_once-all (Keeping (max (expression_depth x) (items_depth xs) + 1)) (immediate_value p w x) _ _ (λ a. (omega arith, tt, tt)) (omega arith, tt, (omega arith, tt, tt))
+prints-keep p w (s.Char x ∷ xs) =
+    at_once-all (Keeping (max (expression_depth x) (items_depth xs) + 1)) (immediate_value p w x) _ _ (λ a. (omega arith, tt, tt)) (omega arith, tt, (omega arith, tt, tt))
 
 block-keeps : (xs : Statements) → Keeping (2 * statements_depth xs + 1) (block_move xs)
 block-keeps s.NoStatements = tt
@@ -111,78 +151,93 @@ entry-keeps : (w : World) (o : Option ℤ) → Keeping 1 (entry_move w o)
 entry-keeps w None = tt
 entry-keeps w (Some a) = tt
 
-store-keeps : (w : World) (o : Option ℤ) (after : World) → Keeping 1 (store_move w o after)
-store-keeps w None after = tt
-store-keeps w (Some a) after = tt
-
 range-keeps : (w : World) (a : ℤ) (b : Bool) → Keeping 1 (range_move w a b)
 range-keeps w a true = tt
 range-keeps w a false = (omega arith, tt, tt)
 
-turn-keeps : (l : Loop) (x : Option Condition)
-    → optional_depth condition_depth x + 1 ≤ loop_height l → Keeping (loop_height l) (turn_move l x)
-turn-keeps l None h = (omega arith, tt, tt)
-turn-keeps l (Some x) h = (omega (arith, h), tt, (omega arith, tt, tt))
+ticked-keeps : (most : ℕ) (m : Move) → Keeping most m → Keeping most (ticked m)
+ticked-keeps most (Goes frames e effect) h = h
+ticked-keeps most (Ticks frames e effect) h = h
+ticked-keeps most (Reads name) h = h
+ticked-keeps most (Draws n) h = h
+
+tested-keeps : (l : Loop) (b : Bool) → Keeping (loop_height l) (tested_move l b)
+tested-keeps l true = (omega arith, tt, (omega arith, tt, tt))
+tested-keeps l false = tt
+
+turn-keeps : (p : Program) (w : World) (l : Loop) (x : Option Condition)
+    → optional_depth condition_depth x + 1 ≤ loop_height l
+    → Keeping (loop_height l) (turn_move p w l x)
+turn-keeps p w l None h = (omega arith, tt, tt)
+turn-keeps p w l (Some x) h = ticked-keeps (loop_height l) (turn_test p w l x)
+    (at_once-all (Keeping (loop_height l)) (immediate_truth p w x) _ _ (λ b. tested-keeps l (loop_goes_on l b)) (omega (arith, h), tt, (omega arith, tt, tt)))
 
 read-keeps : (w : World) (name : List ℕ) (b : Bool) → Keeping 2 (read_move w name b)
 read-keeps w name true = (omega arith, tt, tt)
 read-keeps w name false = tt
 
-call_frames-keep : (name : List ℕ) (xs : Arguments)
-    → Within (2 * (arguments_depth xs + 1)) (call_frames name xs)
-call_frames-keep name v.NoArguments = (omega arith, tt, (omega arith, tt, tt))
-call_frames-keep name (v.MoreArguments x xs) =
+call_parts-keep : (name : List ℕ) (xs : Arguments)
+    → Keeping (2 * (arguments_depth xs + 1)) (call_parts name xs)
+call_parts-keep name v.NoArguments = (omega arith, tt, (omega arith, tt, tt))
+call_parts-keep name (v.MoreArguments x xs) =
     (omega arith, tt, (omega arith, tt, (omega arith, tt, tt)))
 
-pub statement-keeps : (w : World) (x : Statement)
-    → Keeping (2 * statement_depth x) (statement_move w x)
-statement-keeps w s.Empty = tt
-statement-keeps w (s.Block body) = (omega arith, tt, tt)
-statement-keeps w (s.Assign x) = (omega arith, tt, tt)
-statement-keeps w (s.Call name xs) = call_frames-keep name xs
-statement-keeps w (s.If x body other) = (omega arith, tt, (omega arith, tt, tt))
-statement-keeps w (s.While x body) = (omega arith, tt, tt)
-statement-keeps w (s.Do body x) = (omega arith, tt, (omega arith, tt, tt))
-statement-keeps w (s.For first x change body) =
+picked-keeps : (most : ℕ) (body other : Statements) → 2 * statements_depth body + 1 ≤ most
+    → 2 * statements_depth other + 1 ≤ most → (b : Bool) → Keeping most (picked_move body other b)
+picked-keeps most body other h k true = (omega (arith, h), tt, tt)
+picked-keeps most body other h k false = (omega (arith, k), tt, tt)
+
+pub statement-keeps : (p : Program) (w : World) (x : Statement)
+    → Keeping (2 * statement_depth x) (statement_move p w x)
+statement-keeps p w s.Empty = tt
+statement-keeps p w (s.Block body) = (omega arith, tt, tt)
+statement-keeps p w (s.Assign x) =
+    ticked-keeps _ (alter_move p w x) (alter-keeps p w _ x (omega arith))
+statement-keeps p w (s.Call name xs) = ticked-keeps _ (call_alone p w name xs)
+    (at_once-all (Keeping (2 * (arguments_depth xs + 1))) (immediate_arguments p w [] xs) _ _ (λ all. (omega arith, tt, (omega arith, tt, tt))) (call_parts-keep name xs))
+statement-keeps p w (s.If x body other) = ticked-keeps _ (branch_move p w x body other)
+    (at_once-all (Keeping (2 * statement_depth (s.If x body other))) (immediate_truth p w x) _ _ (picked-keeps _ body other (omega arith) (omega arith)) (omega arith, tt, (omega arith, tt, tt)))
+statement-keeps p w (s.While x body) = (omega arith, tt, tt)
+statement-keeps p w (s.Do body x) = (omega arith, tt, (omega arith, tt, tt))
+statement-keeps p w (s.For first x change body) =
     change-keeps (for_loop x change body) _ first (omega arith) (omega arith)
-statement-keeps w (s.Switch x xs rest) = (omega arith, tt, (omega arith, tt, tt))
-statement-keeps w s.Break = tt
-statement-keeps w s.Continue = tt
-statement-keeps w s.Quit = tt
-statement-keeps w s.Rtrue = tt
-statement-keeps w s.Rfalse = tt
-statement-keeps w (s.Return None) = tt
-statement-keeps w (s.Return (Some x)) = (omega arith, tt, (omega arith, tt, tt))
-statement-keeps w s.NewLine = tt
-statement-keeps w (s.Print xs) = (omega arith, tt, tt)
-statement-keeps w (s.Read line words) = read-keeps w line (has_room (entries_of line w))
+statement-keeps p w (s.Switch x xs rest) = ticked-keeps _ (switch_move p w x xs rest)
+    (at_once-all (Keeping (2 * statement_depth (s.Switch x xs rest))) (immediate_value p w x) _ _ (λ a. cases-keep p a _ xs rest (omega arith) (omega arith)) (omega arith, tt, (omega arith, tt, tt)))
+statement-keeps p w s.Break = tt
+statement-keeps p w s.Continue = tt
+statement-keeps p w s.Quit = tt
+statement-keeps p w s.Rtrue = tt
+statement-keeps p w s.Rfalse = tt
+statement-keeps p w (s.Return None) = tt
+statement-keeps p w (s.Return (Some x)) = ticked-keeps _ (return_move p w x)
+    (at_once-all (Keeping (2 * (expression_depth x + 1))) (immediate_value p w x) _ _ (λ a. tt) (omega arith, tt, (omega arith, tt, tt)))
+statement-keeps p w s.NewLine = tt
+statement-keeps p w (s.Print xs) = (omega arith, tt, tt)
+statement-keeps p w (s.Read line words) = read-keeps w line (has_room (entries_of line w))
 
 value-keeps : (p : Program) (w : World) (x : Want) (a : ℤ)
     → Keeping (want_height x) (value_move p w x a)
 value-keeps p w (f.IndexOf name) a = entry-keeps w (entry_at (entries_of name w) a)
-value-keeps p w (f.Args name values xs) a = arguments-keep name (with_argument values a) xs
+value-keeps p w (f.Args name values xs) a = arguments-keep p w name (with_argument values a) xs
 value-keeps p w f.RangeOf a = range-keeps w a (int_lt a (pos 1))
 value-keeps p w f.Negates a = tt
-value-keeps p w (f.SumFrom xs) a = sum-keeps a xs
-value-keeps p w (f.SumOnto op b xs) a = sum-keeps (summed p.width op b a) xs
-value-keeps p w (f.ProductFrom xs) a = product-keeps a xs
-value-keeps p w (f.ProductOnto op b xs) a = factor-keeps w (multiplied p.width op b a) xs
-value-keeps p w (f.LeftOf relation y) a = (omega arith, tt, (omega arith, tt, tt))
+value-keeps p w (f.SumFrom xs) a = sum-keeps p w a xs
+value-keeps p w (f.SumOnto op b xs) a = sum-keeps p w (summed p.width op b a) xs
+value-keeps p w (f.ProductFrom xs) a = product-keeps p w a xs
+value-keeps p w (f.ProductOnto op b xs) a = factor-keeps p w (multiplied p.width op b a) xs
+value-keeps p w (f.LeftOf relation y) a =
+    at_once-all (Keeping (expression_depth y + 1)) (immediate_value p w y) _ _ (λ b. tt) (omega arith, tt, (omega arith, tt, tt))
 value-keeps p w (f.RightOf relation b) a = tt
 value-keeps p w f.IsNonzero a = tt
 value-keeps p w (f.Sets name) a = tt
-value-keeps p w (f.PlaceOf name words y) a = (omega arith, tt, (omega arith, tt, tt))
+value-keeps p w (f.PlaceOf name words y) a = place-keeps p w _ name words a y (omega arith)
 value-keeps p w (f.Stores name words i) a =
-    store-keeps w (entry_at (entries_of name w) i) (stored name words i a w)
+    store-keeps 1 w (entry_at (entries_of name w) i) (stored name words i a w)
 value-keeps p w f.Forgets a = tt
 value-keeps p w (f.Picks xs rest) a = cases-keep p a _ xs rest (omega arith) (omega arith)
 value-keeps p w f.Gives a = tt
 value-keeps p w (f.SaysNumber xs) a = (omega arith, tt, tt)
 value-keeps p w (f.SaysChar xs) a = (omega arith, tt, tt)
-
-tested-keeps : (l : Loop) (b : Bool) → Keeping (loop_height l) (tested_move l b)
-tested-keeps l true = (omega arith, tt, (omega arith, tt, tt))
-tested-keeps l false = tt
 
 truth-keeps : (x : Decide) (b : Bool) → Keeping (decide_height x) (truth_move x b)
 truth-keeps (f.AllOf xs) true = all-keeps xs
@@ -204,13 +259,13 @@ begin-keeps : (p : Program) (n : ℕ) (w : World) (x : Begin) → IsNoCall (Begi
 begin-keeps p n w (f.Evals x) h = eval-keeps p w x
 begin-keeps p n w (f.CallDue name values) h = absurd h
 begin-keeps p n w (f.DrawDue m) h = tt
-begin-keeps p n w (f.Tests x) h = test-keeps x
-begin-keeps p n w (f.Alters x) h = alter-keeps p w x
-begin-keeps p n w (f.Due x) h = statement-keeps w x
+begin-keeps p n w (f.Tests x) h = test-keeps p w x
+begin-keeps p n w (f.Alters x) h = alter-keeps p w _ x (omega arith)
+begin-keeps p n w (f.Due x) h = statement-keeps p w x
 begin-keeps p n w (f.Blocks xs) h = block-keeps xs
-begin-keeps p n w (f.Prints xs) h = prints-keep xs
+begin-keeps p n w (f.Prints xs) h = prints-keep p w xs
 begin-keeps p n w (f.LineDue name) h = tt
-begin-keeps p n w (f.TurnDue l) h = turn-keeps l l.test (omega arith)
+begin-keeps p n w (f.TurnDue l) h = turn-keeps p w l l.test (omega arith)
 
 -- a frame that is no call
 pub next-keeps : (p : Program) (n : ℕ) (w : World) (x : Frame) (e : Outcome) → IsNoCall x

@@ -1,6 +1,8 @@
+pub mod Immediate
+pub mod AtOnce
+pub mod Needing
 pub mod MovesMean
 pub mod Falling
 pub mod Fitting
-pub mod Asking
 pub mod Readying
 pub mod Running

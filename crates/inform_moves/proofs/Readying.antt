@@ -12,40 +12,80 @@ use Rattle.inform_meaning.specs.Words.{summed, multiplied}
 use Rattle.inform_meaning.specs.Frames as f
 use Rattle.inform_meaning.specs.Frames.{Loop, Begin, Want, Decide, Frame, Begins, Wants, Decides, Looping, Calling, Main, Over, Outcome, Value, Truth, Normal, Returns, Breaks, Continues, Halts, Waits}
 use Rattle.inform_meaning.specs.Statements.{for_loop, loop_goes_on, fits_any}
-use Rattle.inform_moves.specs.Moves.{goes_to, arguments_move, sum_move, product_move, factor_move, eval_move, all_move, any_move, test_move, alter_move, prints_move, enter_move, call_move, turn_move, change_frames, call_frames, tested_move, read_move, statement_move, block_move, default_move, cases_move, begin_move, entry_move, store_move, range_move, value_move, truth_move, next}
-use Rattle.inform_moves.specs.Readiness.{AreDry, IsReady, ReadyAfter}
+use Rattle.inform_moves.specs.Immediate.{immediate_value, immediate_sum, immediate_product, immediate_arguments, immediate_truth}
+use Rattle.inform_moves.specs.Moves.{Effect, Move, Goes, Ticks, Reads, Draws, at_once, done, goes_to, goes_with, evals, alters, says_move, argument_parts, arguments_move, sum_parts, sum_move, product_parts, product_move, factor_move, value_parts, eval_move, all_move, any_move, truth_parts, test_move, right_move, alter_move, prints_move, enter_move, call_move, ticked, turn_test, turn_move, picked_move, change_frames, call_parts, call_alone, tested_move, branch_move, switch_move, return_move, read_move, statement_move, block_move, default_move, cases_move, begin_move, entry_move, store_by, store_move, place_move, range_move, value_move, truth_move, next}
+use Rattle.inform_moves.specs.Readiness.{IsDry, AreDry, HasRoom, IsReady, effected_world, ReadyAfter}
 use Rattle.inform_moves.specs.Laws.{MovesReady}
+use Rattle.inform_moves.proofs.AtOnce.{at_once-all}
+
+-- frames of which none is due for a line are ready in any world
+dry-room : (w : World) (x : Frame) → IsDry x → HasRoom w x
+dry-room w (Begins (f.Evals x)) h = tt
+dry-room w (Begins (f.CallDue name values)) h = tt
+dry-room w (Begins (f.DrawDue n)) h = tt
+dry-room w (Begins (f.Tests x)) h = tt
+dry-room w (Begins (f.Alters x)) h = tt
+dry-room w (Begins (f.Due x)) h = tt
+dry-room w (Begins (f.Blocks xs)) h = tt
+dry-room w (Begins (f.Prints xs)) h = tt
+dry-room w (Begins (f.LineDue name)) h = absurd h
+dry-room w (Begins (f.TurnDue l)) h = tt
+dry-room w (Wants x) h = tt
+dry-room w (Decides x) h = tt
+dry-room w (Looping l) h = tt
+dry-room w (Calling scope) h = tt
+dry-room w Main h = tt
+dry-room w (Over halt) h = tt
+
+dry-ready : (w : World) (frames : List Frame) → AreDry frames → IsReady w frames
+dry-ready w [] h = tt
+dry-ready w (x ∷ xs) h = (dry-room w x h.0, h.1)
 
 module _ (w : World) where
-  arguments-ready : (name : List ℕ) (values : List ℤ) (xs : Arguments)
-      → ReadyAfter w (arguments_move name values xs)
-  arguments-ready name values v.NoArguments = (tt, tt)
-  arguments-ready name values (v.MoreArguments x xs) = (tt, (tt, tt))
+  argument_parts-ready : (name : List ℕ) (values : List ℤ) (xs : Arguments)
+      → ReadyAfter w (argument_parts name values xs)
+  argument_parts-ready name values v.NoArguments = (tt, tt)
+  argument_parts-ready name values (v.MoreArguments x xs) = (tt, (tt, tt))
 
-  sum-ready : (a : ℤ) (xs : Terms) → ReadyAfter w (sum_move a xs)
-  sum-ready a v.NoTerms = tt
-  sum-ready a (v.MoreTerms op x xs) = (tt, (tt, tt))
+  arguments-ready : (p : Program) (name : List ℕ) (values : List ℤ) (xs : Arguments)
+      → ReadyAfter w (arguments_move p w name values xs)
+  arguments-ready p name values xs =
+      at_once-all (ReadyAfter w) (immediate_arguments p w values xs) _ _ (λ all. (tt, tt)) (argument_parts-ready name values xs)
 
-  product-ready : (a : ℤ) (xs : Factors) → ReadyAfter w (product_move a xs)
-  product-ready a v.NoFactors = tt
-  product-ready a (v.MoreFactors op x xs) = (tt, (tt, tt))
+  sum_parts-ready : (a : ℤ) (xs : Terms) → ReadyAfter w (sum_parts a xs)
+  sum_parts-ready a v.NoTerms = tt
+  sum_parts-ready a (v.MoreTerms op x xs) = (tt, (tt, tt))
 
-  factor-ready : (o : Option ℤ) (xs : Factors)
-      → ReadyAfter w (factor_move w o xs)
-  factor-ready None xs = tt
-  factor-ready (Some a) xs = product-ready a xs
+  sum-ready : (p : Program) (a : ℤ) (xs : Terms) → ReadyAfter w (sum_move p w a xs)
+  sum-ready p a xs =
+      at_once-all (ReadyAfter w) (immediate_sum p w a xs) _ _ (λ b. tt) (sum_parts-ready a xs)
 
-  eval-ready : (p : Program) (x : Expression)
-      → ReadyAfter w (eval_move p w x)
-  eval-ready p (v.Number n) = tt
-  eval-ready p (v.Char byte) = tt
-  eval-ready p (v.Name name) = tt
-  eval-ready p (v.Entry name words index) = (tt, (tt, tt))
-  eval-ready p (v.Call name xs) = arguments-ready name [] xs
-  eval-ready p (v.Random x) = (tt, (tt, tt))
-  eval-ready p (v.Neg x) = (tt, (tt, tt))
-  eval-ready p (v.Sum x xs) = (tt, (tt, tt))
-  eval-ready p (v.Product x xs) = (tt, (tt, tt))
+  product_parts-ready : (a : ℤ) (xs : Factors) → ReadyAfter w (product_parts a xs)
+  product_parts-ready a v.NoFactors = tt
+  product_parts-ready a (v.MoreFactors op x xs) = (tt, (tt, tt))
+
+  product-ready : (p : Program) (a : ℤ) (xs : Factors) → ReadyAfter w (product_move p w a xs)
+  product-ready p a xs =
+      at_once-all (ReadyAfter w) (immediate_product p w a xs) _ _ (λ b. tt) (product_parts-ready a xs)
+
+  factor-ready : (p : Program) (o : Option ℤ) (xs : Factors) → ReadyAfter w (factor_move p w o xs)
+  factor-ready p None xs = tt
+  factor-ready p (Some a) xs = product-ready p a xs
+
+  value_parts-ready : (p : Program) (x : Expression) → ReadyAfter w (value_parts p w x)
+  value_parts-ready p (v.Number n) = tt
+  value_parts-ready p (v.Char byte) = tt
+  value_parts-ready p (v.Name name) = tt
+  value_parts-ready p (v.Entry name words index) = (tt, (tt, tt))
+  value_parts-ready p (v.Call name xs) = arguments-ready p name [] xs
+  value_parts-ready p (v.Random x) = (tt, (tt, tt))
+  value_parts-ready p (v.Neg x) = (tt, (tt, tt))
+  value_parts-ready p (v.Sum x xs) = (tt, (tt, tt))
+  value_parts-ready p (v.Product x xs) = (tt, (tt, tt))
+
+  eval-ready : (p : Program) (x : Expression) → ReadyAfter w (eval_move p w x)
+  eval-ready p x =
+      at_once-all (ReadyAfter w) (immediate_value p w x) _ _ (λ a. tt) (value_parts-ready p x)
 
   all-ready : (xs : Conditions) → ReadyAfter w (all_move xs)
   all-ready d.NoConditions = tt
@@ -55,25 +95,41 @@ module _ (w : World) where
   any-ready d.NoConditions = tt
   any-ready (d.MoreConditions x xs) = (tt, (tt, tt))
 
-  test-ready : (x : Condition) → ReadyAfter w (test_move x)
-  test-ready (d.Compare relation x y) = (tt, (tt, tt))
-  test-ready (d.Nonzero x) = (tt, (tt, tt))
-  test-ready (d.All xs) = all-ready xs
-  test-ready (d.Any xs) = any-ready xs
-  test-ready (d.Not x) = (tt, (tt, tt))
+  truth_parts-ready : (x : Condition) → ReadyAfter w (truth_parts x)
+  truth_parts-ready (d.Compare relation x y) = (tt, (tt, tt))
+  truth_parts-ready (d.Nonzero x) = (tt, (tt, tt))
+  truth_parts-ready (d.All xs) = all-ready xs
+  truth_parts-ready (d.Any xs) = any-ready xs
+  truth_parts-ready (d.Not x) = (tt, (tt, tt))
 
-  alter-ready : (p : Program) (x : Assignment)
-      → ReadyAfter w (alter_move p w x)
-  alter-ready p (s.Set name x) = (tt, (tt, tt))
-  alter-ready p (s.SetEntry name words x y) = (tt, (tt, tt))
+  test-ready : (p : Program) (x : Condition) → ReadyAfter w (test_move p w x)
+  test-ready p x =
+      at_once-all (ReadyAfter w) (immediate_truth p w x) _ _ (λ b. tt) (truth_parts-ready x)
+
+  store-ready : (o : Option ℤ) (after : World) → ReadyAfter w (store_by w o after)
+  store-ready None after = tt
+  store-ready (Some a) after = tt
+
+  place-ready : (p : Program) (name : List ℕ) (words : Bool) (i : ℤ) (y : Expression)
+      → ReadyAfter w (place_move p w name words i y)
+  place-ready p name words i y = at_once-all (ReadyAfter w) (immediate_value p w y) _ _
+      (λ a. store-ready (entry_at (entries_of name w) i) (stored name words i a w)) (tt, (tt, tt))
+
+  alter-ready : (p : Program) (x : Assignment) → ReadyAfter w (alter_move p w x)
+  alter-ready p (s.Set name x) =
+      at_once-all (ReadyAfter w) (immediate_value p w x) _ _ (λ a. tt) (tt, (tt, tt))
+  alter-ready p (s.SetEntry name words x y) =
+      at_once-all (ReadyAfter w) (immediate_value p w x) _ _ (λ i. place-ready p name words i y) (tt, (tt, tt))
   alter-ready p (s.Inc name) = tt
   alter-ready p (s.Dec name) = tt
 
-  prints-ready : (xs : List PrintItem) → ReadyAfter w (prints_move xs)
-  prints-ready [] = tt
-  prints-ready (s.Text text ∷ xs) = (tt, tt)
-  prints-ready (s.Value x ∷ xs) = (tt, (tt, tt))
-  prints-ready (s.Char x ∷ xs) = (tt, (tt, tt))
+  prints-ready : (p : Program) (xs : List PrintItem) → ReadyAfter w (prints_move p w xs)
+  prints-ready p [] = tt
+  prints-ready p (s.Text text ∷ xs) = (tt, tt)
+  prints-ready p (s.Value x ∷ xs) =
+      at_once-all (ReadyAfter w) (immediate_value p w x) _ _ (λ a. (tt, tt)) (tt, (tt, tt))
+  prints-ready p (s.Char x ∷ xs) =
+      at_once-all (ReadyAfter w) (immediate_value p w x) _ _ (λ a. (tt, tt)) (tt, (tt, tt))
 
   block-ready : (xs : Statements) → ReadyAfter w (block_move xs)
   block-ready s.NoStatements = tt
@@ -105,17 +161,24 @@ module _ (w : World) where
   entry-ready None = tt
   entry-ready (Some a) = tt
 
-  store-ready : (o : Option ℤ) (after : World) → ReadyAfter w (store_move w o after)
-  store-ready None after = tt
-  store-ready (Some a) after = tt
-
   range-ready : (a : ℤ) (b : Bool) → ReadyAfter w (range_move w a b)
   range-ready a true = tt
   range-ready a false = (tt, tt)
 
-  turn-ready : (l : Loop) (x : Option Condition) → ReadyAfter w (turn_move l x)
-  turn-ready l None = (tt, tt)
-  turn-ready l (Some x) = (tt, (tt, tt))
+  ticked-ready : (m : Move) → ReadyAfter w m → ReadyAfter w (ticked m)
+  ticked-ready (Goes frames e effect) h = dry-ready (effected_world effect w) frames h
+  ticked-ready (Ticks frames e effect) h = h
+  ticked-ready (Reads name) h = h
+  ticked-ready (Draws n) h = h
+
+  tested-ready : (l : Loop) (b : Bool) → ReadyAfter w (tested_move l b)
+  tested-ready l true = (tt, (tt, tt))
+  tested-ready l false = tt
+
+  turn-ready : (p : Program) (l : Loop) (x : Option Condition) → ReadyAfter w (turn_move p w l x)
+  turn-ready p l None = (tt, tt)
+  turn-ready p l (Some x) = ticked-ready (turn_test p w l x)
+      (at_once-all (ReadyAfter w) (immediate_truth p w x) _ _ (λ b. tested-ready l (loop_goes_on l b)) (tt, (tt, tt)))
 
   -- a line is due only where its buffer has room
   read-ready : (name : List ℕ) (b : Bool) → has_room (entries_of name w) ≡ b
@@ -133,48 +196,52 @@ module _ (w : World) where
   call-ready p zero name values = tt
   call-ready p (suc n) name values = enter-ready p name (p.routines name) values
 
-  call_frames-ready : (name : List ℕ) (xs : Arguments) → IsReady w (call_frames name xs)
-  call_frames-ready name v.NoArguments = (tt, (tt, tt))
-  call_frames-ready name (v.MoreArguments x xs) = (tt, (tt, (tt, tt)))
+  call_parts-ready : (name : List ℕ) (xs : Arguments) → ReadyAfter w (call_parts name xs)
+  call_parts-ready name v.NoArguments = (tt, (tt, tt))
+  call_parts-ready name (v.MoreArguments x xs) = (tt, (tt, (tt, tt)))
 
-  statement-ready : (x : Statement)
-      → ReadyAfter w (statement_move w x)
-  statement-ready s.Empty = tt
-  statement-ready (s.Block body) = (tt, tt)
-  statement-ready (s.Assign x) = (tt, tt)
-  statement-ready (s.Call name xs) = call_frames-ready name xs
-  statement-ready (s.If x body other) = (tt, (tt, tt))
-  statement-ready (s.While x body) = (tt, tt)
-  statement-ready (s.Do body x) = (tt, (tt, tt))
-  statement-ready (s.For first x change body) =
+  statement-ready : (p : Program) (x : Statement) → ReadyAfter w (statement_move p w x)
+  statement-ready p s.Empty = tt
+  statement-ready p (s.Block body) = (tt, tt)
+  statement-ready p (s.Assign x) = ticked-ready (alter_move p w x) (alter-ready p x)
+  statement-ready p (s.Call name xs) = ticked-ready (call_alone p w name xs)
+      (at_once-all (ReadyAfter w) (immediate_arguments p w [] xs) _ _ (λ all. (tt, (tt, tt))) (call_parts-ready name xs))
+  statement-ready p (s.If x body other) = ticked-ready (branch_move p w x body other)
+      (at_once-all (ReadyAfter w) (immediate_truth p w x) _ _ (λ b. (tt, tt)) (tt, (tt, tt)))
+  statement-ready p (s.While x body) = (tt, tt)
+  statement-ready p (s.Do body x) = (tt, (tt, tt))
+  statement-ready p (s.For first x change body) =
       change-ready (for_loop x change body) first
-  statement-ready (s.Switch x xs rest) = (tt, (tt, tt))
-  statement-ready s.Break = tt
-  statement-ready s.Continue = tt
-  statement-ready s.Quit = tt
-  statement-ready s.Rtrue = tt
-  statement-ready s.Rfalse = tt
-  statement-ready (s.Return None) = tt
-  statement-ready (s.Return (Some x)) = (tt, (tt, tt))
-  statement-ready s.NewLine = tt
-  statement-ready (s.Print xs) = (tt, tt)
-  statement-ready (s.Read line words) = read-ready line (has_room (entries_of line w)) refl
+  statement-ready p (s.Switch x xs rest) = ticked-ready (switch_move p w x xs rest)
+      (at_once-all (ReadyAfter w) (immediate_value p w x) _ _ (λ a. cases-ready p a xs rest) (tt, (tt, tt)))
+  statement-ready p s.Break = tt
+  statement-ready p s.Continue = tt
+  statement-ready p s.Quit = tt
+  statement-ready p s.Rtrue = tt
+  statement-ready p s.Rfalse = tt
+  statement-ready p (s.Return None) = tt
+  statement-ready p (s.Return (Some x)) = ticked-ready (return_move p w x)
+      (at_once-all (ReadyAfter w) (immediate_value p w x) _ _ (λ a. tt) (tt, (tt, tt)))
+  statement-ready p s.NewLine = tt
+  statement-ready p (s.Print xs) = (tt, tt)
+  statement-ready p (s.Read line words) = read-ready line (has_room (entries_of line w)) refl
 
   value-ready : (p : Program) (x : Want) (a : ℤ)
       → ReadyAfter w (value_move p w x a)
   value-ready p (f.IndexOf name) a = entry-ready (entry_at (entries_of name w) a)
-  value-ready p (f.Args name values xs) a = arguments-ready name (with_argument values a) xs
+  value-ready p (f.Args name values xs) a = arguments-ready p name (with_argument values a) xs
   value-ready p f.RangeOf a = range-ready a (int_lt a (pos 1))
   value-ready p f.Negates a = tt
-  value-ready p (f.SumFrom xs) a = sum-ready a xs
-  value-ready p (f.SumOnto op b xs) a = sum-ready (summed p.width op b a) xs
-  value-ready p (f.ProductFrom xs) a = product-ready a xs
-  value-ready p (f.ProductOnto op b xs) a = factor-ready (multiplied p.width op b a) xs
-  value-ready p (f.LeftOf relation y) a = (tt, (tt, tt))
+  value-ready p (f.SumFrom xs) a = sum-ready p a xs
+  value-ready p (f.SumOnto op b xs) a = sum-ready p (summed p.width op b a) xs
+  value-ready p (f.ProductFrom xs) a = product-ready p a xs
+  value-ready p (f.ProductOnto op b xs) a = factor-ready p (multiplied p.width op b a) xs
+  value-ready p (f.LeftOf relation y) a =
+      at_once-all (ReadyAfter w) (immediate_value p w y) _ _ (λ b. tt) (tt, (tt, tt))
   value-ready p (f.RightOf relation b) a = tt
   value-ready p f.IsNonzero a = tt
   value-ready p (f.Sets name) a = tt
-  value-ready p (f.PlaceOf name words y) a = (tt, (tt, tt))
+  value-ready p (f.PlaceOf name words y) a = place-ready p name words a y
   value-ready p (f.Stores name words i) a =
       store-ready (entry_at (entries_of name w) i) (stored name words i a w)
   value-ready p f.Forgets a = tt
@@ -182,10 +249,6 @@ module _ (w : World) where
   value-ready p f.Gives a = tt
   value-ready p (f.SaysNumber xs) a = (tt, tt)
   value-ready p (f.SaysChar xs) a = (tt, tt)
-
-  tested-ready : (l : Loop) (b : Bool) → ReadyAfter w (tested_move l b)
-  tested-ready l true = (tt, (tt, tt))
-  tested-ready l false = tt
 
   truth-ready : (x : Decide) (b : Bool) → ReadyAfter w (truth_move x b)
   truth-ready (f.AllOf xs) true = all-ready xs
@@ -201,13 +264,13 @@ module _ (w : World) where
   begin-ready p n (f.Evals x) = eval-ready p x
   begin-ready p n (f.CallDue name values) = call-ready p n name values
   begin-ready p n (f.DrawDue m) = tt
-  begin-ready p n (f.Tests x) = test-ready x
+  begin-ready p n (f.Tests x) = test-ready p x
   begin-ready p n (f.Alters x) = alter-ready p x
-  begin-ready p n (f.Due x) = statement-ready x
+  begin-ready p n (f.Due x) = statement-ready p x
   begin-ready p n (f.Blocks xs) = block-ready xs
-  begin-ready p n (f.Prints xs) = prints-ready xs
+  begin-ready p n (f.Prints xs) = prints-ready p xs
   begin-ready p n (f.LineDue name) = tt
-  begin-ready p n (f.TurnDue l) = turn-ready l l.test
+  begin-ready p n (f.TurnDue l) = turn-ready p l l.test
 
   next-ready : (p : Program) (n : ℕ) (x : Frame) (e : Outcome) → ReadyAfter w (next p n w x e)
   next-ready p n (Begins x) (Value a) = tt

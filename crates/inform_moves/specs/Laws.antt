@@ -2,10 +2,11 @@
 use Rattle.std.specs.Prelude.{ℕ, ◌≡◌, ◌+◌, ◌-◌, ◌*◌, ◌<◌, ◌≤◌, List, ◌∷◌, ◌++◌, length, Some, ⊤}
 use Rattle.inform_tree.specs.Depths.{statements_depth}
 use Rattle.inform_meaning.specs.Worlds.{Routine, Program, World, Config}
-use Rattle.inform_meaning.specs.Frames.{LineDue, DrawDue, Frame, Begins, Outcome, Waits}
+use Rattle.inform_meaning.specs.Frames.{Frame, Outcome, Waits}
 use Rattle.inform_meaning.specs.Runs.{CALL_LIMIT, room_in, resume_at}
 use Rattle.inform_meaning.specs.Laws as l
 use Rattle.inform_moves.specs.Moves.{Move, Goes, Ticks, Reads, Draws, next}
+use Rattle.inform_moves.specs.Needs.{need, need_in}
 use Rattle.inform_moves.specs.Done.{move_run}
 use Rattle.inform_moves.specs.Works.{work, works}
 use Rattle.inform_moves.specs.Readiness.{ReadyAfter}
@@ -40,16 +41,10 @@ abbrev pub MovesFall : Type 0
 MovesFall =
     (p : Program) (n : ℕ) (w : World) (x : Frame) (e : Outcome) → FallsBelow (work x) (next p n w x e)
 
--- a line or a draw is wanted by the frame that is due for it
-abbrev pub IsAskedIn : Frame → Move → Type 0
-IsAskedIn x (Goes frames e effect) = ⊤
-IsAskedIn x (Ticks frames e effect) = ⊤
-IsAskedIn x (Reads name) = x ≡ Begins (LineDue name)
-IsAskedIn x (Draws n) = x ≡ Begins (DrawDue n)
-
--- No other frame wants a line or a draw.
-abbrev pub MovesAsk : Type 0
-MovesAsk = (p : Program) (n : ℕ) (w : World) (x : Frame) (e : Outcome) → IsAskedIn x (next p n w x e)
+-- What a move needs is told by its frame and by what is handed to it.
+abbrev pub MovesNeed : Type 0
+MovesNeed = (p : Program) (n : ℕ) (w : World) (x : Frame) (e : Outcome)
+    → need_in (next p n w x e) ≡ need x e
 
 -- A line is due only where its buffer has room.
 abbrev pub MovesReady : Type 0

@@ -1,4 +1,6 @@
+pub mod Immediate
 pub mod Moves
+pub mod Needs
 pub mod Done
 pub mod Works
 pub mod Heights

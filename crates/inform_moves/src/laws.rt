@@ -1,5 +1,5 @@
 //! The laws of moves. Each is the contract of a function that does nothing.
-ghost use Rattle.inform_moves.specs.Laws.{RunsAdd, MovesMean, MovesFall, MovesAsk, MovesReady, MovesFit, MovesOpen, FramesAreFew, RoomIsLeft};
+ghost use Rattle.inform_moves.specs.Laws.{RunsAdd, MovesMean, MovesFall, MovesNeed, MovesReady, MovesFit, MovesOpen, FramesAreFew, RoomIsLeft};
 
 /// Whatever is handed to its innermost frame, a run only adds to what happened, and takes lines and draws from
 /// the front.
@@ -20,10 +20,10 @@ pub fn moves_fall()
     ensures { MovesFall }
 {}
 
-/// A line or a draw is wanted by the frame that is due for it, and by no other.
-#[tactic(auto, using(crate::proofs::Asking::moves_ask))]
-pub fn moves_ask()
-    ensures { MovesAsk }
+/// What a move needs is told by its frame and by what is handed to it.
+#[tactic(auto, using(crate::proofs::Needing::moves_need))]
+pub fn moves_need()
+    ensures { MovesNeed }
 {}
 
 /// A line is due only where its buffer has room.

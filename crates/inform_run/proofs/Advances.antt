@@ -9,24 +9,22 @@ use Rattle.inform_meaning.specs.Words.{draw_within}
 use Rattle.inform_meaning.specs.Frames as f
 use Rattle.inform_meaning.specs.Runs.{CALL_LIMIT, room_in}
 use Rattle.inform_moves.specs.Moves as m
-use Rattle.inform_moves.specs.Moves.{Move, Goes, Ticks, Reads, Draws, next}
-use Rattle.inform_moves.specs.Heights.{calls_open}
+use Rattle.inform_moves.specs.Moves.{Move, Goes, Ticks, Reads, Draws, pushed_in, outcome_in, effect_in, next}
+use Rattle.inform_moves.specs.Needs.{Nothing, AStep, need_in}
+use Rattle.inform_moves.specs.Heights.{Fits, calls_open}
 use Rattle.inform_moves.specs.Works.{work, works}
-use Rattle.inform_moves.specs.Laws.{RunsAdd, MovesMean, MovesOpen, RoomIsLeft, OpensAtMost, MovesFall, FallsBelow, MovesAsk, IsAskedIn, MovesReady}
+use Rattle.inform_moves.specs.Laws.{RunsAdd, MovesMean, MovesOpen, RoomIsLeft, OpensAtMost, MovesFall, FallsBelow, MovesFit, FitsAfter, IsShallow, MovesNeed, MovesReady}
 use Rattle.inform_moves.specs.Readiness.{IsDry, AreDry, HasRoom, IsReady, effected_world, ReadyAfter}
 use Rattle.inform_frames.specs.declared.signals.Signal.TheVariants as g
 use Rattle.inform_frames.specs.declared.nexts.Effect.{Effect}
 use Rattle.inform_frames.specs.declared.nexts.Effect.TheVariants as e
-use Rattle.inform_frames.specs.declared.nexts.Next.{Next}
-use Rattle.inform_frames.specs.declared.nexts.NextKind.{NextKind}
-use Rattle.inform_frames.specs.declared.nexts.NextKind.TheVariants as k
 use Rattle.inform_frames.specs.Frames.{signal_of}
-use Rattle.inform_frames.specs.Nexts.{effect_of, pushed_of, move_by, move_of}
-use Rattle.inform_run.specs.Stacks.{rest_of}
-use Rattle.inform_run.specs.Points.{Point, IsNext, world_after, said_by, Leads, Breaks}
-use Rattle.inform_run.specs.Machines.{IsMove, LeadsOn, BreaksOn}
-use Rattle.inform_run.proofs.Innermost.{calls-first}
-use Rattle.inform_run.proofs.Moving.{leads-still, leads-goes, leads-ticks, leads-draws, leads-reads, breaks-goes, breaks-silently, leads-then, breaks-then}
+use Rattle.inform_frames.specs.Frames.{rest_of}
+use Rattle.inform_frames.specs.Nexts.{effect_of, Made, made, made_of}
+use Rattle.inform_frames.proofs.Innermost.{calls-first}
+use Rattle.inform_run.specs.Points.{Point, makes_move, IsNext, world_after, said_by, MovesOn, Leads, Breaks}
+use Rattle.inform_run.specs.Machines.{LeadsOn, BreaksOn}
+use Rattle.inform_run.proofs.Moving.{asked, leads-still, leads-goes, leads-ticks, leads-draws, leads-reads, breaks-goes, breaks-silently, leads-then, breaks-then}
 
 -- ---- room
 
@@ -39,36 +37,107 @@ pub works-append : (xs ys : List f.Frame) → works (xs ++ ys) ≡ works xs + wo
 works-append [] ys = omega arith
 works-append (x ∷ xs) ys = omega (arith, works-append xs ys)
 
-opens-within : (kind : NextKind) (frames : List f.Frame) (e : f.Outcome) (effect : m.Effect) (n : ℕ)
-    → IsMove kind → OpensAtMost n (move_by kind frames e effect) → calls_open frames ≤ n
-opens-within k.Goes frames e effect n is opens = opens
-opens-within k.Ticks frames e effect n is opens = opens
-opens-within (k.Reads name) frames e effect n is opens = absurd is
-opens-within (k.Draws m) frames e effect n is opens = absurd is
+-- a move is made: it needs nothing, or a step
+abbrev pub Makes : Move → Type 0
+Makes m = makes_move (Some (need_in m)) ≡ true
 
-module _ (p : Program) (at : Point) where
+opens-within : (m : Move) (n : ℕ) → OpensAtMost n m → calls_open (pushed_in m) ≤ n
+opens-within (Goes frames e effect) n opens = opens
+opens-within (Ticks frames e effect) n opens = opens
+opens-within (Reads name) n opens = omega arith
+opens-within (Draws k) n opens = omega arith
+
+fits-after : (m : Move) (rest : List f.Frame) → FitsAfter rest m → Fits (pushed_in m ++ rest)
+fits-after (Goes frames e effect) rest fits = fits
+fits-after (Ticks frames e effect) rest fits = fits
+fits-after (Reads name) rest fits = fits
+fits-after (Draws k) rest fits = fits
+
+falls-after : (m : Move) (most : ℕ) → need_in m ≡ Nothing → FallsBelow most m → works (pushed_in m) < most
+falls-after (Goes frames e effect) most quiet falls = falls
+falls-after (Ticks frames e effect) most quiet falls = absurd cc
+falls-after (Reads name) most quiet falls = absurd cc
+falls-after (Draws k) most quiet falls = absurd cc
+
+-- the parts of what a move makes
+abbrev frames_made : Made → List f.Frame
+frames_made (made frames e effect) = frames
+
+abbrev outcome_made : Made → f.Outcome
+outcome_made (made frames e effect) = e
+
+abbrev effect_made : Made → m.Effect
+effect_made (made frames e effect) = effect
+
+made-frames : (m : Move) (rest : List f.Frame) → frames_made (made_of m rest) ≡ pushed_in m ++ rest
+made-frames (Goes frames e effect) rest = refl
+made-frames (Ticks frames e effect) rest = refl
+made-frames (Reads name) rest = refl
+made-frames (Draws k) rest = refl
+
+made-outcome : (m : Move) (rest : List f.Frame) → outcome_made (made_of m rest) ≡ outcome_in m
+made-outcome (Goes frames e effect) rest = refl
+made-outcome (Ticks frames e effect) rest = refl
+made-outcome (Reads name) rest = refl
+made-outcome (Draws k) rest = refl
+
+made-effect : (m : Move) (rest : List f.Frame) → effect_made (made_of m rest) ≡ effect_in m
+made-effect (Goes frames e effect) rest = refl
+made-effect (Ticks frames e effect) rest = refl
+made-effect (Reads name) rest = refl
+made-effect (Draws k) rest = refl
+
+-- the innermost frame made its move
+pub moves-by : (p : Program) (at after : Point) (x : Effect) (top : f.Frame) (rest : List f.Frame) (room : ℕ)
+    → at.frames ≡ top ∷ rest → room ≡ room_in CALL_LIMIT rest
+    → made after.frames (signal_of after.handed) (effect_of at.world x) ≡ made_of (next p room at.world top (signal_of at.handed)) rest
+    → after.world ≡ world_after at.world x
+    → MovesOn p at after x
+moves-by p at after x top rest room here left is world =
+    let move = next p (room_in CALL_LIMIT rest) at.world top (signal_of at.handed) in
+    let all : made after.frames (signal_of after.handed) (effect_of at.world x) ≡ made_of move rest =
+    is ∙ ap (λ n. made_of (next p n at.world top (signal_of at.handed)) rest) left in
+    record {
+      move = move;
+      next = record { top = top; rest = rest; frames = here; is = refl };
+      frames = ap frames_made all ∙ made-frames move rest;
+      handed = ap outcome_made all ∙ made-outcome move rest;
+      effect = ap effect_made all ∙ made-effect move rest;
+      world = world;
+    }
+
+-- all but the innermost frame
+pub fits-rest : (fs : List f.Frame) → Fits fs → Fits (rest_of fs)
+fits-rest [] fits = tt
+fits-rest (x ∷ fs) fits = fits.1
+
+pub few-rest : (fs : List f.Frame) → calls_open fs ≤ CALL_LIMIT → calls_open (rest_of fs) ≤ CALL_LIMIT
+few-rest [] few = few
+few-rest (x ∷ fs) few = omega (arith, few, calls-first x fs)
+
+module _ (p : Program) (at after : Point) (x : Effect) (m : MovesOn p at after x) where
+  -- each routine keeps within its frames after a move
+  pub fits-still : MovesFit → IsShallow p → Fits at.frames → Fits after.frames
+  fits-still law shallow fits =
+      let room = room_in CALL_LIMIT m.next.rest in
+      let moved : FitsAfter m.next.rest m.move = subst (FitsAfter m.next.rest) (sym m.next.is) (law p room at.world m.next.top (signal_of at.handed) m.next.rest shallow (subst Fits m.next.frames fits)) in
+      subst Fits (sym m.frames) (fits-after m.move m.next.rest moved)
+
   -- no more calls are open after a move than may be
-  pub few-after : MovesOpen → RoomIsLeft → (x : Next) → IsNext p at (move_of at.world x) → IsMove x.kind
-      → calls_open at.frames ≤ CALL_LIMIT
-      → calls_open (pushed_of x.pushed ++ rest_of at.frames) ≤ CALL_LIMIT
-  few-after opens left x n is few =
-      let room = room_in CALL_LIMIT n.rest in
-      let within : calls_open (pushed_of x.pushed) ≤ room =
-      opens-within x.kind (pushed_of x.pushed) (signal_of x.signal) (effect_of at.world x.effect) room is
-      (subst (OpensAtMost room) (sym n.is) (opens p room at.world n.top (signal_of at.handed))) in
-      let rest : calls_open (rest_of at.frames) ≡ calls_open n.rest = ap (λ fs. calls_open (rest_of fs)) n.frames in
-      omega (arith, within, rest, left CALL_LIMIT n.rest, calls-append (pushed_of x.pushed) (rest_of at.frames), ap calls_open n.frames, calls-first n.top n.rest, few)
+  pub few-still : MovesOpen → RoomIsLeft → calls_open at.frames ≤ CALL_LIMIT → calls_open after.frames ≤ CALL_LIMIT
+  few-still opens left few =
+      let room = room_in CALL_LIMIT m.next.rest in
+      let within : calls_open (pushed_in m.move) ≤ room =
+      opens-within m.move room (subst (OpensAtMost room) (sym m.next.is) (opens p room at.world m.next.top (signal_of at.handed))) in
+      omega (arith, within, left CALL_LIMIT m.next.rest, calls-append (pushed_in m.move) m.next.rest, ap calls_open m.frames, ap calls_open m.next.frames, calls-first m.next.top m.next.rest, few)
 
   -- a move without a step leaves less work
-  pub goes-falls : MovesFall → (x : Next) → IsNext p at (move_of at.world x) → x.kind ≡ k.Goes
-      → works (pushed_of x.pushed ++ rest_of at.frames) < works at.frames
-  goes-falls falls x n kind =
-      let room = room_in CALL_LIMIT n.rest in
-      let less : works (pushed_of x.pushed) < work n.top =
-      subst (λ kind. FallsBelow (work n.top) (move_by kind (pushed_of x.pushed) (signal_of x.signal) (effect_of at.world x.effect))) kind
-      (subst (FallsBelow (work n.top)) (sym n.is) (falls p room at.world n.top (signal_of at.handed))) in
-      let rest : works (rest_of at.frames) ≡ works n.rest = ap (λ fs. works (rest_of fs)) n.frames in
-      omega (arith, less, rest, works-append (pushed_of x.pushed) (rest_of at.frames), ap works n.frames)
+  pub goes-falls : MovesFall → need_in m.move ≡ Nothing → works after.frames < works at.frames
+  goes-falls falls quiet =
+      let room = room_in CALL_LIMIT m.next.rest in
+      let less : works (pushed_in m.move) < work m.next.top =
+      falls-after m.move (work m.next.top) quiet (subst (FallsBelow (work m.next.top)) (sym m.next.is) (falls p room at.world m.next.top (signal_of at.handed))) in
+      omega (arith, less, works-append (pushed_in m.move) m.next.rest, ap works m.frames, ap works m.next.frames)
 
 -- ---- where a line is due
 
@@ -118,26 +187,28 @@ world-is w (e.Says text) = refl
 world-is w (e.SaysNumber n) = refl
 world-is w (e.SaysByte byte) = refl
 
+-- the frames of a move are ready in the world after it
+ready-after : (w : World) (m : Move) → ReadyAfter w m → Makes m → IsReady (effected_world (effect_in m) w) (pushed_in m)
+ready-after w (Goes frames e effect) ready makes = ready-dry (effected_world effect w) frames ready
+ready-after w (Ticks frames e effect) ready makes = ready
+ready-after w (Reads name) ready makes = tt
+ready-after w (Draws k) ready makes = tt
+
+pub ready-still : (p : Program) (at after : Point) (x : Effect) (m : MovesOn p at after x) → MovesReady → Makes m.move
+    → IsReady at.world at.frames → IsReady after.world after.frames
+ready-still p at after x m law makes ready =
+    let moved : IsReady (effected_world (effect_in m.move) at.world) (pushed_in m.move) =
+    ready-after at.world m.move (subst (ReadyAfter at.world) (sym m.next.is) (law p (room_in CALL_LIMIT m.next.rest) at.world m.next.top (signal_of at.handed))) makes in
+    let world : effected_world (effect_in m.move) at.world ≡ after.world =
+    ap (λ e. effected_world e at.world) (sym m.effect) ∙ world-is at.world x ∙ sym m.world in
+    subst (IsReady after.world) (sym m.frames)
+    (ready-append after.world (pushed_in m.move) m.next.rest (subst (λ w. IsReady w (pushed_in m.move)) world moved) (subst (IsReady at.world) m.next.frames ready).1)
+
 module _ (p : Program) (at : Point) (ready : IsReady at.world at.frames) where
-  module _ (law : MovesReady) (x : Next) (n : IsNext p at (move_of at.world x)) where
-    after : (kind : NextKind) → x.kind ≡ kind
-        → ReadyAfter at.world (move_by kind (pushed_of x.pushed) (signal_of x.signal) (effect_of at.world x.effect))
-    after kind is =
-        subst (λ kind. ReadyAfter at.world (move_by kind (pushed_of x.pushed) (signal_of x.signal) (effect_of at.world x.effect))) is
-        (subst (ReadyAfter at.world) (sym n.is) (law p (room_in CALL_LIMIT n.rest) at.world n.top (signal_of at.handed)))
-
-    pub ready-goes : (w : World) → x.kind ≡ k.Goes → IsReady w (pushed_of x.pushed ++ rest_of at.frames)
-    ready-goes w kind = ready-append w (pushed_of x.pushed) (rest_of at.frames) (ready-dry w (pushed_of x.pushed) (after k.Goes kind)) (dry-rest at.world at.frames ready)
-
-    pub ready-ticks : x.kind ≡ k.Ticks → IsReady (world_after at.world x.effect) (pushed_of x.pushed ++ rest_of at.frames)
-    ready-ticks kind =
-        ready-append (world_after at.world x.effect) (pushed_of x.pushed) (rest_of at.frames)
-        (subst (λ w. IsReady w (pushed_of x.pushed)) (world-is at.world x.effect) (after k.Ticks kind)) (dry-rest at.world at.frames ready)
-
   -- a line that is read has room
-  pub room-at : MovesAsk → (name : List ℕ) → IsNext p at (Reads name) → has_room (entries_of name at.world) ≡ true
-  room-at asks name n =
-      let top : n.top ≡ f.Begins (f.LineDue name) = subst (IsAskedIn n.top) (sym n.is) (asks p (room_in CALL_LIMIT n.rest) at.world n.top (signal_of at.handed)) in
+  pub room-at : MovesNeed → (name : List ℕ) → IsNext p at (Reads name) → has_room (entries_of name at.world) ≡ true
+  room-at law name n =
+      let top : n.top ≡ f.Begins (f.LineDue name) = (asked law p at (Reads name) n).0 in
       let here : IsReady at.world (f.Begins (f.LineDue name) ∷ n.rest) = subst (IsReady at.world) (n.frames ∙ ap (λ x. x ∷ n.rest) top) ready in
       here.0
 
@@ -159,25 +230,15 @@ same-lines (Some (x ∷ xs)) after line takes lines is = absurd takes
 -- ---- moves
 
 module _ (means : MovesMean) (p : Program) (at after : Point) where
-  pub goes-lead : {T E : Type 0} {y : T} (old new : ConsoleView) (x : Next) → IsNext p at (move_of at.world x) → x.kind ≡ k.Goes
-      → Speaks {E = E} old new (Ok y) (says (said_by x.effect))
-      → after ≡ record { frames = pushed_of x.pushed ++ rest_of at.frames; handed = x.signal; world = world_after at.world x.effect }
+  pub goes-lead : {T E : Type 0} {y : T} (old new : ConsoleView) (x : Effect) (m : MovesOn p at after x) → need_in m.move ≡ Nothing
+      → Speaks {E = E} old new (Ok y) (says (said_by x))
       → (draws : List ℕ) → LeadsOn p old new at after draws draws 0
-  goes-lead old new x n kind spoken is draws = λ lines known.
-      let there : after ≡ record { frames = pushed_of x.pushed ++ n.rest; handed = x.signal; world = world_after at.world x.effect } =
-      is ∙ ap (λ fs. record { frames = pushed_of x.pushed ++ rest_of fs; handed = x.signal; world = world_after at.world x.effect }) n.frames in
-      subst (λ q. Leads p old new at q lines draws draws 0) (sym there)
-      (leads-goes means p at old new lines known draws x n kind spoken)
+  goes-lead old new x m quiet spoken draws = λ lines known. leads-goes means p at old new lines known draws after x m quiet spoken
 
-  pub ticks-lead : {T E : Type 0} {y : T} (old new : ConsoleView) (x : Next) → IsNext p at (move_of at.world x) → x.kind ≡ k.Ticks
-      → Speaks {E = E} old new (Ok y) (says (said_by x.effect))
-      → after ≡ record { frames = pushed_of x.pushed ++ rest_of at.frames; handed = x.signal; world = world_after at.world x.effect }
+  pub ticks-lead : {T E : Type 0} {y : T} (old new : ConsoleView) (x : Effect) (m : MovesOn p at after x) → need_in m.move ≡ AStep
+      → Speaks {E = E} old new (Ok y) (says (said_by x))
       → (draws : List ℕ) → LeadsOn p old new at after draws draws 1
-  ticks-lead old new x n kind spoken is draws = λ lines known.
-      let there : after ≡ record { frames = pushed_of x.pushed ++ n.rest; handed = x.signal; world = world_after at.world x.effect } =
-      is ∙ ap (λ fs. record { frames = pushed_of x.pushed ++ rest_of fs; handed = x.signal; world = world_after at.world x.effect }) n.frames in
-      subst (λ q. Leads p old new at q lines draws draws 1) (sym there)
-      (leads-ticks means p at old new lines known draws x n kind spoken)
+  ticks-lead old new x m ticks spoken draws = λ lines known. leads-ticks means p at old new lines known draws after x m ticks spoken
 
   pub draws-lead : (m value : ℤ) (draw : ℕ) (before now : List ℕ) → IsNext p at (Draws m)
       → before ≡ draw ∷ now → value ≡ draw_within m draw
@@ -234,11 +295,11 @@ takes-break means add p at old new before line fault takes draws = λ lines know
     breaks-silently means p at add old new lines draws steps past takes.taken
 
 -- bytes were to be said
-pub goes-break : MovesMean → RunsAdd → (p : Program) (at : Point) (old new : ConsoleView) (x : Next) → IsNext p at (move_of at.world x) → x.kind ≡ k.Goes
-    → GrewByPrefix old.history new.history (says (said_by x.effect))
+pub goes-break : MovesMean → RunsAdd → (p : Program) (at after : Point) (old new : ConsoleView) (x : Effect) (m : MovesOn p at after x) → need_in m.move ≡ Nothing
+    → GrewByPrefix old.history new.history (says (said_by x))
     → (draws : List ℕ) → BreaksOn p old new at draws
-goes-break means add p at old new x n kind part draws = λ lines known steps past.
-    breaks-goes means p at add old new lines draws steps past x n kind part
+goes-break means add p at after old new x m quiet part draws = λ lines known steps past.
+    breaks-goes means p at add old new lines draws steps past after x m quiet part
 
 -- ---- one after another
 

@@ -1,4 +1,3 @@
-pub mod Innermost
 pub mod Moving
 pub mod Advances
 pub mod Stopping

@@ -1,5 +1,6 @@
 -- What a move of the program does is what the meaning says.
 use Rattle.std.proofs.Common.{◌≡◌, ◌∙◌, ℕ, ℤ, zero, suc, ◌+◌, List, [], ◌∷◌, ◌++◌, Option, Some, None, Result, Ok, Err, refl, sym, ap, subst, arith, append_assoc, add-zero, add-one, add_assoc}
+use Rattle.std.specs.Prelude.{⊤}
 use Rattle.std.proofs.lemmas.List.{append-nil}
 use Rattle.adv_io.specs.Steps.{Step, Took, Drew, said_steps, shown_of}
 use Rattle.adv_io.specs.History.{says, grown, GrewByPrefix}
@@ -13,19 +14,17 @@ use Rattle.inform_meaning.specs.Words.{draw_within}
 use Rattle.inform_meaning.specs.Frames as f
 use Rattle.inform_meaning.specs.Frames.{Outcome, LineDue, DrawDue, Begins, Waits, NeedsLine, NeedsDraw, Spent, Halts}
 use Rattle.inform_meaning.specs.Runs.{CALL_LIMIT, room_in, resume_at, stop_of, begun_of, Stop, Halted, Lacking}
-use Rattle.inform_moves.specs.Moves.{Move, Goes, Ticks, Reads, Draws, next}
-use Rattle.inform_moves.specs.Done.{effected, move_run}
-use Rattle.inform_moves.specs.Laws.{RunsAdd, IsSettled, MovesMean, MovesAsk, IsAskedIn}
+use Rattle.inform_moves.specs.Moves.{Move, Goes, Ticks, Reads, Draws, pushed_in, outcome_in, effect_in, next}
+use Rattle.inform_moves.specs.Needs.{Need, Nothing, AStep, ALine, ADraw, need, need_in}
+use Rattle.inform_moves.specs.Done.{effected, after_step, move_run}
+use Rattle.inform_moves.specs.Laws.{RunsAdd, IsSettled, MovesMean, MovesNeed}
 use Rattle.inform_frames.specs.declared.signals.Signal.{Signal}
 use Rattle.inform_frames.specs.declared.signals.Signal.TheVariants as g
 use Rattle.inform_frames.specs.declared.nexts.Effect.{Effect}
 use Rattle.inform_frames.specs.declared.nexts.Effect.TheVariants as e
-use Rattle.inform_frames.specs.declared.nexts.Next.{Next}
-use Rattle.inform_frames.specs.declared.nexts.NextKind.{NextKind}
-use Rattle.inform_frames.specs.declared.nexts.NextKind.TheVariants as k
 use Rattle.inform_frames.specs.Frames.{signal_of, halt_of}
-use Rattle.inform_frames.specs.Nexts.{effect_of, pushed_of, move_by, move_of}
-use Rattle.inform_run.specs.Points.{Point, config_at, run_from, IsNext, world_after, said_by, Leads, Ends, Breaks}
+use Rattle.inform_frames.specs.Nexts.{effect_of}
+use Rattle.inform_run.specs.Points.{Point, config_at, run_from, first_need, next_need, IsNext, world_after, said_by, MovesOn, Leads, Ends, Breaks}
 
 settles : (s : Signal) → IsSettled (signal_of s)
 settles (g.Value a) = tt
@@ -121,6 +120,106 @@ module _ (p : Program) where
 
 -- ---- one move
 
+module _ (p : Program) (x : f.Frame) (rest : List f.Frame) where
+  move-goes : (m : Move) → need_in m ≡ Nothing → (c : Config)
+      → move_run p x rest m c ≡ resume_at p CALL_LIMIT (pushed_in m ++ rest) (outcome_in m) (effected (effect_in m) c)
+  move-goes (Goes frames e effect) quiet c = refl
+  move-goes (Ticks frames e effect) quiet c = absurd cc
+  move-goes (Reads name) quiet c = absurd cc
+  move-goes (Draws m) quiet c = absurd cc
+
+  move-ticks : (m : Move) → need_in m ≡ AStep → (k : ℕ) (c : Config) → c.steps ≡ suc k
+      → move_run p x rest m c ≡ resume_at p CALL_LIMIT (pushed_in m ++ rest) (outcome_in m) (effected (effect_in m) (record c { steps = k }))
+  move-ticks (Goes frames e effect) ticks k c is = absurd cc
+  move-ticks (Ticks frames e effect) ticks k c is = ap (λ n. after_step p x rest frames e effect n c) is
+  move-ticks (Reads name) ticks k c is = absurd cc
+  move-ticks (Draws m) ticks k c is = absurd cc
+
+-- where no step is left, the frame waits
+move-spent : (p : Program) (m : Move) → need_in m ≡ AStep → (x : f.Frame) (rest : List f.Frame) (c : Config) → c.steps ≡ 0
+    → move_run p x rest m c ≡ (Waits Spent (x ∷ rest), c)
+move-spent p (Goes frames e effect) ticks x rest c is = absurd cc
+move-spent p (Ticks frames e effect) ticks x rest c is = ap (λ n. after_step p x rest frames e effect n c) is
+move-spent p (Reads name) ticks x rest c is = absurd cc
+move-spent p (Draws k) ticks x rest c is = absurd cc
+
+-- the frame that wants a line or a draw
+abbrev pub Asks : Need → f.Frame → Outcome → Type 0
+Asks Nothing x e = ⊤
+Asks AStep x e = ⊤
+Asks (ALine name) x e = (x ≡ Begins (LineDue name)) × (e ≡ f.Normal)
+Asks (ADraw m) x e = (x ≡ Begins (DrawDue m)) × (e ≡ f.Normal)
+
+asks : (x : f.Frame) (e : Outcome) → Asks (need x e) x e
+asks (Begins (f.Evals x)) f.Normal = tt
+asks (Begins (f.CallDue name values)) f.Normal = tt
+asks (Begins (DrawDue m)) f.Normal = (refl, refl)
+asks (Begins (f.Tests x)) f.Normal = tt
+asks (Begins (f.Alters x)) f.Normal = tt
+asks (Begins (f.Due x)) f.Normal = tt
+asks (Begins (f.Blocks xs)) f.Normal = tt
+asks (Begins (f.Prints xs)) f.Normal = tt
+asks (Begins (LineDue name)) f.Normal = (refl, refl)
+asks (Begins (f.TurnDue l)) f.Normal = tt
+asks (Begins x) (f.Value a) = tt
+asks (Begins x) (f.Truth b) = tt
+asks (Begins x) (f.Returns a) = tt
+asks (Begins x) f.Breaks = tt
+asks (Begins x) f.Continues = tt
+asks (Begins x) (Halts halt) = tt
+asks (Begins x) (Waits lack fs) = tt
+asks (f.Wants x) e = tt
+asks (f.Decides x) e = tt
+asks (f.Looping l) e = tt
+asks (f.Calling scope) e = tt
+asks f.Main e = tt
+asks (f.Over halt) e = tt
+
+-- what the next move needs is what its frame needs
+module _ (law : MovesNeed) (p : Program) (at : Point) where
+  pub needs : (m : Move) (n : IsNext p at m) → next_need at ≡ Some (need_in m)
+  needs m n = ap (λ fs. first_need fs (signal_of at.handed)) n.frames
+      ∙ ap Some (sym (law p (room_in CALL_LIMIT n.rest) at.world n.top (signal_of at.handed)) ∙ ap need_in (sym n.is))
+
+  pub needed : (m : Move) → IsNext p at m → (d : Need) → next_need at ≡ Some d → need_in m ≡ d
+  needed m n d is = same (sym (needs m n) ∙ is) where
+    same : {a b : Need} → Some a ≡ Some b → a ≡ b
+    same h = cc
+
+  pub asked : (m : Move) (n : IsNext p at m) → Asks (need_in m) n.top (signal_of at.handed)
+  asked m n = subst (λ d. Asks d n.top (signal_of at.handed)) (sym (ap need_in n.is ∙ law p (room_in CALL_LIMIT n.rest) at.world n.top (signal_of at.handed)))
+      (asks n.top (signal_of at.handed))
+
+-- the move that takes a line, and the one that takes a draw
+module _ (p : Program) (at : Point) where
+  pub line-next : (name : List ℕ) → next_need at ≡ Some (ALine name) → IsNext p at (Reads name)
+  line-next name is = by at.frames refl is where
+    by : (fs : List f.Frame) → at.frames ≡ fs → first_need fs (signal_of at.handed) ≡ Some (ALine name) → IsNext p at (Reads name)
+    by [] here h = absurd cc
+    by (x ∷ xs) here h =
+        let d : need x (signal_of at.handed) ≡ ALine name = cc in
+        let a : Asks (ALine name) x (signal_of at.handed) = subst (λ d. Asks d x (signal_of at.handed)) d (asks x (signal_of at.handed)) in
+        record {
+          top = x;
+          rest = xs;
+          frames = here;
+          is = sym (ap (λ y. next p (room_in CALL_LIMIT xs) at.world y (signal_of at.handed)) a.0 ∙ ap (next p (room_in CALL_LIMIT xs) at.world (Begins (LineDue name))) a.1);
+        }
+
+  pub draw-next : (m : ℤ) → next_need at ≡ Some (ADraw m) → IsNext p at (Draws m)
+  draw-next m is = by at.frames refl is where
+    by : (fs : List f.Frame) → at.frames ≡ fs → first_need fs (signal_of at.handed) ≡ Some (ADraw m) → IsNext p at (Draws m)
+    by [] here h = absurd cc
+    by (x ∷ xs) here h =
+        let d : need x (signal_of at.handed) ≡ ADraw m = cc in
+        let a : Asks (ADraw m) x (signal_of at.handed) = subst (λ d. Asks d x (signal_of at.handed)) d (asks x (signal_of at.handed)) in
+        record {
+          top = x;
+          rest = xs;
+          frames = here;
+          is = sym (ap (λ y. next p (room_in CALL_LIMIT xs) at.world y (signal_of at.handed)) a.0 ∙ ap (next p (room_in CALL_LIMIT xs) at.world (Begins (DrawDue m))) a.1);
+        }
+
 module _ (means : MovesMean) (p : Program) (at : Point) where
   run-moves : (m : Move) (n : IsNext p at m) (steps : ℕ) (lines : List (List ℕ)) (draws : List ℕ) (past : List Step)
       → run_from p at steps lines draws past ≡ move_run p n.top n.rest m (config_at at steps lines draws past)
@@ -129,45 +228,53 @@ module _ (means : MovesMean) (p : Program) (at : Point) where
       ∙ means p n.top n.rest (signal_of at.handed) (config_at at steps lines draws past) (settles at.handed)
       ∙ ap (λ m. move_run p n.top n.rest m (config_at at steps lines draws past)) (sym n.is)
 
-  -- the point after a move that needs nothing, or after its step
-  abbrev pub point_after : Next → List f.Frame → Point
-  point_after x rest = record { frames = pushed_of x.pushed ++ rest; handed = x.signal; world = world_after at.world x.effect }
+  -- the run goes on from the point after a move
+  moved-on : (after : Point) (x : Effect) (m : MovesOn p at after x) (c : Config) → c.world ≡ at.world
+      → resume_at p CALL_LIMIT (pushed_in m.move ++ m.next.rest) (outcome_in m.move) (effected (effect_in m.move) c)
+      ≡ resume_at p CALL_LIMIT after.frames (signal_of after.handed) (record c { past = c.past ++ said_steps (said_by x); world = after.world })
+  moved-on after x m c here =
+      ap (λ w. resume_at p CALL_LIMIT (pushed_in m.move ++ m.next.rest) (outcome_in m.move) (effected w c)) (sym m.effect ∙ ap (λ w. effect_of w x) (sym here))
+      ∙ ap (resume_at p CALL_LIMIT (pushed_in m.move ++ m.next.rest) (outcome_in m.move)) (effect-does x c)
+      ∙ ap (λ w. resume_at p CALL_LIMIT (pushed_in m.move ++ m.next.rest) (outcome_in m.move) (record c { past = c.past ++ said_steps (said_by x); world = w })) (ap (λ w. world_after w x) here ∙ sym m.world)
+      ∙ ap (λ e. resume_at p CALL_LIMIT (pushed_in m.move ++ m.next.rest) e (record c { past = c.past ++ said_steps (said_by x); world = after.world })) (sym m.handed)
+      ∙ ap (λ fs. resume_at p CALL_LIMIT fs (signal_of after.handed) (record c { past = c.past ++ said_steps (said_by x); world = after.world })) (sym m.frames)
 
-  goes-on : (x : Next) (n : IsNext p at (move_of at.world x)) → x.kind ≡ k.Goes → (steps : ℕ) (lines : List (List ℕ)) (draws : List ℕ) (past : List Step)
-      → run_from p at steps lines draws past ≡ run_from p (point_after x n.rest) steps lines draws (past ++ said_steps (said_by x.effect))
-  goes-on x n kind steps lines draws past =
-      run-moves (move_of at.world x) n steps lines draws past
-      ∙ ap (λ kind. move_run p n.top n.rest (move_by kind (pushed_of x.pushed) (signal_of x.signal) (effect_of at.world x.effect)) (config_at at steps lines draws past)) kind
-      ∙ ap (resume_at p CALL_LIMIT (pushed_of x.pushed ++ n.rest) (signal_of x.signal)) (effect-does x.effect (config_at at steps lines draws past))
+  -- a move that needs nothing, and one that needs a step
+  goes-on : (after : Point) (x : Effect) (m : MovesOn p at after x) → need_in m.move ≡ Nothing → (steps : ℕ) (lines : List (List ℕ)) (draws : List ℕ) (past : List Step)
+      → run_from p at steps lines draws past ≡ run_from p after steps lines draws (past ++ said_steps (said_by x))
+  goes-on after x m quiet steps lines draws past =
+      run-moves m.move m.next steps lines draws past
+      ∙ move-goes p m.next.top m.next.rest m.move quiet (config_at at steps lines draws past)
+      ∙ moved-on after x m (config_at at steps lines draws past) refl
 
-  ticks-on : (x : Next) (n : IsNext p at (move_of at.world x)) → x.kind ≡ k.Ticks → (steps : ℕ) (lines : List (List ℕ)) (draws : List ℕ) (past : List Step)
-      → run_from p at (suc steps) lines draws past ≡ run_from p (point_after x n.rest) steps lines draws (past ++ said_steps (said_by x.effect))
-  ticks-on x n kind steps lines draws past =
-      run-moves (move_of at.world x) n (suc steps) lines draws past
-      ∙ ap (λ kind. move_run p n.top n.rest (move_by kind (pushed_of x.pushed) (signal_of x.signal) (effect_of at.world x.effect)) (config_at at (suc steps) lines draws past)) kind
-      ∙ ap (resume_at p CALL_LIMIT (pushed_of x.pushed ++ n.rest) (signal_of x.signal)) (effect-does x.effect (config_at at steps lines draws past))
+  ticks-on : (after : Point) (x : Effect) (m : MovesOn p at after x) → need_in m.move ≡ AStep → (steps : ℕ) (lines : List (List ℕ)) (draws : List ℕ) (past : List Step)
+      → run_from p at (suc steps) lines draws past ≡ run_from p after steps lines draws (past ++ said_steps (said_by x))
+  ticks-on after x m ticks steps lines draws past =
+      run-moves m.move m.next (suc steps) lines draws past
+      ∙ move-ticks p m.next.top m.next.rest m.move ticks steps (config_at at (suc steps) lines draws past) refl
+      ∙ moved-on after x m (config_at at steps lines draws past) refl
 
   module _ (old new : ConsoleView) (lines : List (List ℕ)) (known : old.left ≡ Some lines) where
-    pub leads-goes : {T E : Type 0} {y : T} (draws : List ℕ) (x : Next) (n : IsNext p at (move_of at.world x)) → x.kind ≡ k.Goes
-        → Speaks {E = E} old new (Ok y) (says (said_by x.effect))
-        → Leads p old new at (point_after x n.rest) lines draws draws 0
-    leads-goes draws x n kind spoken = record {
-      done = said_steps (said_by x.effect);
+    pub leads-goes : {T E : Type 0} {y : T} (draws : List ℕ) (after : Point) (x : Effect) (m : MovesOn p at after x) → need_in m.move ≡ Nothing
+        → Speaks {E = E} old new (Ok y) (says (said_by x))
+        → Leads p old new at after lines draws draws 0
+    leads-goes draws after x m quiet spoken = record {
+      done = said_steps (said_by x);
       rest = lines;
-      grew = spoken.said ∙ ap (grown old.history) (sym (shown_of-said (said_by x.effect)));
+      grew = spoken.said ∙ ap (grown old.history) (sym (shown_of-said (said_by x)));
       lines = spoken.lines_stay ∙ known;
-      same = λ steps past. ap (λ n. run_from p at n lines draws past) (add-zero steps) ∙ goes-on x n kind steps lines draws past;
+      same = λ steps past. ap (λ n. run_from p at n lines draws past) (add-zero steps) ∙ goes-on after x m quiet steps lines draws past;
     }
 
-    pub leads-ticks : {T E : Type 0} {y : T} (draws : List ℕ) (x : Next) (n : IsNext p at (move_of at.world x)) → x.kind ≡ k.Ticks
-        → Speaks {E = E} old new (Ok y) (says (said_by x.effect))
-        → Leads p old new at (point_after x n.rest) lines draws draws 1
-    leads-ticks draws x n kind spoken = record {
-      done = said_steps (said_by x.effect);
+    pub leads-ticks : {T E : Type 0} {y : T} (draws : List ℕ) (after : Point) (x : Effect) (m : MovesOn p at after x) → need_in m.move ≡ AStep
+        → Speaks {E = E} old new (Ok y) (says (said_by x))
+        → Leads p old new at after lines draws draws 1
+    leads-ticks draws after x m ticks spoken = record {
+      done = said_steps (said_by x);
       rest = lines;
-      grew = spoken.said ∙ ap (grown old.history) (sym (shown_of-said (said_by x.effect)));
+      grew = spoken.said ∙ ap (grown old.history) (sym (shown_of-said (said_by x)));
       lines = spoken.lines_stay ∙ known;
-      same = λ steps past. ap (λ n. run_from p at n lines draws past) (add-one steps) ∙ ticks-on x n kind steps lines draws past;
+      same = λ steps past. ap (λ n. run_from p at n lines draws past) (add-one steps) ∙ ticks-on after x m ticks steps lines draws past;
     }
 
     -- a draw that is taken
@@ -222,26 +329,34 @@ module _ (means : MovesMean) (p : Program) (at : Point) where
     }
 
     -- a step is due, and none is left
-    pub ends-spent : (draws : List ℕ) (x : Next) (n : IsNext p at (move_of at.world x)) → x.kind ≡ k.Ticks
+    pub ends-spent : MovesNeed → (draws : List ℕ) → next_need at ≡ Some AStep
         → Ends p old new at 0 lines draws draws (Lacking Spent) at.frames at.world 0
-    ends-spent draws x n kind = record {
-      done = [];
-      rest = lines;
-      grew = nothing-grew;
-      lines = known;
-      outcome = Waits Spent (n.top ∷ n.rest);
-      same = λ past. run-moves (move_of at.world x) n 0 lines draws past
-          ∙ ap (λ kind. move_run p n.top n.rest (move_by kind (pushed_of x.pushed) (signal_of x.signal) (effect_of at.world x.effect)) (config_at at 0 lines draws past)) kind
-          ∙ ap (λ q. (Waits Spent (n.top ∷ n.rest), config_at at 0 lines draws q)) (sym (append-nil past));
-      stop_is = refl;
-      frames_are = sym n.frames;
-    }
+    ends-spent law draws due = by at.frames refl due where
+      by : (fs : List f.Frame) → at.frames ≡ fs → first_need fs (signal_of at.handed) ≡ Some AStep
+          → Ends p old new at 0 lines draws draws (Lacking Spent) at.frames at.world 0
+      by [] here h = absurd cc
+      by (x ∷ xs) here h =
+          let m = next p (room_in CALL_LIMIT xs) at.world x (signal_of at.handed) in
+          let n : IsNext p at m = record { top = x; rest = xs; frames = here; is = refl } in
+          let ticks : need_in m ≡ AStep = needed law p at m n AStep due in
+          record {
+            done = [];
+            rest = lines;
+            grew = nothing-grew;
+            lines = known;
+            outcome = Waits Spent (x ∷ xs);
+            same = λ past. run-moves m n 0 lines draws past
+                ∙ move-spent p m ticks x xs (config_at at 0 lines draws past) refl
+                ∙ ap (λ q. (Waits Spent (x ∷ xs), config_at at 0 lines draws q)) (sym (append-nil past));
+            stop_is = refl;
+            frames_are = sym here;
+          }
 
     -- a line is due, and none is left
-    pub ends-line : MovesAsk → (steps : ℕ) (draws : List ℕ) (name : List ℕ) (n : IsNext p at (Reads name)) → lines ≡ []
+    pub ends-line : MovesNeed → (steps : ℕ) (draws : List ℕ) (name : List ℕ) (n : IsNext p at (Reads name)) → lines ≡ []
         → Ends p old new at steps lines draws draws (Lacking NeedsLine) at.frames at.world steps
-    ends-line asks steps draws name n none =
-        let top : n.top ≡ Begins (LineDue name) = subst (IsAskedIn n.top) (sym n.is) (asks p (room_in CALL_LIMIT n.rest) at.world n.top (signal_of at.handed)) in
+    ends-line law steps draws name n none =
+        let top : n.top ≡ Begins (LineDue name) = (asked law p at (Reads name) n).0 in
         record {
           done = [];
           rest = lines;
@@ -257,10 +372,10 @@ module _ (means : MovesMean) (p : Program) (at : Point) where
         }
 
     -- a draw is due, and none is left
-    pub ends-draw : MovesAsk → (steps : ℕ) (m : ℤ) (n : IsNext p at (Draws m))
+    pub ends-draw : MovesNeed → (steps : ℕ) (m : ℤ) (n : IsNext p at (Draws m))
         → Ends p old new at steps lines [] [] (Lacking NeedsDraw) at.frames at.world steps
-    ends-draw asks steps m n =
-        let top : n.top ≡ Begins (DrawDue m) = subst (IsAskedIn n.top) (sym n.is) (asks p (room_in CALL_LIMIT n.rest) at.world n.top (signal_of at.handed)) in
+    ends-draw law steps m n =
+        let top : n.top ≡ Begins (DrawDue m) = (asked law p at (Draws m) n).0 in
         record {
           done = [];
           rest = lines;
@@ -290,17 +405,17 @@ module _ (means : MovesMean) (p : Program) (at : Point) where
               (part_of_more old.history new.history (says bytes) (shown_of g.events) part);
         }
 
-    pub breaks-goes : (steps : ℕ) (past : List Step) (x : Next) (n : IsNext p at (move_of at.world x)) → x.kind ≡ k.Goes
-        → GrewByPrefix old.history new.history (says (said_by x.effect))
+    pub breaks-goes : (steps : ℕ) (past : List Step) (after : Point) (x : Effect) (m : MovesOn p at after x) → need_in m.move ≡ Nothing
+        → GrewByPrefix old.history new.history (says (said_by x))
         → Breaks p old new at steps lines draws past
-    breaks-goes steps past x n kind part =
-        breaks-says (point_after x n.rest) steps past steps (said_by x.effect) (goes-on x n kind steps lines draws past) part
+    breaks-goes steps past after x m quiet part =
+        breaks-says after steps past steps (said_by x) (goes-on after x m quiet steps lines draws past) part
 
-    pub breaks-ticks : (steps : ℕ) (past : List Step) (x : Next) (n : IsNext p at (move_of at.world x)) → x.kind ≡ k.Ticks
-        → GrewByPrefix old.history new.history (says (said_by x.effect))
+    pub breaks-ticks : (steps : ℕ) (past : List Step) (after : Point) (x : Effect) (m : MovesOn p at after x) → need_in m.move ≡ AStep
+        → GrewByPrefix old.history new.history (says (said_by x))
         → Breaks p old new at (suc steps) lines draws past
-    breaks-ticks steps past x n kind part =
-        breaks-says (point_after x n.rest) (suc steps) past steps (said_by x.effect) (ticks-on x n kind steps lines draws past) part
+    breaks-ticks steps past after x m ticks part =
+        breaks-says after (suc steps) past steps (said_by x) (ticks-on after x m ticks steps lines draws past) part
 
     -- nothing was shown
     pub breaks-silently : (steps : ℕ) (past : List Step) → new.history ≡ old.history

@@ -6,16 +6,14 @@ use Rattle.adv_io.specs.Console.{ConsoleView}
 use Rattle.inform_meaning.specs.Worlds.{Program, World}
 use Rattle.inform_meaning.specs.Frames as f
 use Rattle.inform_meaning.specs.Runs.{Stop, Lacking, stop_of, begun_of}
-use Rattle.inform_moves.specs.Moves.{Reads, Draws}
-use Rattle.inform_moves.specs.Laws.{RunsAdd, MovesMean, MovesAsk}
-use Rattle.inform_frames.specs.declared.nexts.Next.{Next}
-use Rattle.inform_frames.specs.declared.nexts.NextKind.TheVariants as k
+use Rattle.inform_moves.specs.Needs.{AStep, ALine, ADraw, need_in}
+use Rattle.inform_moves.specs.Laws.{RunsAdd, MovesMean, MovesNeed}
+use Rattle.inform_frames.specs.declared.nexts.Effect.{Effect}
 use Rattle.inform_frames.specs.Frames.{signal_of}
-use Rattle.inform_frames.specs.Nexts.{move_of}
-use Rattle.inform_run.specs.Points.{Point, IsNext, said_by, Leads, Ends, Breaks}
+use Rattle.inform_run.specs.Points.{Point, next_need, said_by, MovesOn, Leads, Ends, Breaks}
 use Rattle.inform_run.specs.Machines.{LeadsOn, BreaksOn}
 use Rattle.inform_run.specs.Turns.{EndsOn, BreaksAfter}
-use Rattle.inform_run.proofs.Moving.{ends-then, breaks-then, ends-over, ends-spent, ends-line, ends-draw, breaks-ticks}
+use Rattle.inform_run.proofs.Moving.{line-next, draw-next, ends-then, breaks-then, ends-over, ends-spent, ends-line, ends-draw, breaks-ticks}
 
 -- ---- what holds of an answer, made weaker
 
@@ -74,28 +72,28 @@ module _ (means : MovesMean) (p : Program) (at : Point) where
       (subst (λ x. EndsOn p seen seen at steps draws draws (stop_of (signal_of at.handed)) (begun_of (signal_of at.handed)) x steps) (sym world-is)
       (over-ends seen steps draws empty)))
 
-  pub spent-ends : (seen : ConsoleView) (steps : ℕ) (draws : List ℕ) (x : Next) → IsNext p at (move_of at.world x) → x.kind ≡ k.Ticks → steps ≡ 0
+  pub spent-ends : MovesNeed → (seen : ConsoleView) (steps : ℕ) (draws : List ℕ) → next_need at ≡ Some AStep → steps ≡ 0
       → EndsOn p seen seen at steps draws draws (Lacking f.Spent) at.frames at.world steps
-  spent-ends seen steps draws x n kind none =
+  spent-ends law seen steps draws due none =
       subst (λ n. EndsOn p seen seen at n draws draws (Lacking f.Spent) at.frames at.world n) (sym none)
-      (λ lines known. ends-spent means p at seen seen lines known refl draws x n kind)
+      (λ lines known. ends-spent means p at seen seen lines known refl law draws due)
 
-  pub line-ends : MovesAsk → (seen : ConsoleView) (steps : ℕ) (draws : List ℕ) (name : List ℕ) → IsNext p at (Reads name)
+  pub line-ends : MovesNeed → (seen : ConsoleView) (steps : ℕ) (draws : List ℕ) (name : List ℕ) → next_need at ≡ Some (ALine name)
       → ((lines : List (List ℕ)) → seen.left ≡ Some lines → lines ≡ [])
       → EndsOn p seen seen at steps draws draws (Lacking f.NeedsLine) at.frames at.world steps
-  line-ends asks seen steps draws name n none = λ lines known.
-      ends-line means p at seen seen lines known refl asks steps draws name n (none lines known)
+  line-ends law seen steps draws name due none = λ lines known.
+      ends-line means p at seen seen lines known refl law steps draws name (line-next p at name due) (none lines known)
 
-  pub draw-ends : MovesAsk → (seen : ConsoleView) (steps : ℕ) (draws : List ℕ) (m : ℤ) → IsNext p at (Draws m) → draws ≡ []
+  pub draw-ends : MovesNeed → (seen : ConsoleView) (steps : ℕ) (draws : List ℕ) (m : ℤ) → next_need at ≡ Some (ADraw m) → draws ≡ []
       → EndsOn p seen seen at steps draws draws (Lacking f.NeedsDraw) at.frames at.world steps
-  draw-ends asks seen steps draws m n none =
+  draw-ends law seen steps draws m due none =
       subst (λ ds. EndsOn p seen seen at steps ds ds (Lacking f.NeedsDraw) at.frames at.world steps) (sym none)
-      (λ lines known. ends-draw means p at seen seen lines known refl asks steps m n)
+      (λ lines known. ends-draw means p at seen seen lines known refl law steps m (draw-next p at m due))
 
   -- a step that says something, and the console fails
-  pub ticks-break : RunsAdd → (old new : ConsoleView) (steps : ℕ) (x : Next) → IsNext p at (move_of at.world x) → x.kind ≡ k.Ticks → 0 < steps
-      → GrewByPrefix old.history new.history (says (said_by x.effect))
+  pub ticks-break : RunsAdd → (old new : ConsoleView) (steps : ℕ) (after : Point) (x : Effect) (m : MovesOn p at after x) → need_in m.move ≡ AStep → 0 < steps
+      → GrewByPrefix old.history new.history (says (said_by x))
       → (draws : List ℕ) → BreaksAfter p old new at steps draws
-  ticks-break add old new zero x n kind some part draws = absurd (omega arith)
-  ticks-break add old new (suc steps) x n kind some part draws = λ lines known past.
-      breaks-ticks means p at add old new lines draws steps past x n kind part
+  ticks-break add old new zero after x m ticks some part draws = absurd (omega arith)
+  ticks-break add old new (suc steps) after x m ticks some part draws = λ lines known past.
+      breaks-ticks means p at add old new lines draws steps past after x m ticks part

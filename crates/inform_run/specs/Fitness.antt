@@ -6,9 +6,8 @@ use Rattle.inform_meaning.specs.Frames as f
 use Rattle.inform_moves.specs.Heights.{Fits, calls_open}
 use Rattle.inform_moves.specs.Readiness.{IsDry, AreDry, HasRoom, IsReady}
 use Rattle.inform_worlds.specs.Views.{world_of}
-use Rattle.inform_run.specs.declared.stacks.Stack.{Stack}
 use Rattle.inform_run.specs.declared.machines.Machine.{Machine}
-use Rattle.inform_run.specs.Stacks.{stack_of, IsSound}
+use Rattle.inform_frames.specs.Stacks.{stack_of}
 use Rattle.inform_run.specs.Machines.{IsFit}
 
 fits-prop : (frames : List f.Frame) → IsProp (Fits frames)
@@ -60,4 +59,4 @@ ready-prop w [] = Unit-prop
 ready-prop w (x ∷ xs) = ×_prop (room-prop w x) (all_dry-prop xs)
 
 pub IsFit-prop : (m : Machine) → IsProp (IsFit m)
-IsFit-prop m = ×_prop (×_prop (fits-prop (stack_of m.stack)) (×_prop le_prop (×_prop (Coded-set coded_ℕ _ _) le_prop))) (ready-prop (world_of m.world) (stack_of m.stack))
+IsFit-prop m = ×_prop (fits-prop (stack_of m.stack)) (×_prop le_prop (ready-prop (world_of m.world) (stack_of m.stack)))

@@ -1,4 +1,3 @@
-pub mod Stacks
 pub mod Points
 pub mod Machines
 pub mod Turns

@@ -1,43 +1,36 @@
 -- A machine, as the definitions see it.
-use Rattle.std.specs.Prelude.{ℕ, ℤ, ◌≡◌, Bool, true, false, List, [], Option, Some, ⊤}
+use Rattle.std.specs.Prelude.{ℕ, ℤ, ◌≡◌, ◌≤◌, Bool, true, false, List, [], Option, Some, ⊤}
 use Rattle.adv_io.specs.Steps.{Step}
 use Rattle.adv_io.specs.Console.{ConsoleView}
 use Rattle.inform_meaning.specs.Worlds.{Program}
-use Rattle.inform_moves.specs.Moves.{Reads, Draws}
+use Rattle.inform_meaning.specs.Runs.{CALL_LIMIT}
+use Rattle.inform_moves.specs.Heights.{Fits, calls_open}
+use Rattle.inform_moves.specs.Needs.{AStep, ALine, ADraw}
 use Rattle.inform_moves.specs.Readiness.{IsReady}
 use Rattle.inform_worlds.specs.Views.{world_of}
 use Rattle.inform_run.specs.declared.machines.Machine.{Machine}
-use Rattle.inform_frames.specs.declared.nexts.NextKind.{NextKind}
-use Rattle.inform_frames.specs.declared.nexts.NextKind.TheVariants as k
-use Rattle.inform_frames.specs.declared.nexts.Next.{Next}
-use Rattle.inform_frames.specs.Nexts.{move_of}
 use Rattle.inform_run.specs.declared.advancing.Due.{Due}
 use Rattle.inform_run.specs.declared.advancing.Due.TheVariants as d
-use Rattle.inform_run.specs.Stacks.{stack_of, IsSound}
-use Rattle.inform_run.specs.Points.{Point, IsNext, Leads, Breaks}
+use Rattle.inform_frames.specs.Stacks.{stack_of}
+use Rattle.inform_run.specs.Points.{Point, next_need, Leads, Breaks}
 
 abbrev pub point_of : Machine → Point
 point_of m = record { frames = stack_of m.stack; handed = m.signal; world = world_of m.world }
 
--- its stack is sound, and where a line is due its buffer has room
+-- each routine keeps within its frames, no more calls are open than may be, and where a line is due its
+-- buffer has room
 abbrev pub IsFit : Machine → Type 0
-IsFit m = IsSound m.stack × IsReady (world_of m.world) (stack_of m.stack)
-
--- it takes frames, and perhaps a step
-abbrev pub IsMove : NextKind → Type 0
-IsMove k.Goes = ⊤
-IsMove k.Ticks = ⊤
-IsMove (k.Reads name) = ⊥
-IsMove (k.Draws n) = ⊥
+IsFit m = Fits (stack_of m.stack) × ((calls_open (stack_of m.stack) ≤ CALL_LIMIT)
+    × IsReady (world_of m.world) (stack_of m.stack))
 
 -- what is due at a point, where these lines, if they are known, and these draws are left
-abbrev pub IsDue : Program → Point → Option (List (List ℕ)) → List ℕ → Due → Next → Type 0
-IsDue p at left draws d.Moved next = ⊤
-IsDue p at left draws d.Step next = (next.kind ≡ k.Ticks) × IsNext p at (move_of at.world next)
-IsDue p at left draws d.Line next = (name : List ℕ) × IsNext p at (Reads name)
+abbrev pub IsDue : Point → Option (List (List ℕ)) → List ℕ → Due → Type 0
+IsDue at left draws d.Moved = ⊤
+IsDue at left draws d.Step = next_need at ≡ Some AStep
+IsDue at left draws d.Line = (name : List ℕ) × (next_need at ≡ Some (ALine name))
     × ((lines : List (List ℕ)) → left ≡ Some lines → lines ≡ [])
-IsDue p at left draws d.Draw next = (m : ℤ) × IsNext p at (Draws m) × (draws ≡ [])
-IsDue p at left draws d.Over next = at.frames ≡ []
+IsDue at left draws d.Draw = (m : ℤ) × (next_need at ≡ Some (ADraw m)) × (draws ≡ [])
+IsDue at left draws d.Over = at.frames ≡ []
 
 -- ---- where the console's lines are known
 

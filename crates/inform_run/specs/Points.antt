@@ -1,5 +1,5 @@
 -- Where a run stands between two moves, and how it gets from one such point to another.
-use Rattle.std.specs.Prelude.{ℕ, ◌≡◌, ◌+◌, List, [], ◌∷◌, ◌++◌, Option, Some, None, Result, OnErr}
+use Rattle.std.specs.Prelude.{ℕ, ◌≡◌, ◌+◌, Bool, true, false, List, [], ◌∷◌, ◌++◌, Option, Some, None}
 use Rattle.std.specs.Fmt.{signed_decimal}
 use Rattle.adv_io.specs.Steps.{Step, shown_of}
 use Rattle.adv_io.specs.History.{grown, GrewByPrefix}
@@ -9,12 +9,14 @@ use Rattle.inform_meaning.specs.Frames as f
 use Rattle.inform_meaning.specs.Frames.{Outcome}
 use Rattle.inform_meaning.specs.Runs.{CALL_LIMIT, room_in, resume_at, stop_of, begun_of}
 use Rattle.inform_meaning.specs.Runs as m
-use Rattle.inform_moves.specs.Moves.{Move, next}
+use Rattle.inform_moves.specs.Moves.{Move, pushed_in, outcome_in, effect_in, next}
+use Rattle.inform_moves.specs.Needs.{Need, Nothing, AStep, need}
 use Rattle.inform_worlds.specs.Scopes.{scope_of}
 use Rattle.inform_frames.specs.declared.signals.Signal.{Signal}
 use Rattle.inform_frames.specs.declared.nexts.Effect.{Effect}
 use Rattle.inform_frames.specs.declared.nexts.Effect.TheVariants as e
 use Rattle.inform_frames.specs.Frames.{signal_of}
+use Rattle.inform_frames.specs.Nexts.{effect_of}
 
 -- the frames, what is handed to the innermost of them, and the world
 pub record Point : Type 0 where
@@ -30,6 +32,20 @@ config_at at steps lines draws past =
 abbrev pub run_from : Program → Point → ℕ → List (List ℕ) → List ℕ → List Step → Outcome × Config
 run_from p at steps lines draws past =
     resume_at p CALL_LIMIT at.frames (signal_of at.handed) (config_at at steps lines draws past)
+
+-- what the move of the innermost frame needs, if there is one
+abbrev pub first_need : List f.Frame → Outcome → Option Need
+first_need [] e = None
+first_need (x ∷ xs) e = Some (need x e)
+
+abbrev pub next_need : Point → Option Need
+next_need at = first_need at.frames (signal_of at.handed)
+
+-- a move is made that needs nothing, or whose step was taken
+abbrev pub makes_move : Option Need → Bool
+makes_move (Some Nothing) = true
+makes_move (Some AStep) = true
+makes_move other = false
 
 -- this is the next move there
 pub record IsNext (p : Program) (at : Point) (move : Move) : Type 0 where
@@ -59,6 +75,15 @@ said_by (e.Closes scope) = []
 said_by (e.Says text) = text.now
 said_by (e.SaysNumber n) = signed_decimal n
 said_by (e.SaysByte byte) = byte ∷ []
+
+-- the next move was made, apart from what it says
+pub record MovesOn (p : Program) (before after : Point) (x : Effect) : Type 0 where
+  pub move : Move
+  pub next : IsNext p before move
+  pub frames : after.frames ≡ pushed_in move ++ next.rest
+  pub handed : signal_of after.handed ≡ outcome_in move
+  pub effect : effect_of before.world x ≡ effect_in move
+  pub world : after.world ≡ world_after before.world x
 
 -- ---- on a console whose lines are known
 

@@ -14,7 +14,7 @@ use Rattle.inform_worlds.specs.Views as v
 use Rattle.inform_worlds.specs.Views.{program_seen}
 use Rattle.inform_run.specs.declared.runners.Runner.{Runner}
 use Rattle.inform_run.specs.declared.stops.Stop.{Stop}
-use Rattle.inform_run.specs.Stacks.{stack_of}
+use Rattle.inform_frames.specs.Stacks.{stack_of}
 use Rattle.inform_run.specs.Turns.{stop_seen}
 
 abbrev pub program_run : Runner → Program

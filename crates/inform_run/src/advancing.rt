@@ -1,33 +1,24 @@
 //! A move that takes no step.
-ghost use Rattle.std.specs.Prelude.{◌≡◌, false, ◌≤◌, Option, ◌<◌, ◌+◌, ◌++◌, List, ℕ, ℤ, [], Some, Ok, IfOk, OnErr, IfSome, length};
+ghost use Rattle.std.specs.Prelude.{◌≡◌, false, ◌≤◌, Option, ◌<◌, List, ℕ, Some, IfOk, OnErr};
 ghost use Rattle.adv_draws.specs.Supply.{supplied};
 ghost use Rattle.adv_io.specs.Console.{ConsoleView};
 ghost use Rattle.adv_io.specs.Faults.{HasCause};
-ghost use Rattle.adv_io.specs.Steps.{Step};
 ghost use Rattle.inform_meaning.specs.Words.{draw_within};
-ghost use Rattle.inform_meaning.specs.Runs.{CALL_LIMIT};
-ghost use Rattle.inform_moves.specs.Heights.{Fits, calls_open};
-ghost use Rattle.inform_moves.specs.Laws.{IsShallow};
-ghost use Rattle.inform_moves.specs.Moves as m;
+ghost use Rattle.inform_moves.specs.Needs.{Nothing, ALine, ADraw};
 ghost use Rattle.inform_moves.specs.Readiness.{AreDry};
 ghost use Rattle.inform_moves.specs.Works.{works};
 ghost use Rattle.inform_worlds.specs.Views.{world_of, program_seen};
-ghost use Rattle.inform_frames.specs.Nexts.{pushed_of, move_of};
-ghost use Rattle.inform_frames.specs.declared.nexts.Next as moved;
-ghost use Rattle.inform_run.specs.Stacks.{stack_of, rest_of, IsSound};
-ghost use Rattle.inform_run.specs.Points.{IsNext, Leads, Breaks};
-ghost use Rattle.inform_run.specs.Machines.{point_of, IsFit, is_still, IsDue, IsMove, LeadsOn, BreaksOn};
+ghost use Rattle.inform_frames.specs.Frames.{rest_of};
+ghost use Rattle.inform_frames.specs.Stacks.{stack_of};
+ghost use Rattle.inform_run.specs.Points.{next_need};
+ghost use Rattle.inform_run.specs.Machines.{point_of, IsFit, is_still, IsDue, LeadsOn, BreaksOn};
 
-use crate::machines::Machine;
+use crate::machines::{Machine, say};
 use adv_draws::Draws;
 use adv_io::{Console, ConsoleFault, Line, Taken};
-use inform_frames::{Effect, Next, NextKind, Pushed, Signal};
-use inform_moves::laws::{
-    moves_ask, moves_fall, moves_fit, moves_mean, moves_open, moves_ready, room_is_left, runs_add,
-};
-use inform_names::laws::routines_are_shallow;
+use inform_frames::{Need, Signal};
+use inform_moves::laws::{moves_fall, moves_mean, moves_need, runs_add};
 use inform_tree::Name;
-use inform_worlds::World;
 
 /// What is due: nothing, as a move was made; a move after a step; a line or a draw, and none is left; or nothing
 /// any more, as the run is over.
@@ -53,36 +44,6 @@ impl Due {
             Due::Over => true,
         }
     }
-}
-
-/// What is due, and the move that is.
-#[derive(Clone, Copy)]
-pub struct Pending<'a> {
-    pub due: Due,
-    pub next: Next<'a>,
-}
-
-/// No routine is deeper than 64.
-pub fn routines_fit(world: &World)
-    ensures { IsShallow (program_seen world.now) }
-{
-    routines_are_shallow();
-}
-
-/// There is room for the frames of a move.
-pub fn move_fits(machine: &Machine, next: &Next)
-    requires sound { IsSound machine.now.stack }
-    requires next { IsNext (program_seen machine.now.world) (point_of machine.now)
-        (move_of (world_of machine.now.world) next.now) }
-    requires kind { IsMove next.now.kind }
-    ensures fits { Fits (pushed_of next.now.pushed ++ rest_of (stack_of machine.now.stack)) }
-    ensures few { calls_open (pushed_of next.now.pushed ++ rest_of (stack_of machine.now.stack))
-        ≤ CALL_LIMIT }
-{
-    routines_fit(&machine.world);
-    moves_fit();
-    moves_open();
-    room_is_left();
 }
 
 // A number of 1 to n by a draw.
@@ -112,7 +73,7 @@ impl<'a> Machine<'a> {
         } }
         ensures dry { AreDry (stack_of self.new.stack) }
     {
-        self.stack.replace(&Pushed::none());
+        let _ = self.stack.pop();
         self.signal = signal;
     }
 
@@ -124,8 +85,7 @@ impl<'a> Machine<'a> {
         console: &mut C,
     ) -> Result<Due, ConsoleFault>
         requires sound { IsFit self.old }
-        requires next { IsNext (program_seen self.old.world) (point_of self.old)
-            (m.Reads name.now) }
+        requires needs { next_need (point_of self.old) ≡ Some (ALine name.now) }
         ensures names { self.new.world.names ≡ self.old.world.names }
         ensures sound { IsFit self.new }
         ensures bounded { (C.seen console.new).bound ≤ (C.seen console.old).bound }
@@ -133,16 +93,15 @@ impl<'a> Machine<'a> {
         ensures leads { (draws : List ℕ) → IfOk result (λ due. LeadsOn (program_seen self.old.world)
             (C.seen console.old) (C.seen console.new) (point_of self.old) (point_of self.new)
             draws draws 0) }
-        ensures due { (draws : List ℕ) (next : moved.Next) → IfOk result (λ due.
-            IsDue (program_seen self.old.world) (point_of self.new) (C.seen console.new).left
-            draws due next) }
+        ensures due { (draws : List ℕ) → IfOk result (λ due. IsDue (point_of self.new)
+            (C.seen console.new).left draws due) }
         ensures falls { IfOk result (λ due. is_still due ≡ false
             → works (stack_of self.new.stack) < works (stack_of self.old.stack)) }
         ensures breaks { (draws : List ℕ) → OnErr result (BreaksOn (program_seen self.old.world)
             (C.seen console.old) (C.seen console.new) (point_of self.old) draws) }
     {
         moves_mean();
-        moves_ask();
+        moves_need();
         moves_fall();
         runs_add();
         match console.take(line) {
@@ -159,19 +118,19 @@ impl<'a> Machine<'a> {
     // The next draw makes a number up to this one.
     fn draw(&mut self, n: i32, draws: &mut Draws) -> Due
         requires sound { IsFit self.old }
-        requires next { IsNext (program_seen self.old.world) (point_of self.old) (m.Draws n) }
+        requires needs { next_need (point_of self.old) ≡ Some (ADraw n) }
         ensures names { self.new.world.names ≡ self.old.world.names }
         ensures sound { IsFit self.new }
         ensures supply { supplied draws.new ≡ supplied draws.old }
         ensures leads { (seen : ConsoleView) → LeadsOn (program_seen self.old.world) seen seen
             (point_of self.old) (point_of self.new) draws.old.left draws.new.left 0 }
-        ensures due { (lines : Option (List (List ℕ))) (next : moved.Next) →
-            IsDue (program_seen self.old.world) (point_of self.new) lines draws.new.left result
-            next }
+        ensures due { (lines : Option (List (List ℕ))) → IsDue (point_of self.new) lines
+            draws.new.left result }
         ensures falls { is_still result ≡ false
             → works (stack_of self.new.stack) < works (stack_of self.old.stack) }
     {
         moves_mean();
+        moves_need();
         moves_fall();
         match draws.next() {
             None => Due::Draw,
@@ -183,11 +142,9 @@ impl<'a> Machine<'a> {
     }
 
     // A move that needs nothing is made.
-    fn go<C: Console>(&mut self, next: &Next<'a>, console: &mut C) -> Result<Due, ConsoleFault>
+    fn go<C: Console>(&mut self, console: &mut C) -> Result<Due, ConsoleFault>
         requires sound { IsFit self.old }
-        requires next { IsNext (program_seen self.old.world) (point_of self.old)
-            (move_of (world_of self.old.world) next.now) }
-        requires kind { next.now.kind ≡ NextKind.Goes }
+        requires needs { next_need (point_of self.old) ≡ Some Nothing }
         ensures names { self.new.world.names ≡ self.old.world.names }
         ensures sound { IsFit self.new }
         ensures bounded { (C.seen console.new).bound ≤ (C.seen console.old).bound }
@@ -202,47 +159,13 @@ impl<'a> Machine<'a> {
             (C.seen console.old) (C.seen console.new) (point_of self.old) draws) }
     {
         moves_mean();
+        moves_need();
         moves_fall();
-        moves_ready();
         runs_add();
-        move_fits(self, next);
-        match self.make(next, console) {
+        let effect = self.make();
+        match say(&effect, console) {
             Ok(()) => Ok(Due::Moved),
             Err(fault) => Err(fault),
-        }
-    }
-
-    // This move is made, if it takes no step and what it needs is there.
-    fn advance_by<C: Console>(
-        &mut self,
-        next: &Next<'a>,
-        draws: &mut Draws,
-        line: &mut Line,
-        console: &mut C,
-    ) -> Result<Due, ConsoleFault>
-        requires sound { IsFit self.old }
-        requires next { IsNext (program_seen self.old.world) (point_of self.old)
-            (move_of (world_of self.old.world) next.now) }
-        ensures names { self.new.world.names ≡ self.old.world.names }
-        ensures sound { IsFit self.new }
-        ensures bounded { (C.seen console.new).bound ≤ (C.seen console.old).bound }
-        ensures cause { HasCause (C.seen console.old).faults (C.seen console.new).faults result }
-        ensures supply { supplied draws.new ≡ supplied draws.old }
-        ensures leads { IfOk result (λ due. LeadsOn (program_seen self.old.world)
-            (C.seen console.old) (C.seen console.new) (point_of self.old) (point_of self.new)
-            draws.old.left draws.new.left 0) }
-        ensures due { IfOk result (λ due. IsDue (program_seen self.old.world)
-            (point_of self.new) (C.seen console.new).left draws.new.left due next.now) }
-        ensures falls { IfOk result (λ due. is_still due ≡ false
-            → works (stack_of self.new.stack) < works (stack_of self.old.stack)) }
-        ensures breaks { OnErr result (BreaksOn (program_seen self.old.world)
-            (C.seen console.old) (C.seen console.new) (point_of self.old) draws.old.left) }
-    {
-        match next.kind {
-            NextKind::Goes => self.go(next, console),
-            NextKind::Ticks => Ok(Due::Step),
-            NextKind::Reads(name) => self.read(name, line, console),
-            NextKind::Draws(n) => Ok(self.draw(n, draws)),
         }
     }
 
@@ -252,32 +175,29 @@ impl<'a> Machine<'a> {
         draws: &mut Draws,
         line: &mut Line,
         console: &mut C,
-    ) -> Result<Pending<'a>, ConsoleFault>
+    ) -> Result<Due, ConsoleFault>
         requires { IsFit self.old }
         ensures names { self.new.world.names ≡ self.old.world.names }
         ensures sound { IsFit self.new }
         ensures bounded { (C.seen console.new).bound ≤ (C.seen console.old).bound }
         ensures cause { HasCause (C.seen console.old).faults (C.seen console.new).faults result }
         ensures supply { supplied draws.new ≡ supplied draws.old }
-        ensures leads { IfOk result (λ pending. LeadsOn (program_seen self.old.world)
+        ensures leads { IfOk result (λ due. LeadsOn (program_seen self.old.world)
             (C.seen console.old) (C.seen console.new) (point_of self.old) (point_of self.new)
             draws.old.left draws.new.left 0) }
-        ensures due { IfOk result (λ pending. IsDue (program_seen self.old.world)
-            (point_of self.new) (C.seen console.new).left draws.new.left pending.due pending.next) }
-        ensures falls { IfOk result (λ pending. is_still pending.due ≡ false
+        ensures due { IfOk result (IsDue (point_of self.new) (C.seen console.new).left
+            draws.new.left) }
+        ensures falls { IfOk result (λ due. is_still due ≡ false
             → works (stack_of self.new.stack) < works (stack_of self.old.stack)) }
         ensures breaks { OnErr result (BreaksOn (program_seen self.old.world)
             (C.seen console.old) (C.seen console.new) (point_of self.old) draws.old.left) }
     {
-        match self.next() {
-            None => Ok(Pending {
-                due: Due::Over,
-                next: Next::goes(Pushed::none(), Signal::Normal, Effect::Keeps),
-            }),
-            Some(next) => {
-                let due = self.advance_by(&next, draws, line, console)?;
-                Ok(Pending { due, next })
-            }
+        match self.need() {
+            None => Ok(Due::Over),
+            Some(Need::Nothing) => self.go(console),
+            Some(Need::Step) => Ok(Due::Step),
+            Some(Need::Line(name)) => self.read(name, line, console),
+            Some(Need::Draw(n)) => Ok(self.draw(n, draws)),
         }
     }
 }

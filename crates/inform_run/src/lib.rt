@@ -3,7 +3,6 @@
 
 // What has begun and isn't finished, and where a run stands between two moves.
 mod machines;
-mod stacks;
 mod stops;
 
 // A move; those up to the next step; a turn with that step; turns.

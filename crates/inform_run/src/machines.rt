@@ -1,22 +1,25 @@
 //! A machine: where a run stands between two moves.
 ghost use Rattle.std.specs.Fmt.{signed_decimal};
-ghost use Rattle.std.specs.Prelude.{◌≡◌, ◌≤◌, ◌++◌, [], IfNone, IfSome, Some, None};
+ghost use Rattle.std.specs.Prelude.{◌≡◌, true, option_map};
 ghost use Rattle.adv_io.specs.History.{says};
 ghost use Rattle.adv_io.specs.Console.{Speaks};
-ghost use Rattle.inform_meaning.specs.Runs.{CALL_LIMIT};
-ghost use Rattle.inform_moves.specs.Heights.{Fits, calls_open};
+ghost use Rattle.inform_moves.specs.Laws.{IsShallow};
 ghost use Rattle.inform_worlds.specs.Views.{world_of, program_seen};
-ghost use Rattle.inform_frames.specs.Nexts.{pushed_of, move_of};
-ghost use Rattle.inform_run.specs.Stacks.{stack_of, rest_of, IsSound};
-ghost use Rattle.inform_run.specs.Points.{world_after, said_by, IsNext};
-ghost use Rattle.inform_run.specs.Machines.{point_of};
+ghost use Rattle.inform_frames.specs.Nexts.{need_seen};
+ghost use Rattle.inform_run.specs.Points.{world_after, said_by, next_need, makes_move, MovesOn};
+ghost use Rattle.inform_run.specs.Machines.{point_of, IsFit};
 
-use crate::stacks::{CALLS, Stack};
 use adv_io::{Console, ConsoleFault};
-use inform_frames::{Effect, Next, Signal, next};
-use inform_moves::laws::room_is_left;
+use inform_frames::{Effect, Need, Signal, Stack, need_of, next};
+use inform_moves::laws::{
+    frames_are_few, moves_fit, moves_need, moves_open, moves_ready, room_is_left,
+};
+use inform_names::laws::routines_are_shallow;
 use inform_worlds::World;
 use itoa::Buffer;
+
+/// How many calls may be open.
+pub const CALLS: usize = 200;
 
 /// The world, what has begun, and what is handed to the innermost frame.
 #[derive(Drop)]
@@ -26,17 +29,24 @@ pub struct Machine<'a> {
     pub signal: Signal,
 }
 
+// No routine is deeper than 64.
+fn routines_fit(world: &World)
+    ensures { IsShallow (program_seen world.now) }
+{
+    routines_are_shallow();
+}
+
 // What an effect changes.
-fn change<'a>(world: &mut World<'a>, effect: Effect<'a>)
+fn change<'a>(world: &mut World<'a>, effect: &Effect<'a>)
     ensures names { world.new.names ≡ world.old.names }
-    ensures world { world_of world.new ≡ world_after (world_of world.old) effect.entry }
+    ensures world { world_of world.new ≡ world_after (world_of world.old) effect.now }
 {
     match effect {
         Effect::Keeps => {}
-        Effect::Writes(name, value) => world.assign(name, value),
-        Effect::Stores(name, words, index, value) => world.store(name, words, index, value),
-        Effect::Opens(scope) => world.enter(scope),
-        Effect::Closes(scope) => world.enter(scope),
+        Effect::Writes(name, value) => world.assign(name, *value),
+        Effect::Stores(name, words, index, value) => world.store(name, *words, *index, *value),
+        Effect::Opens(scope) => world.enter(*scope),
+        Effect::Closes(scope) => world.enter(*scope),
         Effect::Says(_) => {}
         Effect::SaysNumber(_) => {}
         Effect::SaysByte(_) => {}
@@ -51,11 +61,11 @@ fn say_number<C: Console>(n: i32, console: &mut C) -> Result<(), ConsoleFault>
     console.say(buffer.format(n).as_bytes())
 }
 
-// What an effect says.
+/// What an effect says.
 #[tactic(auto, using(adv_io::proofs::Sayings::nothing_said))]
-fn say<'a, C: Console>(effect: Effect<'a>, console: &mut C) -> Result<(), ConsoleFault>
+pub fn say<'a, C: Console>(effect: &Effect<'a>, console: &mut C) -> Result<(), ConsoleFault>
     ensures { Speaks (C.seen console.old) (C.seen console.new) result
-        (says (said_by effect.entry)) }
+        (says (said_by effect.now)) }
 {
     match effect {
         Effect::Keeps => Ok(()),
@@ -64,45 +74,47 @@ fn say<'a, C: Console>(effect: Effect<'a>, console: &mut C) -> Result<(), Consol
         Effect::Opens(_) => Ok(()),
         Effect::Closes(_) => Ok(()),
         Effect::Says(text) => console.say(text.bytes()),
-        Effect::SaysNumber(n) => say_number(n, console),
-        Effect::SaysByte(byte) => console.say(&[byte]),
+        Effect::SaysNumber(n) => say_number(*n, console),
+        Effect::SaysByte(byte) => console.say(&[*byte]),
     }
 }
 
 impl<'a> Machine<'a> {
-    /// The next move, if any frame is left.
-    pub fn next(&self) -> Option<Next<'a>>
-        requires { IsSound self.now.stack }
-        ensures none { IfNone result (stack_of self.now.stack ≡ []) }
-        ensures is { IfSome result (λ next. IsNext (program_seen self.now.world)
-            (point_of self.now) (move_of (world_of self.now.world) next)) }
+    /// What the next move needs, if any frame is left.
+    pub fn need(&self) -> Option<Need<'a>>
+        ensures { option_map need_seen result ≡ next_need (point_of self.now) }
     {
-        room_is_left();
         match self.stack.top() {
             None => None,
-            Some(frame) => Some(next(&self.world, CALLS - self.stack.calls, *frame, self.signal)),
+            Some(frame) => Some(need_of(frame, self.signal)),
         }
     }
 
-    /// The innermost frame makes a move, after its step if it takes one.
-    pub fn make<C: Console>(&mut self, next: &Next<'a>, console: &mut C) -> Result<(), ConsoleFault>
-        requires sound { IsSound self.old.stack }
-        requires fits { Fits (pushed_of next.now.pushed ++ rest_of (stack_of self.old.stack)) }
-        requires few { calls_open (pushed_of next.now.pushed ++ rest_of (stack_of self.old.stack))
-            ≤ CALL_LIMIT }
-        ensures spoken { Speaks (C.seen console.old) (C.seen console.new) result
-            (says (said_by next.now.effect)) }
+    /// The innermost frame makes its move, which needs nothing, or whose step was taken. What it says is answered.
+    pub fn make(&mut self) -> Effect<'a>
+        requires fit { IsFit self.old }
+        requires able { makes_move (next_need (point_of self.old)) ≡ true }
         ensures names { self.new.world.names ≡ self.old.world.names }
-        ensures sound { IsSound self.new.stack }
-        ensures point { point_of self.new ≡ record {
-          frames = pushed_of next.now.pushed ++ rest_of (stack_of self.old.stack);
-          handed = next.now.signal;
-          world = world_after (world_of self.old.world) next.now.effect;
-        } }
+        ensures fit { IsFit self.new }
+        ensures moves { MovesOn (program_seen self.old.world) (point_of self.old)
+            (point_of self.new) result }
     {
-        self.stack.replace(&next.pushed);
-        self.signal = next.signal;
-        change(&mut self.world, next.effect);
-        say(next.effect, console)
+        routines_fit(&self.world);
+        frames_are_few();
+        room_is_left();
+        moves_need();
+        moves_fit();
+        moves_open();
+        moves_ready();
+        match self.stack.pop() {
+            None => unreachable!(),
+            Some(frame) => {
+                let room = CALLS - self.stack.calls();
+                let made = next(&self.world, &mut self.stack, room, &frame, self.signal);
+                self.signal = made.signal;
+                change(&mut self.world, &made.effect);
+                made.effect
+            }
+        }
     }
 }

@@ -1,18 +1,17 @@
 //! A runner: a program that runs, from its beginning, and on from where it stopped.
 ghost use Rattle.std.specs.Prelude.{◌≡◌, ◌≤◌, ◌<◌, ◌+◌, ◌^◌, ◌↔◌, true, false, IfOk, IfSome, OnOk, IsOk, IsFalse};
 ghost use Rattle.adv_io.specs.Faults.{HasCause};
-ghost use Rattle.inform_run.specs.Stacks.{IsSound};
 ghost use Rattle.inform_run.specs.Machines.{IsFit};
 ghost use Rattle.inform_run.specs.Fitness.{IsFit-prop};
 
 use crate::machines::Machine;
-use crate::stacks::Stack;
 use crate::stops::Stop;
 use adv_draws::Draws;
 use adv_io::{Console, ConsoleFault, Memory};
-use inform_frames::Signal;
+use inform_frames::{Begin, Frame, Signal, Stack};
 use inform_meaning::laws::{runs_go, runs_split};
 use inform_names::Accepted;
+use inform_names::laws::routines_are_shallow;
 use inform_worlds::World;
 use std::alloc::Global;
 
@@ -49,8 +48,12 @@ impl<'a> Runner<'a> {
         ensures used { IfOk result (λ runner. runner.used ≡ 0) }
         ensures whole { IfOk result (λ runner. runner.broken ≡ false) }
     {
+        routines_are_shallow();
         let world = World::open(alloc, program)?;
-        let stack = Stack::of(alloc, world.names())?;
+        let (_, main) = world.names().main();
+        let mut stack = Stack::with_room(alloc)?;
+        stack.push(Frame::Main);
+        stack.push(Frame::Begins(Begin::Blocks(&main.body)));
         let machine = Machine {
             world,
             stack,

@@ -3,7 +3,7 @@ ghost use Rattle.std.specs.Prelude.{◌≡◌, ◌≤◌, IfOk, OnErr};
 ghost use Rattle.adv_draws.specs.Supply.{supplied};
 ghost use Rattle.adv_io.specs.Faults.{HasCause};
 ghost use Rattle.inform_worlds.specs.Views.{world_of, program_seen};
-ghost use Rattle.inform_run.specs.Stacks.{stack_of};
+ghost use Rattle.inform_frames.specs.Stacks.{stack_of};
 ghost use Rattle.inform_run.specs.Machines.{point_of, IsFit};
 ghost use Rattle.inform_run.specs.Turns.{stop_seen, EndsOn, BreaksAfter};
 

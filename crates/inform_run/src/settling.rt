@@ -5,7 +5,7 @@ ghost use Rattle.adv_io.specs.Faults.{HasCause};
 ghost use Rattle.inform_worlds.specs.Views.{program_seen};
 ghost use Rattle.inform_run.specs.Machines.{point_of, IsFit, IsDue, is_still, LeadsOn, BreaksOn};
 
-use crate::advancing::Pending;
+use crate::advancing::Due;
 use crate::machines::Machine;
 use adv_draws::Draws;
 use adv_io::{Console, ConsoleFault, Line};
@@ -17,26 +17,26 @@ impl<'a> Machine<'a> {
         draws: &mut Draws,
         line: &mut Line,
         console: &mut C,
-    ) -> Result<Pending<'a>, ConsoleFault>
+    ) -> Result<Due, ConsoleFault>
         requires { IsFit self.old }
         ensures names { self.new.world.names ≡ self.old.world.names }
         ensures sound { IsFit self.new }
         ensures bounded { (C.seen console.new).bound ≤ (C.seen console.old).bound }
         ensures cause { HasCause (C.seen console.old).faults (C.seen console.new).faults result }
         ensures supply { supplied draws.new ≡ supplied draws.old }
-        ensures leads { IfOk result (λ pending. LeadsOn (program_seen self.old.world)
+        ensures leads { IfOk result (λ due. LeadsOn (program_seen self.old.world)
             (C.seen console.old) (C.seen console.new) (point_of self.old) (point_of self.new)
             draws.old.left draws.new.left 0) }
-        ensures due { IfOk result (λ pending. IsDue (program_seen self.old.world)
-            (point_of self.new) (C.seen console.new).left draws.new.left pending.due pending.next) }
-        ensures still { IfOk result (λ pending. is_still pending.due ≡ true) }
+        ensures due { IfOk result (IsDue (point_of self.new) (C.seen console.new).left
+            draws.new.left) }
+        ensures still { IfOk result (λ due. is_still due ≡ true) }
         ensures breaks { OnErr result (BreaksOn (program_seen self.old.world)
             (C.seen console.old) (C.seen console.new) (point_of self.old) draws.old.left) }
     {
         'moves: loop {
-            let pending = self.advance(draws, line, console)?;
-            if pending.due.is_still() {
-                return Ok(pending);
+            let due = self.advance(draws, line, console)?;
+            if due.is_still() {
+                return Ok(due);
             }
         }
     }

@@ -1,24 +1,24 @@
 //! A turn: moves up to a step, and that step; or where the run stops.
-ghost use Rattle.std.specs.Prelude.{◌≡◌, ◌≤◌, ◌<◌, List, ℕ, [], ◌∷◌, IfOk, OnErr, IfSome, IfNone};
+ghost use Rattle.std.specs.Prelude.{◌≡◌, ◌≤◌, ◌<◌, List, ℕ, [], Some, IfOk, OnErr, IfSome, IfNone};
 ghost use Rattle.adv_draws.specs.Supply.{supplied};
 ghost use Rattle.adv_io.specs.Faults.{HasCause};
 ghost use Rattle.inform_meaning.specs.Frames as f;
 ghost use Rattle.inform_meaning.specs.Runs.{begun_of, stop_of};
 ghost use Rattle.inform_worlds.specs.Views.{world_of, program_seen};
 ghost use Rattle.inform_frames.specs.Frames.{signal_of};
-ghost use Rattle.inform_frames.specs.Nexts.{move_of};
-ghost use Rattle.inform_run.specs.Stacks.{stack_of};
-ghost use Rattle.inform_run.specs.Points.{IsNext};
+ghost use Rattle.inform_moves.specs.Needs.{AStep};
+ghost use Rattle.inform_frames.specs.Stacks.{stack_of};
+ghost use Rattle.inform_run.specs.Points.{next_need};
 ghost use Rattle.inform_run.specs.Machines.{point_of, IsFit, is_still, IsDue, LeadsOn};
 ghost use Rattle.inform_run.specs.Turns.{stop_seen, halted, EndsOn, BreaksAfter};
 
-use crate::advancing::{Due, move_fits};
-use crate::machines::Machine;
+use crate::advancing::Due;
+use crate::machines::{Machine, say};
 use crate::stops::Stop;
 use adv_draws::Draws;
 use adv_io::{Console, ConsoleFault, Line};
-use inform_frames::{Frame, Halt, Next, NextKind, Pushed, halt_of};
-use inform_moves::laws::{moves_ask, moves_mean, moves_ready, runs_add};
+use inform_frames::{Frame, Halt, halt_of};
+use inform_moves::laws::{moves_mean, moves_need, runs_add};
 
 // Why a run stopped that is over.
 fn stop_by(halt: Halt) -> Stop
@@ -41,21 +41,14 @@ impl<'a> Machine<'a> {
         ensures frames { stack_of self.new.stack ≡ begun_of (signal_of self.old.signal) }
     {
         let halt = halt_of(self.signal);
-        self.stack.replace(&Pushed::one(Frame::Over(halt)));
+        self.stack.push(Frame::Over(halt));
         stop_by(halt)
     }
 
     // A step is made, if one is left.
-    fn step<C: Console>(
-        &mut self,
-        left: u64,
-        next: &Next<'a>,
-        console: &mut C,
-    ) -> Result<Option<Stop>, ConsoleFault>
+    fn step<C: Console>(&mut self, left: u64, console: &mut C) -> Result<Option<Stop>, ConsoleFault>
         requires sound { IsFit self.old }
-        requires next { IsNext (program_seen self.old.world) (point_of self.old)
-            (move_of (world_of self.old.world) next.now) }
-        requires kind { next.now.kind ≡ NextKind.Ticks }
+        requires needs { next_need (point_of self.old) ≡ Some AStep }
         ensures names { self.new.world.names ≡ self.old.world.names }
         ensures sound { IsFit self.new }
         ensures bounded { (C.seen console.new).bound ≤ (C.seen console.old).bound }
@@ -73,13 +66,13 @@ impl<'a> Machine<'a> {
             (C.seen console.new) (point_of self.old) left draws) }
     {
         moves_mean();
-        moves_ready();
+        moves_need();
         runs_add();
         if left == 0 {
             return Ok(Some(Stop::Spent));
         }
-        move_fits(self, next);
-        match self.make(next, console) {
+        let effect = self.make();
+        match say(&effect, console) {
             Ok(()) => Ok(None),
             Err(fault) => Err(fault),
         }
@@ -112,11 +105,10 @@ impl<'a> Machine<'a> {
             (C.seen console.new) (point_of self.old) left draws.old.left) }
     {
         moves_mean();
-        moves_ask();
-        let pending = self.settle(draws, line, console)?;
-        match pending.due {
+        moves_need();
+        match self.settle(draws, line, console)? {
             Due::Moved => unreachable!(),
-            Due::Step => self.step(left, &pending.next, console),
+            Due::Step => self.step(left, console),
             Due::Line => Ok(Some(Stop::NeedsLine)),
             Due::Draw => Ok(Some(Stop::NeedsDraw)),
             Due::Over => Ok(Some(self.end())),

@@ -2,7 +2,6 @@
 use adv_draws::Draws;
 use adv_io::{Line, MemoryConsole};
 use inform_lexer::tokens;
-use inform_meaning::Trap;
 use inform_names::{Accepted, accept};
 use inform_parser::parse;
 use inform_run::{Runner, Stop};
@@ -361,16 +360,6 @@ fn accepted(alloc: Global, text: &[u8], width: Width) -> Result<Option<Accepted>
     }
 }
 
-fn trap_name<'a>(kind: Trap) -> &'a [u8] {
-    match kind {
-        Trap::Division => b"division",
-        Trap::Index => b"index",
-        Trap::Random => b"random",
-        Trap::Depth => b"depth",
-        Trap::Line => b"line",
-    }
-}
-
 // Why a run stopped, after what it said.
 fn add_stop(said: &mut Vec<u8>, stop: Stop) -> Result<(), Fail> {
     match stop {
@@ -381,7 +370,7 @@ fn add_stop(said: &mut Vec<u8>, stop: Stop) -> Result<(), Fail> {
         Stop::Trap(kind, directive) => {
             let mut digits = Buffer::new();
             said.extend_from_slice(b"trap ")?;
-            said.extend_from_slice(trap_name(kind))?;
+            said.extend_from_slice(kind.word())?;
             said.extend_from_slice(b" in ")?;
             said.extend_from_slice(digits.format(directive).as_bytes())?;
         }

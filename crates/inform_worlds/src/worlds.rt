@@ -151,7 +151,8 @@ impl<'a> World<'a> {
 
     // The number of the array of this name, if there is one.
     fn array_at(&self, name: &[u8]) -> Option<usize>
-        ensures means { IfSome result (λ at. (words : Bool) × (names_of self.now.names.accepted.now name.now
+        ensures means { IfSome result (λ at. (words : Bool)
+            × (names_of self.now.names.accepted.now name.now
             ≡ Some (record { at = at; kind = k.Array words }))) }
         ensures within { IfSome result (λ at. at < length self.now.arrays.items) }
         ensures none { IfNone result (arrays_of (names_of self.now.names.accepted.now)

@@ -2,7 +2,7 @@ use Rattle.std.proofs.Common.{◌≡◌, ◌∙◌, ◌+◌, ◌-◌, refl, sym,
 use Rattle.std.proofs.lemmas.Result.{err_from_is_err_and}
 use Rattle.inform_worlds.specs.Worlds.{program_of}
 use Rattle.inform_worlds.specs.Views.{world_of, program_seen}
-use Rattle.inform_run.specs.Stacks.{stack_of}
+use Rattle.inform_frames.specs.Stacks.{stack_of}
 use Rattle.inform_run.specs.Machines.{point_of, LeadsOn}
 use Rattle.inform_run.specs.Turns.{stop_seen, EndsOn, BreaksAfter}
 use Rattle.inform_run.proofs.Advances.{stays, on-then}

@@ -27,19 +27,19 @@ moves-preserved g c =
       steady = search rules;
       supply = c.advance.ensures.supply ∙ c.moves.invariant.supply;
       leads = on-then (program_seen c.args.self.now.world) (program_seen c.moves.self.world) (ap (λ names. program_of names.accepted.now) c.moves.invariant.names) (seen c.args.console.now) (seen c.moves.console) (seen c.advance.new.console)
-          (point_of c.args.self.now) (point_of c.moves.self) (point_of c.advance.new.self) c.args.draws.now.left c.moves.draws.left c.advance.new.draws.left 0 0 c.moves.invariant.leads c.in_ok-pending.ensures.leads;
+          (point_of c.args.self.now) (point_of c.moves.self) (point_of c.advance.new.self) c.args.draws.now.left c.moves.draws.left c.advance.new.draws.left 0 0 c.moves.invariant.leads c.in_ok-due.ensures.leads;
     }
 
 pub returns-then-is_still-clause-leads : goal.returns-then-is_still-clause-leads
 returns-then-is_still-clause-leads g c =
     let seen = g.C.Console.seen in
     on-then (program_seen c.args.self.now.world) (program_seen c.moves.self.world) (ap (λ names. program_of names.accepted.now) c.moves.invariant.names) (seen c.args.console.now) (seen c.moves.console) (seen c.advance.new.console)
-    (point_of c.args.self.now) (point_of c.moves.self) (point_of c.advance.new.self) c.args.draws.now.left c.moves.draws.left c.advance.new.draws.left 0 0 c.moves.invariant.leads c.in_ok-pending.ensures.leads
+    (point_of c.args.self.now) (point_of c.moves.self) (point_of c.advance.new.self) c.args.draws.now.left c.moves.draws.left c.advance.new.draws.left 0 0 c.moves.invariant.leads c.in_ok-due.ensures.leads
 
-pub returns-in_err-pending-clause-breaks : goal.returns-in_err-pending-clause-breaks
-returns-in_err-pending-clause-breaks g c =
+pub returns-in_err-due-clause-breaks : goal.returns-in_err-due-clause-breaks
+returns-in_err-due-clause-breaks g c =
     let seen = g.C.Console.seen in
     let p = err_from_is_err_and c.from_residual.result c.from_residual.ensures.1 in
     rw (p.1)
     (breaks-on (program_seen c.args.self.now.world) (program_seen c.moves.self.world) (ap (λ names. program_of names.accepted.now) c.moves.invariant.names) (seen c.args.console.now) (seen c.moves.console) (seen c.advance.new.console)
-    (point_of c.args.self.now) (point_of c.moves.self) c.args.draws.now.left c.moves.draws.left c.moves.invariant.leads c.in_err-pending.ensures.breaks)
+    (point_of c.args.self.now) (point_of c.moves.self) c.args.draws.now.left c.moves.draws.left c.moves.invariant.leads c.in_err-due.ensures.breaks)

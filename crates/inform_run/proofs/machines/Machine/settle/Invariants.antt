@@ -2,7 +2,7 @@ use Rattle.std.proofs.Common.{◌≡◌, ◌≤◌}
 use Rattle.adv_draws.specs.Supply.{supplied}
 use Rattle.inform_moves.specs.Works.{works}
 use Rattle.inform_worlds.specs.Views.{program_seen}
-use Rattle.inform_run.specs.Stacks.{stack_of}
+use Rattle.inform_frames.specs.Stacks.{stack_of}
 use Rattle.inform_run.specs.Machines.{point_of, IsFit, LeadsOn}
 use Rattle.inform_run.proofs.machines.Machine.settle.Given as goal
 

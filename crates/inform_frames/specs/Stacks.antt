@@ -1,0 +1,13 @@
+-- The frames of a stack, as the meaning has them.
+use Rattle.std.specs.Prelude.{◌+◌, ◌≤◌, List, length}
+use Rattle.inform_meaning.specs.Frames as f
+use Rattle.inform_frames.specs.Frames.{frames_of}
+use Rattle.inform_frames.specs.declared.stacks.Stack.{Stack}
+use Rattle.inform_frames.specs.declared.stacks.TheConstants.{ROOM}
+
+abbrev pub stack_of : Stack → List f.Frame
+stack_of s = frames_of s.frames.items
+
+-- there is room for the frames of a move
+abbrev pub HasRoom : Stack → Type 0
+HasRoom s = length (stack_of s) + 3 ≤ ROOM
