@@ -1,0 +1,12 @@
+pub mod Opened
+pub mod Steps
+pub mod Words
+pub mod Lists
+pub mod Values
+pub mod Conditions
+pub mod Changes
+pub mod Printing
+pub mod Statements
+pub mod Loops
+pub mod Routines
+pub mod Carried

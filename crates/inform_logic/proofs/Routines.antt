@@ -1,0 +1,55 @@
+-- The rules of routines: what a call of one does, by its body.
+use Rattle.std.proofs.Common.{◌≡◌, ◌∙◌, ℕ, suc, ◌+◌, ◌≤◌, ℤ, pos, List, take, Option, Some, None, refl, sym, ap, subst}
+use Rattle.inform_meaning.specs.Worlds.{Program, Routine, Scope, Config, scope_of, with_note}
+use Rattle.inform_meaning.specs.Frames.{Outcome, Value, Truth, Normal, Returns, Breaks, Continues, Halts, Waits, returned, within_scope, on_return, bind}
+use Rattle.inform_meaning.specs.Statements.{exec_all}
+use Rattle.inform_meaning.specs.Runs.{noted_body, entered, enter, call_at}
+use Rattle.inform_logic.specs.Stages.{Stage, in_scope, with_past}
+use Rattle.inform_logic.specs.Leading.{Takes, Runs, Does}
+use Rattle.inform_logic.proofs.Opened.{opened}
+use Rattle.inform_logic.proofs.Steps.{finally, takes_within}
+
+pub does_within : {p : Program} {d : ℕ} {f : List ℕ} {values : List ℤ} {w w' : Stage} {v : ℤ}
+    {n most : ℕ} → n ≤ most → Does p d f values w v w' n → Does p d f values w v w' most
+does_within enough does = record { takes = λ s. takes_within enough (does.takes s) }
+
+-- the caller gets the value and its scope back
+gives_back : (s : Scope) (e : Outcome) (v : ℤ) (c : Config) → returned e ≡ Value v
+    → on_return s e c ≡ (Value v, within_scope s c)
+unfolding on_return
+gives_back s (Value a) v c h = ap (λ o. (o, within_scope s c)) h
+gives_back s (Truth b) v c h = ap (λ o. (o, within_scope s c)) h
+gives_back s Normal v c h = ap (λ o. (o, within_scope s c)) h
+gives_back s (Returns a) v c h = ap (λ o. (o, within_scope s c)) h
+gives_back s Breaks v c h = ap (λ o. (o, within_scope s c)) h
+gives_back s Continues v c h = ap (λ o. (o, within_scope s c)) h
+gives_back s (Halts halt) v c h = ap (λ o. (o, within_scope s c)) h
+gives_back s (Waits lack fs) v c h = cc
+
+module _ {p : Program} {d : ℕ} {f : List ℕ} {values : List ℤ} where
+  -- a routine that may be noted: its body runs with its arguments, one call deeper
+  pub noted_routine : {r : Routine} {s' : Scope} {w w' : Stage} {e : Outcome} {v : ℤ} {n : ℕ}
+      → p.routines f ≡ Some r
+      → Runs p d r.body (scope_of r values)
+      (with_past (with_note (noted_body (p.notes f r.directive) r.body) w.past) w) e s' w' n
+      → returned e ≡ Value v → Does p (suc d) f values w v w' n
+  unfolding call_at
+  noted_routine {r} {w = w} {w'} {e} {v} {n} there body is = record {
+    takes = λ s. subst (λ o. Takes (enter p (call_at p d) f o values) s w (Value v) s w' n)
+        (sym there) (inside s);
+  } where
+    inside : (s : Scope) → Takes (enter p (call_at p d) f (Some r) values) s w (Value v) s w' n
+    inside s =
+        let done : Takes (bind (exec_all p (call_at p d) r.body) (on_return s)) (scope_of r values)
+            (with_past (with_note (noted_body (p.notes f r.directive) r.body) w.past) w) (Value v) s
+            w' n = finally _ body.takes (λ k. gives_back s e v _ is) in
+        record { steps = done.steps; few = done.few; by = done.by }
+
+  -- a routine that isn't noted
+  pub routine : {r : Routine} {s' : Scope} {w w' : Stage} {e : Outcome} {v : ℤ} {n : ℕ}
+      → p.routines f ≡ Some r → p.notes f r.directive ≡ None
+      → Runs p d r.body (scope_of r values) w e s' w' n → returned e ≡ Value v
+      → Does p (suc d) f values w v w' n
+  routine {r} {s'} {w} {w'} {e} {v} {n} there unseen body is = noted_routine there
+      (subst (λ o. Runs p d r.body (scope_of r values) (with_past (with_note (noted_body o r.body) w.past)
+      w) e s' w' n) (sym unseen) body) is

@@ -1,0 +1,144 @@
+-- The rules of values: what they evaluate to.
+use Rattle.std.proofs.Common.{◌≡◌, ◌∙◌, arith, ℕ, suc, ◌+◌, ◌≤◌, ℤ, pos, int_lt, Bool, false, List, [], ◌∷◌, ◌++◌, Option, Some, None, refl, sym, ap, subst}
+use Rattle.std.specs.Prelude.{unwrap_or}
+use Rattle.adv_io.specs.Steps.{Drew}
+use Rattle.inform_tree.specs.declared.values.SumOp.{SumOp}
+use Rattle.inform_tree.specs.declared.values.ProdOp.{ProdOp}
+use Rattle.inform_tree.specs.Values.{Expression, Number, Char, Name, Entry, Call, Random, Neg, Sum, Product, Arguments, NoArguments, MoreArguments, Terms, NoTerms, MoreTerms, Factors, NoFactors, MoreFactors}
+use Rattle.inform_meaning.specs.declared.traps.Trap.TheVariants as t
+use Rattle.inform_meaning.specs.Words.{number_word, word_negation, summed, multiplied, draw_within}
+use Rattle.inform_meaning.specs.Tables.{found, first_of_two}
+use Rattle.inform_meaning.specs.Worlds.{Program, Scope, entry_at, with_argument}
+use Rattle.inform_meaning.specs.Frames.{Outcome, Value, when}
+use Rattle.inform_meaning.specs.Parts.{trap, entry_by, draw_at, take_draw}
+use Rattle.inform_meaning.specs.Meaning.{on_product, eval_product}
+use Rattle.inform_meaning.specs.Runs.{call_at}
+use Rattle.inform_logic.specs.Stages.{Stage, in_scope, with_past}
+use Rattle.inform_logic.specs.Leading.{Takes, Leads, Part, Evaluates, Calls, Sums, Multiplies, Does}
+use Rattle.inform_logic.proofs.Opened.{opened}
+use Rattle.inform_logic.proofs.Steps.{nothing_taken, and_then, finally, one_step, takes_within}
+
+module _ {p : Program} {d : ℕ} where
+  -- a part within a greater bound
+  pub within : {part : Part} {s s' : Scope} {w w' : Stage} {e : Outcome} {n most : ℕ} → n ≤ most
+      → Leads p d part s w e s' w' n → Leads p d part s w e s' w' most
+  within enough x = record { takes = takes_within enough x.takes }
+
+  -- a value by what it is equal to
+  pub valued : {x : Expression} {s : Scope} {w w' : Stage} {a v : ℤ} {n : ℕ} → a ≡ v
+      → Evaluates p d x s w a w' n → Evaluates p d x s w v w' n
+  valued {x} {s} {w} {w'} {n = n} h y = subst (λ v. Evaluates p d x s w v w' n) h y
+
+  pub number : {m : ℕ} {s : Scope} {w : Stage}
+      → Evaluates p d (Number m) s w (number_word p.width m) w 0
+  number = record { takes = nothing_taken (λ k. refl) }
+
+  pub character : {byte : ℕ} {s : Scope} {w : Stage} → Evaluates p d (Char byte) s w (pos byte) w 0
+  character = record { takes = nothing_taken (λ k. refl) }
+
+  -- a name has the value of the local, else of the global, else of the constant
+  pub name : {x : List ℕ} {s : Scope} {w : Stage} {v : ℤ}
+      → first_of_two (found x s.locals) (first_of_two (w.globals x) (p.constants x)) ≡ Some v
+      → Evaluates p d (Name x) s w v w 0
+  name {s = s} {w} h =
+      record { takes = nothing_taken (λ k. ap (λ o. (Value (unwrap_or o (pos 0)), in_scope k s w)) h) }
+
+  pub entry : {a : List ℕ} {words : Bool} {x : Expression} {s : Scope} {w w' : Stage} {i v : ℤ}
+      {xs : List ℤ} {n : ℕ} → Evaluates p d x s w i w' n → w'.arrays a ≡ Some xs
+      → entry_at xs i ≡ Some v → Evaluates p d (Entry a words x) s w v w' n
+  unfolding opened
+  entry {s = s} {w' = w'} {i = i} x there is = record {
+    takes = finally _ x.takes (λ k.
+        ap (λ o. entry_by (entry_at (unwrap_or o []) i) (in_scope k s w')) there
+        ∙ ap (λ o. entry_by o (in_scope k s w')) is);
+  }
+
+  pub negation : {x : Expression} {s : Scope} {w w' : Stage} {a v : ℤ} {n : ℕ}
+      → Evaluates p d x s w a w' n → word_negation p.width a ≡ v → Evaluates p d (Neg x) s w v w' n
+  unfolding opened
+  negation {s = s} {w' = w'} x is =
+      record { takes = finally _ x.takes (λ k. ap (λ a. (Value a, in_scope k s w')) is) }
+
+  -- ---- sums
+
+  pub no_terms : {s : Scope} {w : Stage} {a : ℤ} → Sums p d a NoTerms s w a w 0
+  no_terms = record { takes = nothing_taken (λ k. refl) }
+
+  pub more_terms : {op : SumOp} {x : Expression} {xs : Terms} {s : Scope} {w w1 w' : Stage}
+      {a b c v : ℤ} {n m : ℕ} → Evaluates p d x s w b w1 n → summed p.width op a b ≡ c
+      → Sums p d c xs s w1 v w' m → Sums p d a (MoreTerms op x xs) s w v w' (n + m)
+  unfolding opened
+  more_terms {op} {x} {xs} {s} {w} {w1} {w'} {a} {b} {v = v} {m = m} y is rest =
+      let rest' : Sums p d (summed p.width op a b) xs s w1 v w' m =
+              subst (λ c. Sums p d c xs s w1 v w' m) (sym is) rest in
+      record { takes = and_then _ y.takes rest'.takes }
+
+  pub sum : {x : Expression} {xs : Terms} {s : Scope} {w w1 w' : Stage} {a v : ℤ} {n m : ℕ}
+      → Evaluates p d x s w a w1 n → Sums p d a xs s w1 v w' m
+      → Evaluates p d (Sum x xs) s w v w' (n + m)
+  unfolding opened
+  sum x xs = record { takes = and_then _ x.takes xs.takes }
+
+  -- a sum or a difference of two
+  pub sum_of_two : {op : SumOp} {x y : Expression} {s : Scope} {w w1 w' : Stage} {a b v : ℤ}
+      {n m : ℕ} → Evaluates p d x s w a w1 n → Evaluates p d y s w1 b w' m
+      → summed p.width op a b ≡ v → Evaluates p d (Sum x (MoreTerms op y NoTerms)) s w v w' (n + m)
+  sum_of_two x y is = within (omega arith) (sum x (more_terms y is no_terms))
+
+  -- ---- products
+
+  pub no_factors : {s : Scope} {w : Stage} {a : ℤ} → Multiplies p d a NoFactors s w a w 0
+  no_factors = record { takes = nothing_taken (λ k. refl) }
+
+  pub more_factors : {op : ProdOp} {x : Expression} {xs : Factors} {s : Scope} {w w1 w' : Stage}
+      {a b c v : ℤ} {n m : ℕ} → Evaluates p d x s w b w1 n → multiplied p.width op a b ≡ Some c
+      → Multiplies p d c xs s w1 v w' m → Multiplies p d a (MoreFactors op x xs) s w v w' (n + m)
+  unfolding opened
+  more_factors {xs = xs} {s} {w1 = w1} {w'} {v = v} {m = m} y is rest = record {
+    takes = and_then _ y.takes (subst (λ o. Takes (on_product o (λ c. eval_product p (call_at p d) c
+        xs)) s w1 (Value v) s w' m) (sym is) rest.takes);
+  }
+
+  pub product : {x : Expression} {xs : Factors} {s : Scope} {w w1 w' : Stage} {a v : ℤ} {n m : ℕ}
+      → Evaluates p d x s w a w1 n → Multiplies p d a xs s w1 v w' m
+      → Evaluates p d (Product x xs) s w v w' (n + m)
+  unfolding opened
+  product x xs = record { takes = and_then _ x.takes xs.takes }
+
+  -- a product, a quotient or a remainder of two
+  pub product_of_two : {op : ProdOp} {x y : Expression} {s : Scope} {w w1 w' : Stage} {a b v : ℤ}
+      {n m : ℕ} → Evaluates p d x s w a w1 n → Evaluates p d y s w1 b w' m
+      → multiplied p.width op a b ≡ Some v
+      → Evaluates p d (Product x (MoreFactors op y NoFactors)) s w v w' (n + m)
+  product_of_two x y is = within (omega arith) (product x (more_factors y is no_factors))
+
+  -- ---- calls and draws
+
+  -- all arguments are known: a step, and the routine
+  pub called : {f : List ℕ} {values : List ℤ} {s : Scope} {w w' : Stage} {v : ℤ} {n : ℕ}
+      → Does p d f values w v w' n → Calls p d f values NoArguments s w v w' (n + 1)
+  called {s = s} does = record { takes = one_step _ (does.takes s) }
+
+  -- one argument, and those to come
+  pub argument : {f : List ℕ} {values : List ℤ} {x : Expression} {xs : Arguments} {s : Scope}
+      {w w1 w' : Stage} {a v : ℤ} {n m : ℕ} → Evaluates p d x s w a w1 n
+      → Calls p d f (with_argument values a) xs s w1 v w' m
+      → Calls p d f values (MoreArguments x xs) s w v w' (n + m)
+  unfolding opened
+  argument x xs = record { takes = and_then _ x.takes xs.takes }
+
+  pub call : {f : List ℕ} {xs : Arguments} {s : Scope} {w w' : Stage} {v : ℤ} {n : ℕ}
+      → Calls p d f [] xs s w v w' n → Evaluates p d (Call f xs) s w v w' n
+  call xs = record { takes = xs.takes }
+
+  -- a number of 1 to the limit, by the next draw
+  pub random : {x : Expression} {s : Scope} {w w' : Stage} {limit : ℤ} {draw : ℕ} {draws : List ℕ}
+      {n : ℕ} → Evaluates p d x s w limit w' n → int_lt limit (pos 1) ≡ false
+      → w'.draws ≡ draw ∷ draws → Evaluates p d (Random x) s w (draw_within limit draw)
+      (record w' { draws = draws; past = w'.past ++ Drew draw ∷ [] }) n
+  unfolding opened when
+  random {s = s} {w' = w'} {limit = limit} x some there = record {
+    takes = finally _ x.takes (λ k.
+        ap (λ b. when b (trap t.Random) (take_draw limit) (in_scope k s w')) some
+        ∙ ap (λ draws. draw_at draws limit (in_scope k s w')) there);
+  }

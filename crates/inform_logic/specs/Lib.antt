@@ -1,0 +1,5 @@
+pub mod Stages
+pub mod Leading
+pub mod Holding
+pub mod Stopping
+pub mod Worked

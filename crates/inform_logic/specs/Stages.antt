@@ -1,0 +1,55 @@
+-- The stage of a run: all of a configuration but the steps that are left and the scope.
+use Rattle.std.specs.Prelude.{ℕ, zero, suc, ℤ, List, ◌++◌, Option, Some, None}
+use Rattle.adv_io.specs.Steps.{Step, said_steps}
+use Rattle.inform_meaning.specs.Tables.{updated, put}
+use Rattle.inform_meaning.specs.Worlds.{Scope, World, Config}
+
+-- a sum that computes by its first part
+abbrev pub plus : ℕ → ℕ → ℕ
+plus zero k = k
+plus (suc n) k = suc (plus n k)
+
+pub record Stage : Type 0 where
+  pub globals : List ℕ → Option ℤ
+  pub arrays : List ℕ → Option (List ℤ)
+  pub lines : List (List ℕ)
+  pub draws : List ℕ
+  pub past : List Step
+
+abbrev pub world_in : Scope → Stage → World
+world_in s w = record { globals = w.globals; arrays = w.arrays; scope = s }
+
+-- a configuration: a stage, with so many steps and in this scope
+abbrev pub in_scope : ℕ → Scope → Stage → Config
+in_scope steps s w = record {
+  steps = steps;
+  lines = w.lines;
+  draws = w.draws;
+  past = w.past;
+  world = world_in s w;
+}
+
+-- ---- what changes a stage
+
+abbrev pub with_past : List Step → Stage → Stage
+with_past past w = record w { past = past }
+
+abbrev pub with_global : List ℕ → ℤ → Stage → Stage
+with_global name v w = record w { globals = put w.globals name v }
+
+abbrev pub with_array : List ℕ → List ℤ → Stage → Stage
+with_array name entries w = record w { arrays = put w.arrays name entries }
+
+-- bytes were said
+abbrev pub said : List ℕ → Stage → Stage
+said bytes w = with_past (w.past ++ said_steps bytes) w
+
+-- ---- a variable that has another value: the local where there is one, else the global
+
+abbrev pub scope_after : Option ℤ → List ℕ → ℤ → Scope → Scope
+scope_after None name v s = s
+scope_after (Some old) name v s = record s { locals = updated name v s.locals }
+
+abbrev pub stage_after : Option ℤ → List ℕ → ℤ → Stage → Stage
+stage_after None name v w = with_global name v w
+stage_after (Some old) name v w = w
