@@ -11,7 +11,7 @@ use Rattle.inform_meaning.specs.Parts.{changes, counts, store_by, store}
 use Rattle.inform_logic.specs.Stages.{Stage, world_in, in_scope, with_array, scope_after, stage_after}
 use Rattle.inform_logic.specs.Leading.{Evaluates, Changes, ChangesIfAny}
 use Rattle.inform_logic.proofs.Opened.{opened}
-use Rattle.inform_logic.proofs.Steps.{nothing_taken, and_then, finally}
+use Rattle.inform_logic.proofs.Steps.{nothing_taken, value_then, finally}
 
 -- a variable that is there has the other value after it is assigned
 assigned_is : (x : List ℕ) (v : ℤ) (s : Scope) (w : Stage)
@@ -50,7 +50,7 @@ module _ {p : Program} {d : ℕ} where
       (stage_after (found x s.locals) x v w') n
   unfolding opened
   set_variable {x} {s = s} {w' = w'} {v = v} y there = record {
-    takes = finally _ y.takes (assigned_is x v s w' there);
+    takes = finally _ (λ j h. tt) y.takes (assigned_is x v s w' there);
   }
 
   pub increment : {x : List ℕ} {s : Scope} {w : Stage} {a v : ℤ}
@@ -76,7 +76,7 @@ module _ {p : Program} {d : ℕ} where
       (with_array a (set xs (unsigned_abs i) (kept words v)) w') (n + m)
   unfolding opened
   set_entry {a} {words} {s = s} {w' = w'} {i} {v} {xs} x y there is = record {
-    takes = and_then _ x.takes (finally _ y.takes (λ k. written k));
+    takes = value_then _ x.takes (finally _ (λ j h. tt) y.takes (λ k. written k));
   } where
     written : (k : ℕ) → store a words i v (in_scope k s w')
         ≡ (Normal, in_scope k s (with_array a (set xs (unsigned_abs i) (kept words v)) w'))

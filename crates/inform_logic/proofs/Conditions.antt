@@ -10,7 +10,7 @@ use Rattle.inform_meaning.specs.Frames.{Truth, when}
 use Rattle.inform_logic.specs.Stages.{Stage, in_scope}
 use Rattle.inform_logic.specs.Leading.{Evaluates, Tests, TestsIfAny, TestsAll, TestsAny}
 use Rattle.inform_logic.proofs.Opened.{opened}
-use Rattle.inform_logic.proofs.Steps.{nothing_taken, and_then, finally}
+use Rattle.inform_logic.proofs.Steps.{nothing_taken, value_then, truth_then, finally}
 
 module _ {p : Program} {d : ℕ} where
   pub compare : {relation : Relation} {x y : Expression} {s : Scope} {w w1 w' : Stage} {a b : ℤ}
@@ -18,19 +18,19 @@ module _ {p : Program} {d : ℕ} where
       → compares relation a b ≡ t → Tests p d (Compare relation x y) s w t w' (n + m)
   unfolding opened
   compare {s = s} {w' = w'} x y is = record {
-    takes = and_then _ x.takes (finally _ y.takes (λ k. ap (λ t. (Truth t, in_scope k s w')) is));
+    takes = value_then _ x.takes (finally _ (λ j h. tt) y.takes (λ k. ap (λ t. (Truth t, in_scope k s w')) is));
   }
 
   pub nonzero : {x : Expression} {s : Scope} {w w' : Stage} {a : ℤ} {t : Bool} {n : ℕ}
       → Evaluates p d x s w a w' n → not (int_eq a (pos 0)) ≡ t → Tests p d (Nonzero x) s w t w' n
   unfolding opened
   nonzero {s = s} {w' = w'} x is =
-      record { takes = finally _ x.takes (λ k. ap (λ t. (Truth t, in_scope k s w')) is) }
+      record { takes = finally _ (λ j h. tt) x.takes (λ k. ap (λ t. (Truth t, in_scope k s w')) is) }
 
   pub negated : {x : Condition} {s : Scope} {w w' : Stage} {t : Bool} {n : ℕ}
       → Tests p d x s w t w' n → Tests p d (Not x) s w (not t) w' n
   unfolding opened
-  negated x = record { takes = finally _ x.takes (λ k. refl) }
+  negated x = record { takes = finally _ (λ j h. tt) x.takes (λ k. refl) }
 
   -- no condition is true, as in a loop without a test
   pub no_test : {s : Scope} {w : Stage} → TestsIfAny p d None s w true w 0
@@ -49,12 +49,12 @@ module _ {p : Program} {d : ℕ} where
       {n m : ℕ} → Tests p d x s w true w1 n → TestsAll p d xs s w1 t w' m
       → TestsAll p d (MoreConditions x xs) s w t w' (n + m)
   unfolding opened when
-  one_holds x xs = record { takes = and_then _ x.takes xs.takes }
+  one_holds x xs = record { takes = truth_then _ x.takes xs.takes }
 
   pub one_fails : {x : Condition} {xs : Conditions} {s : Scope} {w w' : Stage} {n : ℕ}
       → Tests p d x s w false w' n → TestsAll p d (MoreConditions x xs) s w false w' n
   unfolding opened when
-  one_fails x = record { takes = finally _ x.takes (λ k. refl) }
+  one_fails x = record { takes = finally _ (λ j h. tt) x.takes (λ k. refl) }
 
   -- ---- conditions of which one has to hold, up to the first that does
 
@@ -68,10 +68,10 @@ module _ {p : Program} {d : ℕ} where
   pub this_holds : {x : Condition} {xs : Conditions} {s : Scope} {w w' : Stage} {n : ℕ}
       → Tests p d x s w true w' n → TestsAny p d (MoreConditions x xs) s w true w' n
   unfolding opened when
-  this_holds x = record { takes = finally _ x.takes (λ k. refl) }
+  this_holds x = record { takes = finally _ (λ j h. tt) x.takes (λ k. refl) }
 
   pub this_fails : {x : Condition} {xs : Conditions} {s : Scope} {w w1 w' : Stage} {t : Bool}
       {n m : ℕ} → Tests p d x s w false w1 n → TestsAny p d xs s w1 t w' m
       → TestsAny p d (MoreConditions x xs) s w t w' (n + m)
   unfolding opened when
-  this_fails x xs = record { takes = and_then _ x.takes xs.takes }
+  this_fails x xs = record { takes = truth_then _ x.takes xs.takes }

@@ -10,3 +10,4 @@ pub mod Statements
 pub mod Loops
 pub mod Routines
 pub mod Carried
+pub mod Stopping

@@ -12,9 +12,9 @@ use Rattle.inform_meaning.proofs.Looping.{loop_once}
 use Rattle.inform_meaning.proofs.GoingTrees.{test_if_any-going, exec_all-going, alter_if_any-going}
 use Rattle.inform_meaning.proofs.GoingRuns.{call_at-going}
 use Rattle.inform_logic.specs.Stages.{Stage, in_scope}
-use Rattle.inform_logic.specs.Leading.{Leads, AfterBody, TestsIfAny, Tests, ChangesIfAny, Runs, Loops}
+use Rattle.inform_logic.specs.Leading.{Leaves, Leads, AfterBody, TestsIfAny, Tests, ChangesIfAny, Runs, Loops}
 use Rattle.inform_logic.proofs.Opened.{opened}
-use Rattle.inform_logic.proofs.Steps.{nothing_taken, and_then, one_step, takes_same, chosen, not_chosen}
+use Rattle.inform_logic.proofs.Steps.{nothing_taken, and_then, truth_then, normal_then, one_step, takes_same, chosen, not_chosen}
 use Rattle.inform_logic.proofs.Values.{within}
 use Rattle.inform_logic.proofs.Changes.{no_change}
 
@@ -33,12 +33,12 @@ module _ {p : Program} {d : ℕ} where
   -- a test at which it goes on, its body, and what comes after that
   pub turn : {l : Loop} {b : Bool} {s s1 s' : Scope} {w w1 w2 w' : Stage} {e1 e : Outcome}
       {n m q : ℕ} → TestsIfAny p d l.test s w b w1 n → loop_goes_on l b ≡ true
-      → Runs p d l.body s w1 e1 s1 w2 m → Leads p d (AfterBody l e1) s1 w2 e s' w' q
+      → ((j : ℕ) → Leaves e1 j) → Runs p d l.body s w1 e1 s1 w2 m → Leads p d (AfterBody l e1) s1 w2 e s' w' q
       → Loops p d l s w e s' w' (n + (m + q) + 1)
   unfolding opened
-  turn {l} x goes body rest = record {
-    takes = takes_same (once p d l) (one_step _ (and_then _ x.takes (chosen _ goes
-        (and_then _ body.takes rest.takes))));
+  turn {l} x goes any body rest = record {
+    takes = takes_same (once p d l) (one_step _ (truth_then _ x.takes (chosen _ goes
+        (and_then _ any body.takes rest.takes))));
   }
 
   -- a test at which it ends
@@ -47,7 +47,7 @@ module _ {p : Program} {d : ℕ} where
       → Loops p d l s w Normal s w' (n + 1)
   unfolding opened
   no_turn {l} x ends = within (omega arith) (record {
-    takes = takes_same (once p d l) (one_step _ (and_then _ x.takes (not_chosen _ ends
+    takes = takes_same (once p d l) (one_step _ (truth_then _ x.takes (not_chosen _ ends
         (nothing_taken (λ k. refl)))));
   })
 
@@ -58,14 +58,14 @@ module _ {p : Program} {d : ℕ} where
       → ChangesIfAny p d l.change s w s1 w1 n → Loops p d l s1 w1 e s' w' m
       → Leads p d (AfterBody l Normal) s w e s' w' (n + m)
   unfolding opened
-  turn_ends change more = record { takes = and_then _ change.takes more.takes }
+  turn_ends change more = record { takes = normal_then _ change.takes more.takes }
 
   -- after `continue` too
   pub turn_continues : {l : Loop} {s s1 s' : Scope} {w w1 w' : Stage} {e : Outcome} {n m : ℕ}
       → ChangesIfAny p d l.change s w s1 w1 n → Loops p d l s1 w1 e s' w' m
       → Leads p d (AfterBody l Continues) s w e s' w' (n + m)
   unfolding opened
-  turn_continues change more = record { takes = and_then _ change.takes more.takes }
+  turn_continues change more = record { takes = normal_then _ change.takes more.takes }
 
   -- after `break` the loop is over
   pub turn_breaks : {l : Loop} {s : Scope} {w : Stage}
@@ -86,7 +86,7 @@ module _ {p : Program} {d : ℕ} where
       → Loops p d (while_loop x body) s1 w2 e s' w' q
       → Loops p d (while_loop x body) s w e s' w' (n + m + q + 1)
   while_once_more x body more =
-      within (omega arith) (turn x refl body (turn_ends no_change more))
+      within (omega arith) (turn x refl (λ j. tt) body (turn_ends no_change more))
 
   pub while_ends : {x : Condition} {body : Statements} {s : Scope} {w w' : Stage} {n : ℕ}
       → Tests p d x s w false w' n → Loops p d (while_loop x body) s w Normal s w' (n + 1)
@@ -97,7 +97,7 @@ module _ {p : Program} {d : ℕ} where
       {e : Outcome} {n m q : ℕ} → Tests p d x s w false w1 n → Runs p d body s w1 Normal s1 w2 m
       → Loops p d (do_loop body x) s1 w2 e s' w' q
       → Loops p d (do_loop body x) s w e s' w' (n + m + q + 1)
-  do_once_more x body more = within (omega arith) (turn x refl body (turn_ends no_change more))
+  do_once_more x body more = within (omega arith) (turn x refl (λ j. tt) body (turn_ends no_change more))
 
   pub do_ends : {x : Condition} {body : Statements} {s : Scope} {w w' : Stage} {n : ℕ}
       → Tests p d x s w true w' n → Loops p d (do_loop body x) s w Normal s w' (n + 1)
@@ -108,7 +108,7 @@ module _ {p : Program} {d : ℕ} where
       → TestsIfAny p d x s w true w1 n → Runs p d body s w1 Normal s1 w2 m
       → ChangesIfAny p d change s1 w2 s2 w3 q → Loops p d (for_loop x change body) s2 w3 e s' w' t
       → Loops p d (for_loop x change body) s w e s' w' (n + m + q + t + 1)
-  for_once_more x body change more = within (omega arith) (turn x refl body (turn_ends change more))
+  for_once_more x body change more = within (omega arith) (turn x refl (λ j. tt) body (turn_ends change more))
 
   pub for_ends : {x : Option Condition} {change : Option Assignment} {body : Statements} {s : Scope}
       {w w' : Stage} {n : ℕ} → TestsIfAny p d x s w false w' n

@@ -8,7 +8,7 @@ use Rattle.inform_meaning.specs.Worlds.{Program, Scope}
 use Rattle.inform_logic.specs.Stages.{Stage, in_scope, said}
 use Rattle.inform_logic.specs.Leading.{Evaluates, Prints}
 use Rattle.inform_logic.proofs.Opened.{opened}
-use Rattle.inform_logic.proofs.Steps.{nothing_taken, and_then, with_said}
+use Rattle.inform_logic.proofs.Steps.{nothing_taken, value_then, with_said}
 
 module _ {p : Program} {d : ℕ} where
   pub print_nothing : {s : Scope} {w : Stage} → Prints p d [] s w w 0
@@ -23,11 +23,11 @@ module _ {p : Program} {d : ℕ} where
       {n m : ℕ} → Evaluates p d x s w v w1 n → Prints p d xs s (said (signed_decimal v) w1) w' m
       → Prints p d (Value x ∷ xs) s w w' (n + m)
   unfolding opened
-  print_number x xs = record { takes = and_then _ x.takes (with_said _ xs.takes) }
+  print_number x xs = record { takes = value_then _ x.takes (with_said _ xs.takes) }
 
   -- a value as a character
   pub print_character : {x : Expression} {xs : List PrintItem} {s : Scope} {w w1 w' : Stage} {v : ℤ}
       {n m : ℕ} → Evaluates p d x s w v w1 n → Prints p d xs s (said (low_byte v ∷ []) w1) w' m
       → Prints p d (Char x ∷ xs) s w w' (n + m)
   unfolding opened
-  print_character x xs = record { takes = and_then _ x.takes (with_said _ xs.takes) }
+  print_character x xs = record { takes = value_then _ x.takes (with_said _ xs.takes) }

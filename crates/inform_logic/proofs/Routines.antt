@@ -5,7 +5,7 @@ use Rattle.inform_meaning.specs.Frames.{Outcome, Value, Truth, Normal, Returns, 
 use Rattle.inform_meaning.specs.Statements.{exec_all}
 use Rattle.inform_meaning.specs.Runs.{noted_body, entered, enter, call_at}
 use Rattle.inform_logic.specs.Stages.{Stage, in_scope, with_past}
-use Rattle.inform_logic.specs.Leading.{Takes, Runs, Does}
+use Rattle.inform_logic.specs.Leading.{Leaves, Takes, Runs, Does}
 use Rattle.inform_logic.proofs.Opened.{opened}
 use Rattle.inform_logic.proofs.Steps.{finally, takes_within}
 
@@ -26,6 +26,17 @@ gives_back s Continues v c h = ap (λ o. (o, within_scope s c)) h
 gives_back s (Halts halt) v c h = ap (λ o. (o, within_scope s c)) h
 gives_back s (Waits lack fs) v c h = cc
 
+-- after what gives a value any steps may be left
+leaves_any : (e : Outcome) (v : ℤ) → returned e ≡ Value v → (j : ℕ) → Leaves e j
+leaves_any (Value a) v h j = tt
+leaves_any (Truth b) v h j = tt
+leaves_any Normal v h j = tt
+leaves_any (Returns a) v h j = tt
+leaves_any Breaks v h j = tt
+leaves_any Continues v h j = tt
+leaves_any (Halts halt) v h j = tt
+leaves_any (Waits lack fs) v h j = cc
+
 module _ {p : Program} {d : ℕ} {f : List ℕ} {values : List ℤ} where
   -- a routine that may be noted: its body runs with its arguments, one call deeper
   pub noted_routine : {r : Routine} {s' : Scope} {w w' : Stage} {e : Outcome} {v : ℤ} {n : ℕ}
@@ -42,7 +53,7 @@ module _ {p : Program} {d : ℕ} {f : List ℕ} {values : List ℤ} where
     inside s =
         let done : Takes (bind (exec_all p (call_at p d) r.body) (on_return s)) (scope_of r values)
             (with_past (with_note (noted_body (p.notes f r.directive) r.body) w.past) w) (Value v) s
-            w' n = finally _ body.takes (λ k. gives_back s e v _ is) in
+            w' n = finally _ (λ j h. leaves_any e v is j) body.takes (λ k. gives_back s e v _ is) in
         record { steps = done.steps; few = done.few; by = done.by }
 
   -- a routine that isn't noted

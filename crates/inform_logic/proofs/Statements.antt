@@ -13,9 +13,9 @@ use Rattle.inform_meaning.specs.declared.traps.Trap.TheVariants as t
 use Rattle.inform_meaning.specs.Tables.{put_by}
 use Rattle.inform_meaning.specs.Parts.{line_at, take_line, read_line, trap}
 use Rattle.inform_logic.specs.Stages.{Stage, world_in, in_scope, with_array, said}
-use Rattle.inform_logic.specs.Leading.{Leads, TheAct, TheCases, AfterBody, Evaluates, Calls, Tests, Changes, ChangesIfAny, Prints, Executes, Runs, Loops, Takes}
+use Rattle.inform_logic.specs.Leading.{Leaves, Leads, TheAct, TheCases, AfterBody, Evaluates, Calls, Tests, Changes, ChangesIfAny, Prints, Executes, Runs, Loops, Takes}
 use Rattle.inform_logic.proofs.Opened.{opened}
-use Rattle.inform_logic.proofs.Steps.{nothing_taken, and_then, finally, one_step, with_said, chosen, not_chosen}
+use Rattle.inform_logic.proofs.Steps.{nothing_taken, and_then, value_then, truth_then, normal_then, finally, one_step, with_said, chosen, not_chosen}
 
 module _ {p : Program} {d : ℕ} where
   -- a step, and what the statement does
@@ -32,24 +32,24 @@ module _ {p : Program} {d : ℕ} where
       {n m : ℕ} → Executes p d x s w Normal s1 w1 n → Runs p d xs s1 w1 e s' w' m
       → Runs p d (MoreStatements x xs) s w e s' w' (n + m)
   unfolding opened
-  next x xs = record { takes = and_then _ x.takes xs.takes }
+  next x xs = record { takes = normal_then _ x.takes xs.takes }
 
   -- the statement at which a block is left
   pub returns : {x : Statement} {xs : Statements} {s s' : Scope} {w w' : Stage} {v : ℤ} {n : ℕ}
       → Executes p d x s w (Returns v) s' w' n
       → Runs p d (MoreStatements x xs) s w (Returns v) s' w' n
   unfolding opened
-  returns x = record { takes = finally _ x.takes (λ k. refl) }
+  returns x = record { takes = finally _ (λ j h. tt) x.takes (λ k. refl) }
 
   pub breaks : {x : Statement} {xs : Statements} {s s' : Scope} {w w' : Stage} {n : ℕ}
       → Executes p d x s w Breaks s' w' n → Runs p d (MoreStatements x xs) s w Breaks s' w' n
   unfolding opened
-  breaks x = record { takes = finally _ x.takes (λ k. refl) }
+  breaks x = record { takes = finally _ (λ j h. tt) x.takes (λ k. refl) }
 
   pub continues : {x : Statement} {xs : Statements} {s s' : Scope} {w w' : Stage} {n : ℕ}
       → Executes p d x s w Continues s' w' n → Runs p d (MoreStatements x xs) s w Continues s' w' n
   unfolding opened
-  continues x = record { takes = finally _ x.takes (λ k. refl) }
+  continues x = record { takes = finally _ (λ j h. tt) x.takes (λ k. refl) }
 
   -- ---- statements without parts
 
@@ -93,24 +93,24 @@ module _ {p : Program} {d : ℕ} where
   pub call_alone : {name : List ℕ} {xs : Arguments} {s : Scope} {w w' : Stage} {v : ℤ} {n : ℕ}
       → Calls p d name [] xs s w v w' n → Executes p d (Call name xs) s w Normal s w' (n + 1)
   unfolding opened
-  call_alone xs = step (record { takes = finally _ xs.takes (λ k. refl) })
+  call_alone xs = step (record { takes = finally _ (λ j h. tt) xs.takes (λ k. refl) })
 
   pub return : {x : Expression} {s : Scope} {w w' : Stage} {v : ℤ} {n : ℕ}
       → Evaluates p d x s w v w' n → Executes p d (Return (Some x)) s w (Returns v) s w' (n + 1)
   unfolding opened
-  return x = step (record { takes = finally _ x.takes (λ k. refl) })
+  return x = step (record { takes = finally _ (λ j h. tt) x.takes (λ k. refl) })
 
   pub if_true : {x : Condition} {xs ys : Statements} {s s' : Scope} {w w1 w' : Stage} {e : Outcome}
       {n m : ℕ} → Tests p d x s w true w1 n → Runs p d xs s w1 e s' w' m
       → Executes p d (If x xs ys) s w e s' w' (n + m + 1)
   unfolding opened when
-  if_true x xs = step (record { takes = and_then _ x.takes xs.takes })
+  if_true x xs = step (record { takes = truth_then _ x.takes xs.takes })
 
   pub if_false : {x : Condition} {xs ys : Statements} {s s' : Scope} {w w1 w' : Stage} {e : Outcome}
       {n m : ℕ} → Tests p d x s w false w1 n → Runs p d ys s w1 e s' w' m
       → Executes p d (If x xs ys) s w e s' w' (n + m + 1)
   unfolding opened when
-  if_false x ys = step (record { takes = and_then _ x.takes ys.takes })
+  if_false x ys = step (record { takes = truth_then _ x.takes ys.takes })
 
   -- ---- `switch`
 
@@ -119,7 +119,7 @@ module _ {p : Program} {d : ℕ} where
       → Leads p d (TheCases a xs rest) s w1 e s' w' m
       → Executes p d (Switch x xs rest) s w e s' w' (n + m + 1)
   unfolding opened
-  switch x xs = step (record { takes = and_then _ x.takes xs.takes })
+  switch x xs = step (record { takes = value_then _ x.takes xs.takes })
 
   pub this_case : {a : ℤ} {choices : List Choice} {body : Statements} {xs : Cases} {rest : Default}
       {s s' : Scope} {w w' : Stage} {e : Outcome} {n : ℕ} → fits_any p a choices ≡ true
@@ -149,17 +149,17 @@ module _ {p : Program} {d : ℕ} where
 
   -- the body first
   pub do_until : {x : Condition} {xs : Statements} {s s1 s' : Scope} {w w1 w' : Stage} {e1 e : Outcome}
-      {n m : ℕ} → Runs p d xs s w e1 s1 w1 n → Leads p d (AfterBody (do_loop xs x) e1) s1 w1 e s' w' m
+      {n m : ℕ} → ((j : ℕ) → Leaves e1 j) → Runs p d xs s w e1 s1 w1 n → Leads p d (AfterBody (do_loop xs x) e1) s1 w1 e s' w' m
       → Executes p d (Do xs x) s w e s' w' (n + m + 1)
   unfolding opened
-  do_until xs rest = step (record { takes = and_then _ xs.takes rest.takes })
+  do_until any xs rest = step (record { takes = and_then _ any xs.takes rest.takes })
 
   pub for : {first change : Option Assignment} {x : Option Condition} {xs : Statements}
       {s s1 s' : Scope} {w w1 w' : Stage} {e : Outcome} {n m : ℕ}
       → ChangesIfAny p d first s w s1 w1 n → Loops p d (for_loop x change xs) s1 w1 e s' w' m
       → Executes p d (For first x change xs) s w e s' w' (n + m + 1)
   unfolding opened
-  for first turns = step (record { takes = and_then _ first.takes turns.takes })
+  for first turns = step (record { takes = normal_then _ first.takes turns.takes })
 
   -- ---- lines
 

@@ -1,10 +1,10 @@
 -- Steps one after another, and how many there are at most.
-use Rattle.std.proofs.Common.{◌≡◌, ◌∙◌, arith, ℕ, zero, suc, ◌+◌, ◌≤◌, Bool, true, false, List, refl, sym, ap, subst}
+use Rattle.std.proofs.Common.{◌≡◌, ◌∙◌, arith, ℕ, zero, suc, ◌+◌, ◌≤◌, ℤ, Bool, true, false, List, refl, sym, ap, subst}
 use Rattle.inform_meaning.specs.Worlds.{Config, Scope}
-use Rattle.inform_meaning.specs.Frames.{Frame, Outcome, Meaning, bind, when}
+use Rattle.inform_meaning.specs.Frames.{Frame, Outcome, Value, Truth, Normal, Meaning, bind, when}
 use Rattle.inform_meaning.specs.Parts.{tick, saying}
 use Rattle.inform_logic.specs.Stages.{plus, Stage, in_scope, said}
-use Rattle.inform_logic.specs.Leading.{Takes}
+use Rattle.inform_logic.specs.Leading.{Leaves, Takes}
 
 pub plus-assoc : (a b k : ℕ) → plus (plus a b) k ≡ plus a (plus b k)
 plus-assoc zero b k = refl
@@ -20,30 +20,46 @@ few_of_two {a} {b} few less = omega (arith, few, less, plus_is a b)
 -- no step is taken
 pub nothing_taken : {m : Meaning} {s s' : Scope} {w w' : Stage} {e : Outcome}
     → ((k : ℕ) → m (in_scope k s w) ≡ (e, in_scope k s' w')) → Takes m s w e s' w' 0
-nothing_taken by = record { steps = 0; few = omega arith; by = by }
+nothing_taken by = record { steps = 0; few = omega arith; by = λ k leaves. by k }
 
--- a part, and what is done with its outcome
+-- a part after which any steps may be left, and what is done with its outcome
 pub and_then : {m : Meaning} (k : Outcome → Meaning) {s s1 s' : Scope} {w w1 w' : Stage}
-    {e1 e : Outcome} {a b : ℕ} → Takes m s w e1 s1 w1 a → Takes (k e1) s1 w1 e s' w' b
-    → Takes (bind m k) s w e s' w' (a + b)
+    {e1 e : Outcome} {a b : ℕ} → ((j : ℕ) → Leaves e1 j) → Takes m s w e1 s1 w1 a
+    → Takes (k e1) s1 w1 e s' w' b → Takes (bind m k) s w e s' w' (a + b)
 unfolding bind
-and_then {m} k {s} {w = w} x y = record {
+and_then {m} k {s} {w = w} any x y = record {
   steps = plus x.steps y.steps;
   few = few_of_two x.few y.few;
-  by = λ j. ap (λ i. bind m k (in_scope i s w)) (plus-assoc x.steps y.steps j)
-      ∙ ap (λ r. k r.0 r.1) (x.by (plus y.steps j)) ∙ y.by j;
+  by = λ j leaves. ap (λ i. bind m k (in_scope i s w)) (plus-assoc x.steps y.steps j)
+      ∙ ap (λ r. k r.0 r.1) (x.by (plus y.steps j) (any (plus y.steps j))) ∙ y.by j leaves;
 }
 
 -- a part, and then what takes no step
 pub finally : {m : Meaning} (k : Outcome → Meaning) {s s1 s' : Scope} {w w1 w' : Stage}
-    {e1 e : Outcome} {n : ℕ} → Takes m s w e1 s1 w1 n
+    {e1 e : Outcome} {n : ℕ} → ((j : ℕ) → Leaves e j → Leaves e1 j) → Takes m s w e1 s1 w1 n
     → ((j : ℕ) → k e1 (in_scope j s1 w1) ≡ (e, in_scope j s' w')) → Takes (bind m k) s w e s' w' n
 unfolding bind
-finally k x h = record {
+finally k any x h = record {
   steps = x.steps;
   few = x.few;
-  by = λ j. ap (λ r. k r.0 r.1) (x.by j) ∙ h j;
+  by = λ j leaves. ap (λ r. k r.0 r.1) (x.by j (any j leaves)) ∙ h j;
 }
+
+-- the same after a value, a truth value and the end of a statement
+pub value_then : {m : Meaning} (k : Outcome → Meaning) {s s1 s' : Scope} {w w1 w' : Stage} {v : ℤ}
+    {e : Outcome} {a b : ℕ} → Takes m s w (Value v) s1 w1 a → Takes (k (Value v)) s1 w1 e s' w' b
+    → Takes (bind m k) s w e s' w' (a + b)
+value_then k = and_then k (λ j. tt)
+
+pub truth_then : {m : Meaning} (k : Outcome → Meaning) {s s1 s' : Scope} {w w1 w' : Stage} {t : Bool}
+    {e : Outcome} {a b : ℕ} → Takes m s w (Truth t) s1 w1 a → Takes (k (Truth t)) s1 w1 e s' w' b
+    → Takes (bind m k) s w e s' w' (a + b)
+truth_then k = and_then k (λ j. tt)
+
+pub normal_then : {m : Meaning} (k : Outcome → Meaning) {s s1 s' : Scope} {w w1 w' : Stage}
+    {e : Outcome} {a b : ℕ} → Takes m s w Normal s1 w1 a → Takes (k Normal) s1 w1 e s' w' b
+    → Takes (bind m k) s w e s' w' (a + b)
+normal_then k = and_then k (λ j. tt)
 
 pub one_step : (f : Frame) {m : Meaning} {s s' : Scope} {w w' : Stage} {e : Outcome} {n : ℕ}
     → Takes m s w e s' w' n → Takes (tick f m) s w e s' w' (n + 1)
@@ -56,7 +72,7 @@ pub takes_same : {m m' : Meaning} {s s' : Scope} {w w' : Stage} {e : Outcome} {n
 takes_same {s = s} {w = w} same x = record {
   steps = x.steps;
   few = x.few;
-  by = λ k. same (in_scope (plus x.steps k) s w) ∙ x.by k;
+  by = λ k leaves. same (in_scope (plus x.steps k) s w) ∙ x.by k leaves;
 }
 
 pub takes_within : {m : Meaning} {s s' : Scope} {w w' : Stage} {e : Outcome} {n most : ℕ}

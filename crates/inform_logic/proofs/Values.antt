@@ -16,7 +16,7 @@ use Rattle.inform_meaning.specs.Runs.{call_at}
 use Rattle.inform_logic.specs.Stages.{Stage, in_scope, with_past}
 use Rattle.inform_logic.specs.Leading.{Takes, Leads, Part, Evaluates, Calls, Sums, Multiplies, Does}
 use Rattle.inform_logic.proofs.Opened.{opened}
-use Rattle.inform_logic.proofs.Steps.{nothing_taken, and_then, finally, one_step, takes_within}
+use Rattle.inform_logic.proofs.Steps.{nothing_taken, value_then, finally, one_step, takes_within}
 
 module _ {p : Program} {d : ℕ} where
   -- a part within a greater bound
@@ -48,7 +48,7 @@ module _ {p : Program} {d : ℕ} where
       → entry_at xs i ≡ Some v → Evaluates p d (Entry a words x) s w v w' n
   unfolding opened
   entry {s = s} {w' = w'} {i = i} x there is = record {
-    takes = finally _ x.takes (λ k.
+    takes = finally _ (λ j h. tt) x.takes (λ k.
         ap (λ o. entry_by (entry_at (unwrap_or o []) i) (in_scope k s w')) there
         ∙ ap (λ o. entry_by o (in_scope k s w')) is);
   }
@@ -57,7 +57,7 @@ module _ {p : Program} {d : ℕ} where
       → Evaluates p d x s w a w' n → word_negation p.width a ≡ v → Evaluates p d (Neg x) s w v w' n
   unfolding opened
   negation {s = s} {w' = w'} x is =
-      record { takes = finally _ x.takes (λ k. ap (λ a. (Value a, in_scope k s w')) is) }
+      record { takes = finally _ (λ j h. tt) x.takes (λ k. ap (λ a. (Value a, in_scope k s w')) is) }
 
   -- ---- sums
 
@@ -71,13 +71,13 @@ module _ {p : Program} {d : ℕ} where
   more_terms {op} {x} {xs} {s} {w} {w1} {w'} {a} {b} {v = v} {m = m} y is rest =
       let rest' : Sums p d (summed p.width op a b) xs s w1 v w' m =
               subst (λ c. Sums p d c xs s w1 v w' m) (sym is) rest in
-      record { takes = and_then _ y.takes rest'.takes }
+      record { takes = value_then _ y.takes rest'.takes }
 
   pub sum : {x : Expression} {xs : Terms} {s : Scope} {w w1 w' : Stage} {a v : ℤ} {n m : ℕ}
       → Evaluates p d x s w a w1 n → Sums p d a xs s w1 v w' m
       → Evaluates p d (Sum x xs) s w v w' (n + m)
   unfolding opened
-  sum x xs = record { takes = and_then _ x.takes xs.takes }
+  sum x xs = record { takes = value_then _ x.takes xs.takes }
 
   -- a sum or a difference of two
   pub sum_of_two : {op : SumOp} {x y : Expression} {s : Scope} {w w1 w' : Stage} {a b v : ℤ}
@@ -95,7 +95,7 @@ module _ {p : Program} {d : ℕ} where
       → Multiplies p d c xs s w1 v w' m → Multiplies p d a (MoreFactors op x xs) s w v w' (n + m)
   unfolding opened
   more_factors {xs = xs} {s} {w1 = w1} {w'} {v = v} {m = m} y is rest = record {
-    takes = and_then _ y.takes (subst (λ o. Takes (on_product o (λ c. eval_product p (call_at p d) c
+    takes = value_then _ y.takes (subst (λ o. Takes (on_product o (λ c. eval_product p (call_at p d) c
         xs)) s w1 (Value v) s w' m) (sym is) rest.takes);
   }
 
@@ -103,7 +103,7 @@ module _ {p : Program} {d : ℕ} where
       → Evaluates p d x s w a w1 n → Multiplies p d a xs s w1 v w' m
       → Evaluates p d (Product x xs) s w v w' (n + m)
   unfolding opened
-  product x xs = record { takes = and_then _ x.takes xs.takes }
+  product x xs = record { takes = value_then _ x.takes xs.takes }
 
   -- a product, a quotient or a remainder of two
   pub product_of_two : {op : ProdOp} {x y : Expression} {s : Scope} {w w1 w' : Stage} {a b v : ℤ}
@@ -125,7 +125,7 @@ module _ {p : Program} {d : ℕ} where
       → Calls p d f (with_argument values a) xs s w1 v w' m
       → Calls p d f values (MoreArguments x xs) s w v w' (n + m)
   unfolding opened
-  argument x xs = record { takes = and_then _ x.takes xs.takes }
+  argument x xs = record { takes = value_then _ x.takes xs.takes }
 
   pub call : {f : List ℕ} {xs : Arguments} {s : Scope} {w w' : Stage} {v : ℤ} {n : ℕ}
       → Calls p d f [] xs s w v w' n → Evaluates p d (Call f xs) s w v w' n
@@ -138,7 +138,7 @@ module _ {p : Program} {d : ℕ} where
       (record w' { draws = draws; past = w'.past ++ Drew draw ∷ [] }) n
   unfolding opened when
   random {s = s} {w' = w'} {limit = limit} x some there = record {
-    takes = finally _ x.takes (λ k.
+    takes = finally _ (λ j h. tt) x.takes (λ k.
         ap (λ b. when b (trap t.Random) (take_draw limit) (in_scope k s w')) some
         ∙ ap (λ draws. draw_at draws limit (in_scope k s w')) there);
   }

@@ -4,19 +4,27 @@ use Rattle.inform_tree.specs.Values.{Expression, Arguments, Terms, Factors}
 use Rattle.inform_tree.specs.Conditions.{Condition, Conditions}
 use Rattle.inform_tree.specs.Statements.{Statement, Statements, Cases, Default, Assignment, PrintItem}
 use Rattle.inform_meaning.specs.Worlds.{Program, Scope}
-use Rattle.inform_meaning.specs.Frames.{Loop, Outcome, Value, Truth, Normal, Meaning}
+use Rattle.inform_meaning.specs.Frames.{Loop, Lack, Spent, Outcome, Value, Truth, Normal, Waits, Meaning}
 use Rattle.inform_meaning.specs.Meaning.{eval, eval_call, eval_sum, eval_product, test_all, test_any, test_if_any, alter_if_any, print_items}
 use Rattle.inform_meaning.specs.Statements.{act, exec, exec_all, exec_cases, exec_default, turns_of, body_done}
 use Rattle.inform_meaning.specs.Runs.{call_at}
 use Rattle.inform_logic.specs.Stages.{plus, Stage, in_scope}
 
--- a meaning takes its steps from this scope and stage, and leads to this outcome, scope and stage,
--- whatever steps are left after it
+-- which steps may be left after an outcome: none where a step is wanted, and else any
+abbrev pub lack_leaves : Lack → ℕ → Type 0
+lack_leaves Spent k = k ≡ 0
+lack_leaves lack k = Unit {0}
+
+abbrev pub Leaves : Outcome → ℕ → Type 0
+Leaves (Waits lack fs) k = lack_leaves lack k
+Leaves e k = Unit {0}
+
+-- a meaning takes its steps from this scope and stage, and leads to this outcome, scope and stage
 pub record Takes (m : Meaning) (s : Scope) (w : Stage) (e : Outcome) (s' : Scope) (w' : Stage)
     (most : ℕ) : Type 0 where
   pub steps : ℕ
   pub few : steps ≤ most
-  pub by : (k : ℕ) → m (in_scope (plus steps k) s w) ≡ (e, in_scope k s' w')
+  pub by : (k : ℕ) → Leaves e k → m (in_scope (plus steps k) s w) ≡ (e, in_scope k s' w')
 
 -- ---- the parts of a program
 

@@ -1,0 +1,60 @@
+-- What stops a run is handed up: by the parts around it, and by the routines.
+use Rattle.std.proofs.Common.{◌≡◌, ◌∙◌, ℕ, suc, ◌+◌, ◌≤◌, ℤ, Bool, List, [], ◌∷◌, ◌++◌, Option, Some, None, refl, ap, subst, sym}
+use Rattle.inform_meaning.specs.Worlds.{Program, Scope, Config}
+use Rattle.inform_meaning.specs.Frames.{Halt, Lack, Frame, Calling, Outcome, Normal, Halts, Waits, Meaning, bind, on_normal, on_value, on_truth, on_body, on_return}
+use Rattle.inform_meaning.specs.Runs.{Stop, Halted, Lacking}
+use Rattle.inform_logic.specs.Stages.{Stage, in_scope}
+use Rattle.inform_logic.specs.Leading.{Leaves, Takes, Part, meaning_of, Leads}
+use Rattle.inform_logic.specs.Stopping.{IsStop, Ends, Stops, CallStops}
+use Rattle.inform_logic.proofs.Steps.{finally, takes_within}
+
+-- what is done with an outcome leaves a stop as it is, perhaps in another scope
+abbrev pub Passes : (Outcome → Meaning) → Type 0
+Passes k = (stop : Stop) (e : Outcome) → IsStop stop e → (s : Scope) → (e' : Outcome) × (s' : Scope)
+    × IsStop stop e' × ((j : ℕ) → Leaves e' j → Leaves e j) × ((j : ℕ) (w : Stage) → k e (in_scope j s w) ≡ (e', in_scope j s' w))
+
+-- a frame leaves it so that keeps what is over, and waits with what waits
+pub passes : (f : Frame) (k : Outcome → Meaning)
+    → ((halt : Halt) (c : Config) → k (Halts halt) c ≡ (Halts halt, c))
+    → ((lack : Lack) (fs : List Frame) (c : Config) → k (Waits lack fs) c ≡ (Waits lack (fs ++ f ∷ []), c))
+    → Passes k
+passes f k over waits (Halted halt) e is s = (Halts halt, s, refl, λ j h. subst (λ e. Leaves e j) (sym is) h, λ j w.
+    ap (λ e. k e (in_scope j s w)) is ∙ over halt (in_scope j s w))
+passes f k over waits (Lacking lack) e stop s =
+    (Waits lack (stop.0 ++ f ∷ []), s, (stop.0 ++ f ∷ [], refl), λ j h. subst (λ e. Leaves e j) (sym stop.1) h, λ j w.
+    ap (λ e. k e (in_scope j s w)) stop.1 ∙ waits lack stop.0 (in_scope j s w))
+
+pub passes_value : (f : Frame) (k : ℤ → Meaning) → Passes (on_value f k)
+unfolding on_value
+passes_value f k = passes f (on_value f k) (λ halt c. refl) (λ lack fs c. refl)
+
+pub passes_truth : (f : Frame) (k : Bool → Meaning) → Passes (on_truth f k)
+unfolding on_truth
+passes_truth f k = passes f (on_truth f k) (λ halt c. refl) (λ lack fs c. refl)
+
+pub passes_normal : (f : Frame) (m : Meaning) → Passes (on_normal f m)
+unfolding on_normal
+passes_normal f m = passes f (on_normal f m) (λ halt c. refl) (λ lack fs c. refl)
+
+pub passes_body : (f : Frame) (m : Meaning) → Passes (on_body f m)
+unfolding on_body
+passes_body f m = passes f (on_body f m) (λ halt c. refl) (λ lack fs c. refl)
+
+-- the caller's scope comes back where the run is over, and doesn't where it waits
+pub passes_return : (s : Scope) → Passes (on_return s)
+unfolding on_return
+passes_return s (Halted halt) e is inner = (Halts halt, s, refl, λ j h. subst (λ e. Leaves e j) (sym is) h, λ j w.
+    ap (λ e. on_return s e (in_scope j inner w)) is)
+passes_return s (Lacking lack) e stop inner =
+    (Waits lack (stop.0 ++ Calling s ∷ []), inner, (stop.0 ++ Calling s ∷ [], refl), λ j h. subst (λ e. Leaves e j) (sym stop.1) h, λ j w.
+    ap (λ e. on_return s e (in_scope j inner w)) stop.1)
+
+-- a part that stops, and what would be done with its outcome
+pub ends_first : {m : Meaning} (k : Outcome → Meaning) {s : Scope} {w w' : Stage} {stop : Stop}
+    {n : ℕ} → Passes k → Ends m s w stop w' n → Ends (bind m k) s w stop w' n
+ends_first k {s} {w} {w'} {stop} {n} pass x = let after = pass stop x.ending x.is x.scope in record {
+  ending = after.0;
+  scope = after.1;
+  is = after.2;
+  takes = finally k after.3 x.takes (λ j. after.4 j w');
+}
