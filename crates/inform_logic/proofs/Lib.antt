@@ -11,3 +11,4 @@ pub mod Loops
 pub mod Routines
 pub mod Carried
 pub mod Stopping
+pub mod Stops

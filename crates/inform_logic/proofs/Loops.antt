@@ -12,7 +12,7 @@ use Rattle.inform_meaning.proofs.Looping.{loop_once}
 use Rattle.inform_meaning.proofs.GoingTrees.{test_if_any-going, exec_all-going, alter_if_any-going}
 use Rattle.inform_meaning.proofs.GoingRuns.{call_at-going}
 use Rattle.inform_logic.specs.Stages.{Stage, in_scope}
-use Rattle.inform_logic.specs.Leading.{Leaves, Leads, AfterBody, TestsIfAny, Tests, ChangesIfAny, Runs, Loops}
+use Rattle.inform_logic.specs.Leading.{Leaves, Leads, AfterTest, AfterBody, TestsIfAny, Tests, ChangesIfAny, Runs, Loops}
 use Rattle.inform_logic.proofs.Opened.{opened}
 use Rattle.inform_logic.proofs.Steps.{nothing_taken, and_then, truth_then, normal_then, one_step, takes_same, chosen, not_chosen}
 use Rattle.inform_logic.proofs.Values.{within}
@@ -30,26 +30,30 @@ once p d l c = loop_once l (test_if_any p (call_at p d) l.test) (exec_all p (cal
 module _ {p : Program} {d : ℕ} where
   -- ---- any loop
 
-  -- a test at which it goes on, its body, and what comes after that
-  pub turn : {l : Loop} {b : Bool} {s s1 s' : Scope} {w w1 w2 w' : Stage} {e1 e : Outcome}
-      {n m q : ℕ} → TestsIfAny p d l.test s w b w1 n → loop_goes_on l b ≡ true
-      → ((j : ℕ) → Leaves e1 j) → Runs p d l.body s w1 e1 s1 w2 m → Leads p d (AfterBody l e1) s1 w2 e s' w' q
-      → Loops p d l s w e s' w' (n + (m + q) + 1)
+  -- a step, the test, and what comes after it
+  pub turn : {l : Loop} {b : Bool} {s s' : Scope} {w w1 w' : Stage} {e : Outcome} {n m : ℕ}
+      → TestsIfAny p d l.test s w b w1 n → Leads p d (AfterTest l b) s w1 e s' w' m
+      → Loops p d l s w e s' w' (n + m + 1)
   unfolding opened
-  turn {l} x goes any body rest = record {
-    takes = takes_same (once p d l) (one_step _ (truth_then _ x.takes (chosen _ goes
-        (and_then _ any body.takes rest.takes))));
-  }
+  turn {l} x rest =
+      record { takes = takes_same (once p d l) (one_step _ (truth_then _ x.takes rest.takes)) }
 
-  -- a test at which it ends
-  pub no_turn : {l : Loop} {b : Bool} {s : Scope} {w w' : Stage} {n : ℕ}
-      → TestsIfAny p d l.test s w b w' n → loop_goes_on l b ≡ false
-      → Loops p d l s w Normal s w' (n + 1)
+  -- ---- after the test
+
+  -- where the loop goes on: the body, and what comes after that
+  pub turn_goes_on : {l : Loop} {b : Bool} {s s1 s' : Scope} {w w1 w' : Stage} {e1 e : Outcome}
+      {n m : ℕ} → loop_goes_on l b ≡ true → ((j : ℕ) → Leaves e1 j)
+      → Runs p d l.body s w e1 s1 w1 n → Leads p d (AfterBody l e1) s1 w1 e s' w' m
+      → Leads p d (AfterTest l b) s w e s' w' (n + m)
   unfolding opened
-  no_turn {l} x ends = within (omega arith) (record {
-    takes = takes_same (once p d l) (one_step _ (truth_then _ x.takes (not_chosen _ ends
-        (nothing_taken (λ k. refl)))));
-  })
+  turn_goes_on goes any body rest =
+      record { takes = chosen _ goes (and_then _ any body.takes rest.takes) }
+
+  -- where it ends
+  pub loop_ends : {l : Loop} {b : Bool} {s : Scope} {w : Stage} → loop_goes_on l b ≡ false
+      → Leads p d (AfterTest l b) s w Normal s w 0
+  unfolding opened
+  loop_ends ends = record { takes = not_chosen _ ends (nothing_taken (λ k. refl)) }
 
   -- ---- after the body
 
@@ -86,31 +90,31 @@ module _ {p : Program} {d : ℕ} where
       → Loops p d (while_loop x body) s1 w2 e s' w' q
       → Loops p d (while_loop x body) s w e s' w' (n + m + q + 1)
   while_once_more x body more =
-      within (omega arith) (turn x refl (λ j. tt) body (turn_ends no_change more))
+      within (omega arith) (turn x (turn_goes_on refl (λ j. tt) body (turn_ends no_change more)))
 
   pub while_ends : {x : Condition} {body : Statements} {s : Scope} {w w' : Stage} {n : ℕ}
       → Tests p d x s w false w' n → Loops p d (while_loop x body) s w Normal s w' (n + 1)
-  while_ends x = no_turn x refl
+  while_ends x = within (omega arith) (turn x (loop_ends refl))
 
   -- the test comes after the body, and ends the loop where it holds
   pub do_once_more : {x : Condition} {body : Statements} {s s1 s' : Scope} {w w1 w2 w' : Stage}
       {e : Outcome} {n m q : ℕ} → Tests p d x s w false w1 n → Runs p d body s w1 Normal s1 w2 m
       → Loops p d (do_loop body x) s1 w2 e s' w' q
       → Loops p d (do_loop body x) s w e s' w' (n + m + q + 1)
-  do_once_more x body more = within (omega arith) (turn x refl (λ j. tt) body (turn_ends no_change more))
+  do_once_more x body more = within (omega arith) (turn x (turn_goes_on refl (λ j. tt) body (turn_ends no_change more)))
 
   pub do_ends : {x : Condition} {body : Statements} {s : Scope} {w w' : Stage} {n : ℕ}
       → Tests p d x s w true w' n → Loops p d (do_loop body x) s w Normal s w' (n + 1)
-  do_ends x = no_turn x refl
+  do_ends x = within (omega arith) (turn x (loop_ends refl))
 
   pub for_once_more : {x : Option Condition} {change : Option Assignment} {body : Statements}
       {s s1 s2 s' : Scope} {w w1 w2 w3 w' : Stage} {e : Outcome} {n m q t : ℕ}
       → TestsIfAny p d x s w true w1 n → Runs p d body s w1 Normal s1 w2 m
       → ChangesIfAny p d change s1 w2 s2 w3 q → Loops p d (for_loop x change body) s2 w3 e s' w' t
       → Loops p d (for_loop x change body) s w e s' w' (n + m + q + t + 1)
-  for_once_more x body change more = within (omega arith) (turn x refl (λ j. tt) body (turn_ends change more))
+  for_once_more x body change more = within (omega arith) (turn x (turn_goes_on refl (λ j. tt) body (turn_ends change more)))
 
   pub for_ends : {x : Option Condition} {change : Option Assignment} {body : Statements} {s : Scope}
       {w w' : Stage} {n : ℕ} → TestsIfAny p d x s w false w' n
       → Loops p d (for_loop x change body) s w Normal s w' (n + 1)
-  for_ends x = no_turn x refl
+  for_ends x = within (omega arith) (turn x (loop_ends refl))

@@ -1,12 +1,12 @@
 -- What stops a run is handed up: by the parts around it, and by the routines.
-use Rattle.std.proofs.Common.{◌≡◌, ◌∙◌, ℕ, suc, ◌+◌, ◌≤◌, ℤ, Bool, List, [], ◌∷◌, ◌++◌, Option, Some, None, refl, ap, subst, sym}
+use Rattle.std.proofs.Common.{◌≡◌, ◌∙◌, ℕ, suc, ◌+◌, ◌≤◌, ℤ, Bool, true, List, [], ◌∷◌, ◌++◌, Option, Some, None, refl, ap, subst, sym}
 use Rattle.inform_meaning.specs.Worlds.{Program, Scope, Config}
-use Rattle.inform_meaning.specs.Frames.{Halt, Lack, Frame, Calling, Outcome, Normal, Halts, Waits, Meaning, bind, on_normal, on_value, on_truth, on_body, on_return}
+use Rattle.inform_meaning.specs.Frames.{Halt, Lack, Frame, Calling, Outcome, Value, Normal, Halts, Waits, Meaning, bind, when, on_normal, on_value, on_truth, on_body, on_return}
 use Rattle.inform_meaning.specs.Runs.{Stop, Halted, Lacking}
 use Rattle.inform_logic.specs.Stages.{Stage, in_scope}
 use Rattle.inform_logic.specs.Leading.{Leaves, Takes, Part, meaning_of, Leads}
 use Rattle.inform_logic.specs.Stopping.{IsStop, Ends, Stops, CallStops}
-use Rattle.inform_logic.proofs.Steps.{finally, takes_within}
+use Rattle.inform_logic.proofs.Steps.{finally, value_then, chosen}
 
 -- what is done with an outcome leaves a stop as it is, perhaps in another scope
 abbrev pub Passes : (Outcome → Meaning) → Type 0
@@ -58,3 +58,15 @@ ends_first k {s} {w} {w'} {stop} {n} pass x = let after = pass stop x.ending x.i
   is = after.2;
   takes = finally k after.3 x.takes (λ j. after.4 j w');
 }
+
+pub ends_chosen : {b : Bool} {m : Meaning} (m' : Meaning) {s : Scope} {w w' : Stage} {stop : Stop}
+    {n : ℕ} → b ≡ true → Ends m s w stop w' n → Ends (when b m m') s w stop w' n
+ends_chosen m' h x =
+    record { ending = x.ending; scope = x.scope; is = x.is; takes = chosen m' h x.takes }
+
+-- a value, and then a part that stops
+pub ends_after : {m : Meaning} (k : Outcome → Meaning) {s s1 : Scope} {w w1 w' : Stage} {v : ℤ}
+    {stop : Stop} {a b : ℕ} → Takes m s w (Value v) s1 w1 a → Ends (k (Value v)) s1 w1 stop w' b
+    → Ends (bind m k) s w stop w' (a + b)
+ends_after k x y =
+    record { ending = y.ending; scope = y.scope; is = y.is; takes = value_then k x y.takes }

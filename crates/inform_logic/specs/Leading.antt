@@ -6,7 +6,7 @@ use Rattle.inform_tree.specs.Statements.{Statement, Statements, Cases, Default, 
 use Rattle.inform_meaning.specs.Worlds.{Program, Scope}
 use Rattle.inform_meaning.specs.Frames.{Loop, Lack, Spent, Outcome, Value, Truth, Normal, Waits, Meaning}
 use Rattle.inform_meaning.specs.Meaning.{eval, eval_call, eval_sum, eval_product, test_all, test_any, test_if_any, alter_if_any, print_items}
-use Rattle.inform_meaning.specs.Statements.{act, exec, exec_all, exec_cases, exec_default, turns_of, body_done}
+use Rattle.inform_meaning.specs.Statements.{act, exec, exec_all, exec_cases, exec_default, turns_of, test_done, body_done}
 use Rattle.inform_meaning.specs.Runs.{call_at}
 use Rattle.inform_logic.specs.Stages.{plus, Stage, in_scope}
 
@@ -45,7 +45,8 @@ pub data Part : Type 0 where
   TheBlock : Statements → Part
   TheCases : ℤ → Cases → Default → Part
   TheTurns : Loop → Part
-  AfterBody : Loop → Outcome → Part  -- a loop whose body had this outcome
+  AfterTest : Loop → Bool → Part  -- a turn whose test had this truth value
+  AfterBody : Loop → Outcome → Part  -- a turn whose body had this outcome
 
 -- what a part means where so many more calls may be open
 abbrev pub meaning_of : Program → ℕ → Part → Meaning
@@ -64,6 +65,7 @@ meaning_of p d (TheBlock xs) = exec_all p (call_at p d) xs
 meaning_of p d (TheCases a xs rest) =
     exec_cases p (call_at p d) a xs (exec_default p (call_at p d) rest)
 meaning_of p d (TheTurns l) = turns_of p (call_at p d) l
+meaning_of p d (AfterTest l b) = test_done p (call_at p d) l (Truth b)
 meaning_of p d (AfterBody l e) = body_done p (call_at p d) l e
 
 -- a part leads from this scope and stage to this outcome, scope and stage
