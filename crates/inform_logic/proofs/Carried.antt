@@ -8,7 +8,7 @@ use Rattle.inform_meaning.specs.Frames.{Normal}
 use Rattle.inform_logic.specs.Stages.{Stage}
 use Rattle.inform_logic.specs.Leading.{Loops, Does}
 use Rattle.inform_logic.specs.Worked.{Has, carried, carried_loop, CarriedIsCounted}
-use Rattle.inform_logic.proofs.Lists.{at_rest, after_rest}
+use Rattle.inform_logic.proofs.Lists.{map_at_rest, after_rest}
 use Rattle.inform_logic.proofs.Words.{small_number, small_sum, eq_is}
 use Rattle.inform_logic.proofs.Values.{within, valued, number, name, entry}
 use Rattle.inform_logic.proofs.Conditions.{compare}
@@ -48,14 +48,14 @@ module _ (p : Program) (d r : ℕ) (w : Stage) (places : List ℕ) (small : leng
                 → Counts i n (more (n + cond b 1 0) rest) (3 * length (x ∷ rest) + 1)
             from true is after = within (omega arith) (for_once_more
                 (compare (name refl) (valued (small_number p.width small) number) under)
-                (next (if_true (compare (entry (name refl) there (at_rest pos places i left)) number
+                (next (if_true (compare (entry (name refl) there (map_at_rest pos places i left)) number
                 (eq_is x 255 ∙ is)) (next (assign (increment refl
                 (small_sum p.width n 1 (omega (arith, few, all, small))))) end)) end)
                 (increment refl (small_sum p.width i 1 (omega (arith, all, small))))
                 (after (n + 1) (omega (arith, few))))
             from false is after = within (omega arith) (for_once_more
                 (compare (name refl) (valued (small_number p.width small) number) under)
-                (next (if_false (compare (entry (name refl) there (at_rest pos places i left)) number
+                (next (if_false (compare (entry (name refl) there (map_at_rest pos places i left)) number
                 (eq_is x 255 ∙ is)) end) end)
                 (increment refl (small_sum p.width i 1 (omega (arith, all, small))))
                 (subst (λ m. Counts (i + 1) n (more m rest) (3 * length rest + 1)) (sym (add-zero n))

@@ -12,3 +12,5 @@ pub mod Routines
 pub mod Carried
 pub mod Stopping
 pub mod Stops
+pub mod Whole
+pub mod Holding

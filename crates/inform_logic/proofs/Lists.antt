@@ -1,14 +1,19 @@
 -- Lists by what is left of them from a place on.
-use Rattle.std.proofs.Common.{◌≡◌, ◌∙◌, arith, ℕ, zero, suc, ◌+◌, List, [], ◌∷◌, map, drop, slice_get, Option, Some, refl, ap}
-use Rattle.std.proofs.Common.{add-one}
+use Rattle.std.proofs.Common.{◌≡◌, ◌∙◌, ℕ, zero, suc, ◌+◌, List, [], ◌∷◌, map, drop, slice_get, Option, Some, option_map, ap, add-one}
+use Rattle.std.proofs.lemmas.Option.{slice_get-map}
 
 -- the element at which the rest begins
-pub at_rest : {X Y : Type 0} (f : X → Y) (xs : List X) (i : ℕ) {x : X} {rest : List X}
+pub at_rest : {X : Type 0} (xs : List X) (i : ℕ) {x : X} {rest : List X} → drop i xs ≡ x ∷ rest
+    → slice_get xs i ≡ Some x
+at_rest [] zero h = cc
+at_rest [] (suc i) h = cc
+at_rest (y ∷ ys) zero h = cc
+at_rest (y ∷ ys) (suc i) h = at_rest ys i h
+
+-- and in a list that is made of this one
+pub map_at_rest : {X Y : Type 0} (f : X → Y) (xs : List X) (i : ℕ) {x : X} {rest : List X}
     → drop i xs ≡ x ∷ rest → slice_get (map f xs) i ≡ Some (f x)
-at_rest f [] zero h = cc
-at_rest f [] (suc i) h = cc
-at_rest f (y ∷ ys) zero h = cc
-at_rest f (y ∷ ys) (suc i) h = at_rest f ys i h
+map_at_rest f xs i h = slice_get-map f xs i ∙ ap (option_map f) (at_rest xs i h)
 
 by_suc : {X : Type 0} (xs : List X) (i : ℕ) {x : X} {rest : List X} → drop i xs ≡ x ∷ rest
     → drop (suc i) xs ≡ rest

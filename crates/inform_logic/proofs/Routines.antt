@@ -27,7 +27,7 @@ gives_back s (Halts halt) v c h = ap (λ o. (o, within_scope s c)) h
 gives_back s (Waits lack fs) v c h = cc
 
 -- after what gives a value any steps may be left
-leaves_any : (e : Outcome) (v : ℤ) → returned e ≡ Value v → (j : ℕ) → Leaves e j
+pub leaves_any : (e : Outcome) (v : ℤ) → returned e ≡ Value v → (j : ℕ) → Leaves e j
 leaves_any (Value a) v h j = tt
 leaves_any (Truth b) v h j = tt
 leaves_any Normal v h j = tt

@@ -8,21 +8,36 @@ use Rattle.inform_logic.specs.Leading.{Leaves, Takes, Part, meaning_of, Leads}
 use Rattle.inform_logic.specs.Stopping.{IsStop, Ends, Stops, CallStops}
 use Rattle.inform_logic.proofs.Steps.{finally, value_then, chosen}
 
--- what is done with an outcome leaves a stop as it is, perhaps in another scope
-abbrev pub Passes : (Outcome → Meaning) → Type 0
-Passes k = (stop : Stop) (e : Outcome) → IsStop stop e → (s : Scope) → (e' : Outcome) × (s' : Scope)
-    × IsStop stop e' × ((j : ℕ) → Leaves e' j → Leaves e j) × ((j : ℕ) (w : Stage) → k e (in_scope j s w) ≡ (e', in_scope j s' w))
+-- what is done with the outcome of a part leaves a stop as it is, perhaps in another scope
+pub record Passed (k : Outcome → Meaning) (stop : Stop) (e : Outcome) (s : Scope) : Type 0 where
+  pub ending : Outcome
+  pub scope : Scope
+  pub is : IsStop stop ending
+  pub leaves : (j : ℕ) → Leaves ending j → Leaves e j
+  pub by : (j : ℕ) (w : Stage) → k e (in_scope j s w) ≡ (ending, in_scope j scope w)
 
--- a frame leaves it so that keeps what is over, and waits with what waits
+abbrev pub Passes : (Outcome → Meaning) → Type 0
+Passes k = (stop : Stop) (e : Outcome) → IsStop stop e → (s : Scope) → Passed k stop e s
+
+-- a frame that keeps what is over, and waits with what waits
 pub passes : (f : Frame) (k : Outcome → Meaning)
     → ((halt : Halt) (c : Config) → k (Halts halt) c ≡ (Halts halt, c))
-    → ((lack : Lack) (fs : List Frame) (c : Config) → k (Waits lack fs) c ≡ (Waits lack (fs ++ f ∷ []), c))
-    → Passes k
-passes f k over waits (Halted halt) e is s = (Halts halt, s, refl, λ j h. subst (λ e. Leaves e j) (sym is) h, λ j w.
-    ap (λ e. k e (in_scope j s w)) is ∙ over halt (in_scope j s w))
-passes f k over waits (Lacking lack) e stop s =
-    (Waits lack (stop.0 ++ f ∷ []), s, (stop.0 ++ f ∷ [], refl), λ j h. subst (λ e. Leaves e j) (sym stop.1) h, λ j w.
-    ap (λ e. k e (in_scope j s w)) stop.1 ∙ waits lack stop.0 (in_scope j s w))
+    → ((lack : Lack) (fs : List Frame) (c : Config)
+    → k (Waits lack fs) c ≡ (Waits lack (fs ++ f ∷ []), c)) → Passes k
+passes f k over waits (Halted halt) e is s = record {
+  ending = Halts halt;
+  scope = s;
+  is = refl;
+  leaves = λ j h. subst (λ e. Leaves e j) (sym is) h;
+  by = λ j w. ap (λ e. k e (in_scope j s w)) is ∙ over halt (in_scope j s w);
+}
+passes f k over waits (Lacking lack) e stop s = record {
+  ending = Waits lack (stop.0 ++ f ∷ []);
+  scope = s;
+  is = (stop.0 ++ f ∷ [], refl);
+  leaves = λ j h. subst (λ e. Leaves e j) (sym stop.1) h;
+  by = λ j w. ap (λ e. k e (in_scope j s w)) stop.1 ∙ waits lack stop.0 (in_scope j s w);
+}
 
 pub passes_value : (f : Frame) (k : ℤ → Meaning) → Passes (on_value f k)
 unfolding on_value
@@ -43,20 +58,29 @@ passes_body f m = passes f (on_body f m) (λ halt c. refl) (λ lack fs c. refl)
 -- the caller's scope comes back where the run is over, and doesn't where it waits
 pub passes_return : (s : Scope) → Passes (on_return s)
 unfolding on_return
-passes_return s (Halted halt) e is inner = (Halts halt, s, refl, λ j h. subst (λ e. Leaves e j) (sym is) h, λ j w.
-    ap (λ e. on_return s e (in_scope j inner w)) is)
-passes_return s (Lacking lack) e stop inner =
-    (Waits lack (stop.0 ++ Calling s ∷ []), inner, (stop.0 ++ Calling s ∷ [], refl), λ j h. subst (λ e. Leaves e j) (sym stop.1) h, λ j w.
-    ap (λ e. on_return s e (in_scope j inner w)) stop.1)
+passes_return s (Halted halt) e is inner = record {
+  ending = Halts halt;
+  scope = s;
+  is = refl;
+  leaves = λ j h. subst (λ e. Leaves e j) (sym is) h;
+  by = λ j w. ap (λ e. on_return s e (in_scope j inner w)) is;
+}
+passes_return s (Lacking lack) e stop inner = record {
+  ending = Waits lack (stop.0 ++ Calling s ∷ []);
+  scope = inner;
+  is = (stop.0 ++ Calling s ∷ [], refl);
+  leaves = λ j h. subst (λ e. Leaves e j) (sym stop.1) h;
+  by = λ j w. ap (λ e. on_return s e (in_scope j inner w)) stop.1;
+}
 
 -- a part that stops, and what would be done with its outcome
 pub ends_first : {m : Meaning} (k : Outcome → Meaning) {s : Scope} {w w' : Stage} {stop : Stop}
     {n : ℕ} → Passes k → Ends m s w stop w' n → Ends (bind m k) s w stop w' n
 ends_first k {s} {w} {w'} {stop} {n} pass x = let after = pass stop x.ending x.is x.scope in record {
-  ending = after.0;
-  scope = after.1;
-  is = after.2;
-  takes = finally k after.3 x.takes (λ j. after.4 j w');
+  ending = after.ending;
+  scope = after.scope;
+  is = after.is;
+  takes = finally k after.leaves x.takes (λ j. after.by j w');
 }
 
 pub ends_chosen : {b : Bool} {m : Meaning} (m' : Meaning) {s : Scope} {w w' : Stage} {stop : Stop}

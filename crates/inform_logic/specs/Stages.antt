@@ -29,6 +29,15 @@ in_scope steps s w = record {
   world = world_in s w;
 }
 
+abbrev pub stage_of : Config → Stage
+stage_of c = record {
+  globals = c.world.globals;
+  arrays = c.world.arrays;
+  lines = c.lines;
+  draws = c.draws;
+  past = c.past;
+}
+
 -- ---- what changes a stage
 
 abbrev pub with_past : List Step → Stage → Stage

@@ -9,12 +9,12 @@ use Rattle.inform_tree.specs.Conditions as c
 use Rattle.inform_tree.specs.Conditions.{Condition, Conditions}
 use Rattle.inform_tree.specs.Statements as t
 use Rattle.inform_tree.specs.Statements.{Statement, Statements, Cases, Default, Assignment, PrintItem}
-use Rattle.inform_meaning.specs.Worlds.{Program, Scope}
+use Rattle.inform_meaning.specs.Worlds.{Program, Scope, Config}
 use Rattle.inform_meaning.specs.Frames.{Loop, Frame, Outcome, Normal, Halts, Waits, Meaning}
 use Rattle.inform_meaning.specs.Statements.{while_loop, do_loop, for_loop, loop_goes_on}
 use Rattle.inform_meaning.specs.Runs.{call_at, Stop, Halted, Lacking}
-use Rattle.inform_logic.specs.Stages.{Stage}
-use Rattle.inform_logic.specs.Leading.{Takes, Part, TheValue, TheCall, TheSum, TheProduct, TheTest, TheAll, TheAny, TheChange, TheItems, TheAct, TheStatement, TheBlock, TheTurns, AfterTest, AfterBody, meaning_of}
+use Rattle.inform_logic.specs.Stages.{Stage, stage_of}
+use Rattle.inform_logic.specs.Leading.{lack_leaves, Takes, Part, TheValue, TheCall, TheSum, TheProduct, TheTest, TheAll, TheAny, TheChange, TheItems, TheAct, TheStatement, TheBlock, TheTurns, AfterTest, AfterBody, meaning_of}
 
 -- an outcome stops the run for this, whatever frames wait
 abbrev pub IsStop : Stop → Outcome → Type 0
@@ -38,6 +38,20 @@ pub record Stops (p : Program) (d : ℕ) (part : Part) (s : Scope) (w : Stage) (
 pub record CallStops (p : Program) (d : ℕ) (name : List ℕ) (values : List ℤ) (w : Stage)
     (stop : Stop) (w' : Stage) (most : ℕ) : Type 0 where
   pub ends : (s : Scope) → Ends (call_at p d name values) s w stop w' most
+
+-- ---- whole runs
+
+-- which steps may be left where a run stopped for this
+abbrev pub stop_leaves : Stop → ℕ → Type 0
+stop_leaves (Halted halt) k = Unit {0}
+stop_leaves (Lacking lack) k = lack_leaves lack k
+
+-- a run stopped for this, and left this stage
+pub record Stopped (r : Outcome × Config) (stop : Stop) (w : Stage) : Type 0 where
+  pub is : IsStop stop r.0
+  pub stage : stage_of r.1 ≡ w
+
+-- ---- parts and wholes
 
 -- the first part of a whole: what stops there stops the whole
 pub data First : Part → Part → Type 0 where
