@@ -7,7 +7,7 @@ use Rattle.inform_meaning.specs.Statements.{for_loop}
 use Rattle.inform_meaning.specs.Frames.{Normal}
 use Rattle.inform_logic.specs.Stages.{Stage}
 use Rattle.inform_logic.specs.Leading.{Loops, Does}
-use Rattle.inform_logic.specs.Worked.{Has, carried, carried_loop, CarriedIsCounted}
+use Rattle.inform_logic.specs.Worked.{carried, carried_loop, CarriedIsCounted}
 use Rattle.inform_logic.proofs.Lists.{map_at_rest, after_rest}
 use Rattle.inform_logic.proofs.Words.{small_number, small_sum, eq_is}
 use Rattle.inform_logic.proofs.Values.{within, valued, number, name, entry}
@@ -62,8 +62,7 @@ module _ (p : Program) (d r : ℕ) (w : Stage) (places : List ℕ) (small : leng
                 (after n (omega (arith, few)))))
 
 pub carried_is_counted : CarriedIsCounted
-carried_is_counted p d w places small has there = does_within (omega arith)
-    (routine has.held.1 (has.unseen has.held.0)
+carried_is_counted p d w places small has there = does_within (omega arith) (routine has
     (next (for (set_variable number refl)
-    (loop p d has.held.0 w places small there places 0 0 refl (omega arith) (omega arith)))
+    (loop p d has.at w places small there places 0 0 refl (omega arith) (omega arith)))
     (returns (return (name refl)))) refl)

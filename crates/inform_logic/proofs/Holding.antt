@@ -7,12 +7,14 @@ use Rattle.std.proofs.lemmas.Slice.Eq.{bytes_eq-Decides}
 use Rattle.inform_tree.specs.declared.widths.Width.{Width}
 use Rattle.inform_tree.specs.Programs as t
 use Rattle.inform_tree.specs.Programs.{DirectiveTree}
+use Rattle.inform_names.specs.declared.meanings.Meaning.{Meaning}
 use Rattle.inform_names.specs.Meanings.{name_of, meanings, first_directive}
 use Rattle.inform_names.specs.Laws.{MeaningsAreFirst}
 use Rattle.inform_meaning.specs.Worlds.{Program}
-use Rattle.inform_meaning.specs.Programs.{program_in, number_of, routine_in}
+use Rattle.inform_meaning.specs.Programs.{program_in, number_of, routine_in, global_in, array_in}
 use Rattle.inform_logic.specs.Stages.{Stage}
 use Rattle.inform_logic.specs.Holding.{Held, Holds, Opened, Opens, opening_stage, Distinct}
+use Rattle.inform_logic.specs.Laws.{ProgramHolds, OpeningOpens}
 use Rattle.inform_logic.proofs.Lists.{at_rest, after_rest}
 
 -- ---- parts of a list
@@ -75,3 +77,53 @@ first_is (y ∷ ys) i (suc at) x distinct is = ap (λ b. cond b (Some i) (positi
       other : bytes_eq (name_of x) (name_of y) ≡ false
       other = not_true (bytes_eq (name_of x) (name_of y)) (λ h. all_at (λ z. name_of y ≢ name_of z) ys at
           distinct.0 is (sym ((bytes_eq-Decides (name_of x) (name_of y)).0 h)))
+
+module _ (law : MeaningsAreFirst) (width : Width) (ds : List DirectiveTree) (distinct : Distinct ds)
+    (at : ℕ) (x : DirectiveTree) (there : slice_get ds at ≡ Some x) where
+      meant : option_map (λ m. m.at) (meanings width ds (name_of x)) ≡ Some at
+      meant = law width ds (name_of x) ∙ first_is ds 0 at x distinct there ∙ ap Some (omega arith)
+
+      number_is : number_of (meanings width ds (name_of x)) ≡ at
+      number_is = by (meanings width ds (name_of x)) meant where
+        by : (o : Option Meaning) → option_map (λ m. m.at) o ≡ Some at → number_of o ≡ at
+        by None h = cc
+        by (Some m) h = ap (λ o. unwrap_or o 0) h
+
+      directive_is : first_directive width ds (name_of x) ≡ Some x
+      directive_is = by (meanings width ds (name_of x)) meant ∙ there where
+        by : (o : Option Meaning) → option_map (λ m. m.at) o ≡ Some at
+            → option_and_then (λ m. slice_get ds m.at) o ≡ slice_get ds at
+        by None h = cc
+        by (Some m) h = ap (λ o. slice_get ds (unwrap_or o 0)) h
+
+held_by : (law : MeaningsAreFirst) (width : Width) (ds : List DirectiveTree)
+    (notes : List ℕ → ℕ → Option ℕ) → Distinct ds → (at : ℕ) (x : DirectiveTree)
+    → slice_get ds at ≡ Some x → Held (program_in width ds notes) x
+held_by law width ds notes distinct at (t.Constant name x) there = tt
+held_by law width ds notes distinct at (t.Global name x) there = tt
+held_by law width ds notes distinct at (t.Array name words xs) there = tt
+held_by law width ds notes distinct at (t.Routine r) there = (at,
+  ap (λ n. option_and_then (routine_in n) (first_directive width ds r.name))
+      (number_is law width ds distinct at (t.Routine r) there)
+  ∙ ap (option_and_then (routine_in at)) (directive_is law width ds distinct at (t.Routine r) there))
+
+pub program_holds : MeaningsAreFirst → ProgramHolds
+program_holds law width ds notes distinct = all_from (Held (program_in width ds notes)) ds
+    (held_by law width ds notes distinct) ds 0 refl
+
+opened_by : (law : MeaningsAreFirst) (width : Width) (ds : List DirectiveTree)
+    (lines : List (List ℕ)) (draws : List ℕ) → Distinct ds → (at : ℕ) (x : DirectiveTree)
+    → slice_get ds at ≡ Some x → Opened width (meanings width ds) (opening_stage width ds lines draws) x
+opened_by law width ds lines draws distinct at (t.Constant name x) there = tt
+opened_by law width ds lines draws distinct at (t.Global name x) there =
+    ap (option_and_then (global_in width (meanings width ds)))
+    (directive_is law width ds distinct at (t.Global name x) there)
+opened_by law width ds lines draws distinct at (t.Array name words xs) there =
+    ap (option_and_then (array_in width (meanings width ds)))
+    (directive_is law width ds distinct at (t.Array name words xs) there)
+opened_by law width ds lines draws distinct at (t.Routine r) there = tt
+
+pub opening_opens : MeaningsAreFirst → OpeningOpens
+opening_opens law width ds lines draws distinct =
+    all_from (Opened width (meanings width ds) (opening_stage width ds lines draws)) ds
+    (opened_by law width ds lines draws distinct) ds 0 refl

@@ -1,11 +1,14 @@
 -- The rules of routines: what a call of one does, by its body.
-use Rattle.std.proofs.Common.{◌≡◌, ◌∙◌, ℕ, suc, ◌+◌, ◌≤◌, ℤ, pos, List, take, Option, Some, None, refl, sym, ap, subst}
-use Rattle.inform_meaning.specs.Worlds.{Program, Routine, Scope, Config, scope_of, with_note}
+use Rattle.std.proofs.Common.{◌≡◌, ◌∙◌, ℕ, suc, ◌+◌, ◌≤◌, ℤ, pos, List, [], ◌∷◌, ◌++◌, Option, Some, None, refl, sym, ap, subst}
+use Rattle.adv_io.specs.Steps.{Noted}
+use Rattle.inform_tree.specs.Programs.{RoutineTree}
+use Rattle.inform_meaning.specs.Worlds.{Program, Scope, Config, scope_of, with_note}
 use Rattle.inform_meaning.specs.Frames.{Outcome, Value, Truth, Normal, Returns, Breaks, Continues, Halts, Waits, returned, within_scope, on_return, bind}
 use Rattle.inform_meaning.specs.Statements.{exec_all}
 use Rattle.inform_meaning.specs.Runs.{noted_body, entered, enter, call_at}
 use Rattle.inform_logic.specs.Stages.{Stage, in_scope, with_past}
 use Rattle.inform_logic.specs.Leading.{Leaves, Takes, Runs, Does}
+use Rattle.inform_logic.specs.Holding.{routine_at, Has, Notes}
 use Rattle.inform_logic.proofs.Opened.{opened}
 use Rattle.inform_logic.proofs.Steps.{finally, takes_within}
 
@@ -37,30 +40,41 @@ leaves_any Continues v h j = tt
 leaves_any (Halts halt) v h j = tt
 leaves_any (Waits lack fs) v h j = cc
 
-module _ {p : Program} {d : ℕ} {f : List ℕ} {values : List ℤ} where
+module _ {p : Program} {d : ℕ} {r : RoutineTree} {values : List ℤ} where
   -- a routine that may be noted: its body runs with its arguments, one call deeper
-  pub noted_routine : {r : Routine} {s' : Scope} {w w' : Stage} {e : Outcome} {v : ℤ} {n : ℕ}
-      → p.routines f ≡ Some r
-      → Runs p d r.body (scope_of r values)
-      (with_past (with_note (noted_body (p.notes f r.directive) r.body) w.past) w) e s' w' n
-      → returned e ≡ Value v → Does p (suc d) f values w v w' n
+  by_body : {at : ℕ} {o : Option ℕ} {s' : Scope} {w w' : Stage} {e : Outcome} {v : ℤ} {n : ℕ}
+      → p.routines r.name ≡ Some (routine_at at r) → noted_body (p.notes r.name at) r.body ≡ o
+      → Runs p d r.body (scope_of (routine_at at r) values) (with_past (with_note o w.past) w) e s' w' n
+      → returned e ≡ Value v → Does p (suc d) r.name values w v w' n
   unfolding call_at
-  noted_routine {r} {w = w} {w'} {e} {v} {n} there body is = record {
-    takes = λ s. subst (λ o. Takes (enter p (call_at p d) f o values) s w (Value v) s w' n)
+  by_body {at} {o} {s'} {w} {w'} {e} {v} {n} there note body is = record {
+    takes = λ s. subst (λ o. Takes (enter p (call_at p d) r.name o values) s w (Value v) s w' n)
         (sym there) (inside s);
   } where
-    inside : (s : Scope) → Takes (enter p (call_at p d) f (Some r) values) s w (Value v) s w' n
+    noted : Stage
+    noted = with_past (with_note (noted_body (p.notes r.name at) r.body) w.past) w
+    body' : Runs p d r.body (scope_of (routine_at at r) values) noted e s' w' n
+    body' = subst (λ o. Runs p d r.body (scope_of (routine_at at r) values)
+        (with_past (with_note o w.past) w) e s' w' n) (sym note) body
+    inside : (s : Scope)
+        → Takes (enter p (call_at p d) r.name (Some (routine_at at r)) values) s w (Value v) s w' n
     inside s =
-        let done : Takes (bind (exec_all p (call_at p d) r.body) (on_return s)) (scope_of r values)
-            (with_past (with_note (noted_body (p.notes f r.directive) r.body) w.past) w) (Value v) s
-            w' n = finally _ (λ j h. leaves_any e v is j) body.takes (λ k. gives_back s e v _ is) in
+        let done : Takes (bind (exec_all p (call_at p d) r.body) (on_return s))
+            (scope_of (routine_at at r) values) noted (Value v) s w' n =
+                finally _ (λ j h. leaves_any e v is j) body'.takes (λ k. gives_back s e v _ is) in
         record { steps = done.steps; few = done.few; by = done.by }
 
-  -- a routine that isn't noted
-  pub routine : {r : Routine} {s' : Scope} {w w' : Stage} {e : Outcome} {v : ℤ} {n : ℕ}
-      → p.routines f ≡ Some r → p.notes f r.directive ≡ None
-      → Runs p d r.body (scope_of r values) w e s' w' n → returned e ≡ Value v
-      → Does p (suc d) f values w v w' n
-  routine {r} {s'} {w} {w'} {e} {v} {n} there unseen body is = noted_routine there
-      (subst (λ o. Runs p d r.body (scope_of r values) (with_past (with_note (noted_body o r.body) w.past)
-      w) e s' w' n) (sym unseen) body) is
+  -- a routine that isn't noted, by its body
+  pub routine : (has : Has p r) {s' : Scope} {w w' : Stage} {e : Outcome} {v : ℤ} {n : ℕ}
+      → Runs p d r.body (scope_of (routine_at has.at r) values) w e s' w' n → returned e ≡ Value v
+      → Does p (suc d) r.name values w v w' n
+  routine has body is = by_body has.there (ap (λ o. noted_body o r.body) has.unseen) body is
+
+  -- a routine that is noted, by its body, which isn't empty
+  pub noted_routine : {number : ℕ} (notes : Notes p r number) {s' : Scope} {w w' : Stage}
+      {e : Outcome} {v : ℤ} {n : ℕ} → noted_body (Some number) r.body ≡ Some number
+      → Runs p d r.body (scope_of (routine_at notes.at r) values)
+      (with_past (w.past ++ Noted number ∷ []) w) e s' w' n → returned e ≡ Value v
+      → Does p (suc d) r.name values w v w' n
+  noted_routine notes some body is =
+      by_body notes.there (ap (λ o. noted_body o r.body) notes.seen ∙ some) body is

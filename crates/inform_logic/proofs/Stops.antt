@@ -5,8 +5,11 @@ use Rattle.inform_tree.specs.declared.conditions.Relation.{Relation}
 use Rattle.inform_tree.specs.Values.{Expression, Random, NoArguments}
 use Rattle.inform_tree.specs.Conditions.{Compare}
 use Rattle.inform_tree.specs.Statements.{Statement, Quit, Read, SetEntry}
+use Rattle.adv_io.specs.Steps.{Noted}
+use Rattle.inform_tree.specs.Programs.{RoutineTree}
+use Rattle.inform_logic.specs.Holding.{routine_at, Has, Notes}
 use Rattle.inform_meaning.specs.declared.traps.Trap.TheVariants as t
-use Rattle.inform_meaning.specs.Worlds.{Program, Routine, Scope, scope_of, with_note, has_room}
+use Rattle.inform_meaning.specs.Worlds.{Program, Scope, scope_of, with_note, has_room}
 use Rattle.inform_meaning.specs.Frames.{Loop, CallDue, DrawDue, Due, LineDue, TurnDue, Outcome, Normal, Halts, Waits, Begins, Quits, NeedsLine, NeedsDraw, Spent, Meaning, bind, when, on_return}
 use Rattle.inform_meaning.specs.Parts.{tick_at, tick, trap, draw_at, take_draw, line_at, take_line, read_line}
 use Rattle.inform_meaning.specs.Statements.{turns, loop_goes_on, exec_all}
@@ -148,27 +151,44 @@ module _ {p : Program} {d : ℕ} where
 
 -- ---- routines
 
-module _ {p : Program} {d : ℕ} {f : List ℕ} {values : List ℤ} where
-  pub noted_routine_stops : {r : Routine} {w w' : Stage} {stop : Stop} {n : ℕ}
-      → p.routines f ≡ Some r → Stops p d (TheBlock r.body) (scope_of r values)
-      (with_past (with_note (noted_body (p.notes f r.directive) r.body) w.past) w) stop w' n
-      → CallStops p (suc d) f values w stop w' n
+module _ {p : Program} {d : ℕ} {r : RoutineTree} {values : List ℤ} where
+  by_body : {at : ℕ} {o : Option ℕ} {w w' : Stage} {stop : Stop} {n : ℕ}
+      → p.routines r.name ≡ Some (routine_at at r) → noted_body (p.notes r.name at) r.body ≡ o
+      → Stops p d (TheBlock r.body) (scope_of (routine_at at r) values)
+      (with_past (with_note o w.past) w) stop w' n → CallStops p (suc d) r.name values w stop w' n
   unfolding call_at
-  noted_routine_stops {r} {w} {w'} {stop} {n} there body = record {
-    ends = λ s. subst (λ o. Ends (enter p (call_at p d) f o values) s w stop w' n) (sym there)
+  by_body {at} {o} {w} {w'} {stop} {n} there note body = record {
+    ends = λ s. subst (λ o. Ends (enter p (call_at p d) r.name o values) s w stop w' n) (sym there)
         (inside s);
   } where
-    inside : (s : Scope) → Ends (enter p (call_at p d) f (Some r) values) s w stop w' n
+    noted : Stage
+    noted = with_past (with_note (noted_body (p.notes r.name at) r.body) w.past) w
+    body' : Stops p d (TheBlock r.body) (scope_of (routine_at at r) values) noted stop w' n
+    body' = subst (λ o. Stops p d (TheBlock r.body) (scope_of (routine_at at r) values)
+        (with_past (with_note o w.past) w) stop w' n) (sym note) body
+    inside : (s : Scope)
+        → Ends (enter p (call_at p d) r.name (Some (routine_at at r)) values) s w stop w' n
     inside s =
-        let done : Ends (bind (exec_all p (call_at p d) r.body) (on_return s)) (scope_of r values)
-            (with_past (with_note (noted_body (p.notes f r.directive) r.body) w.past) w) stop w' n =
-                ends_first _ (passes_return s) body.ends in
-        record { ending = done.ending; scope = done.scope; is = done.is;
-        takes = record { steps = done.takes.steps; few = done.takes.few; by = done.takes.by } }
+        let done : Ends (bind (exec_all p (call_at p d) r.body) (on_return s))
+            (scope_of (routine_at at r) values) noted stop w' n =
+                ends_first _ (passes_return s) body'.ends in record {
+          ending = done.ending;
+          scope = done.scope;
+          is = done.is;
+          takes = record { steps = done.takes.steps; few = done.takes.few; by = done.takes.by };
+        }
 
-  pub routine_stops : {r : Routine} {w w' : Stage} {stop : Stop} {n : ℕ} → p.routines f ≡ Some r
-      → p.notes f r.directive ≡ None → Stops p d (TheBlock r.body) (scope_of r values) w stop w' n
-      → CallStops p (suc d) f values w stop w' n
-  routine_stops {r} {w} {w'} {stop} {n} there unseen body = noted_routine_stops there
-      (subst (λ o. Stops p d (TheBlock r.body) (scope_of r values)
-      (with_past (with_note (noted_body o r.body) w.past) w) stop w' n) (sym unseen) body)
+  -- a routine that isn't noted, by its body
+  pub routine_stops : (has : Has p r) {w w' : Stage} {stop : Stop} {n : ℕ}
+      → Stops p d (TheBlock r.body) (scope_of (routine_at has.at r) values) w stop w' n
+      → CallStops p (suc d) r.name values w stop w' n
+  routine_stops has body = by_body has.there (ap (λ o. noted_body o r.body) has.unseen) body
+
+  -- a routine that is noted, by its body, which isn't empty
+  pub noted_routine_stops : {number : ℕ} (notes : Notes p r number) {w w' : Stage} {stop : Stop}
+      {n : ℕ} → noted_body (Some number) r.body ≡ Some number
+      → Stops p d (TheBlock r.body) (scope_of (routine_at notes.at r) values)
+      (with_past (w.past ++ Noted number ∷ []) w) stop w' n
+      → CallStops p (suc d) r.name values w stop w' n
+  noted_routine_stops notes some body =
+      by_body notes.there (ap (λ o. noted_body o r.body) notes.seen ∙ some) body

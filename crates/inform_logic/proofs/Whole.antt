@@ -1,17 +1,15 @@
 -- The rules of whole runs: from the body of `Main` to where the run stops.
-use Rattle.std.proofs.Common.{◌≡◌, ◌∙◌, arith, ℕ, ◌-◌, ◌≤◌, ℤ, List, [], ◌∷◌, codes, Option, refl, sym, ap, subst}
-use Rattle.inform_tree.specs.declared.widths.Width.{Width}
+use Rattle.std.proofs.Common.{◌≡◌, ◌∙◌, arith, ℕ, ◌-◌, ◌≤◌, ℤ, List, [], ◌∷◌, refl, sym, ap, subst}
 use Rattle.inform_tree.specs.Statements.{Statements}
-use Rattle.inform_tree.specs.Programs.{DirectiveTree}
 use Rattle.inform_meaning.specs.Worlds.{Program, Scope, Config}
 use Rattle.inform_meaning.specs.Frames.{Main, Quits, Outcome, Value, Truth, Normal, Returns, Breaks, Continues, Halts, Waits, Meaning, bind, on_main}
 use Rattle.inform_meaning.specs.Runs.{CALL_LIMIT, Stop, Halted, Lacking, resume_at, resume, main_begun}
 use Rattle.inform_meaning.specs.Frames.{returned}
-use Rattle.inform_meaning.specs.Programs.{program_in, routine_named, body_of, main_scope, run_of}
+use Rattle.inform_meaning.specs.Programs.{program_in}
 use Rattle.inform_logic.specs.Stages.{plus, Stage, in_scope, stage_of}
 use Rattle.inform_logic.specs.Leading.{Leaves, Takes, Runs, TheBlock}
-use Rattle.inform_logic.specs.Holding.{opening_stage}
 use Rattle.inform_logic.specs.Stopping.{IsStop, Ends, Stops, stop_leaves, Stopped}
+use Rattle.inform_logic.specs.Laws.{RunStops}
 use Rattle.inform_logic.proofs.Opened.{opened}
 use Rattle.inform_logic.proofs.Steps.{plus_is, finally}
 use Rattle.inform_logic.proofs.Stopping.{Passes, passes, ends_first}
@@ -81,12 +79,6 @@ stops_within {m} {s} {w} {w'} {stop} x any steps enough =
     subst (λ n. Stopped (m (in_scope n s w)) stop w') all (stops_with x k (any k))
 
 -- a program of directives, from its opening on
-pub run_stops : (width : Width) (ds : List DirectiveTree) (notes : List ℕ → ℕ → Option ℕ)
-    (lines : List (List ℕ)) (draws : List ℕ) {w' : Stage} {stop : Stop} {n : ℕ}
-    → Stops (program_in width ds notes) CALL_LIMIT
-    (TheBlock (body_of (routine_named width ds (codes "main"))))
-    (main_scope (routine_named width ds (codes "main"))) (opening_stage width ds lines draws) stop w' n
-    → ((k : ℕ) → stop_leaves stop k) → (steps : ℕ) → n ≤ steps
-    → Stopped (run_of width ds notes steps lines draws) stop w'
-run_stops width ds notes lines draws body any =
+pub run_stops : RunStops
+run_stops width ds notes lines draws w stop most body any =
     stops_within (main_stops (program_in width ds notes) body) any

@@ -2,4 +2,5 @@ pub mod Stages
 pub mod Leading
 pub mod Holding
 pub mod Stopping
+pub mod Laws
 pub mod Worked

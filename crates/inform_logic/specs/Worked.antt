@@ -9,13 +9,13 @@ use Rattle.inform_tree.specs.Values.{Expression}
 use Rattle.inform_tree.specs.Conditions as c
 use Rattle.inform_tree.specs.Statements as s
 use Rattle.inform_tree.specs.Statements.{Statement, statements}
-use Rattle.inform_tree.specs.Programs.{RoutineTree, Routine}
+use Rattle.inform_tree.specs.Programs.{RoutineTree}
 use Rattle.inform_meaning.specs.Worlds.{Program}
 use Rattle.inform_meaning.specs.Frames.{Loop}
 use Rattle.inform_meaning.specs.Statements.{for_loop}
 use Rattle.inform_logic.specs.Stages.{Stage, with_global, said}
 use Rattle.inform_logic.specs.Leading.{Does}
-use Rattle.inform_logic.specs.Holding.{Held}
+use Rattle.inform_logic.specs.Holding.{Has}
 
 -- ---- short words for trees
 
@@ -30,11 +30,6 @@ for_statement first l = s.For (Some first) l.test l.change l.body
 
 abbrev called : List ℕ → List Expression → Expression
 called name xs = v.Call name (v.arguments xs)
-
--- the program has the routine, and doesn't note it
-pub record Has (p : Program) (r : RoutineTree) : Type 0 where
-  pub held : Held p (Routine r)
-  pub unseen : (at : ℕ) → p.notes r.name at ≡ None
 
 -- ---- `[ carried i n; for (i = 0 : i < ITEMS : i++) { if (item-->i == 255) n++; } return n; ];`
 
