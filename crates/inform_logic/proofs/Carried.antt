@@ -10,7 +10,7 @@ use Rattle.inform_logic.specs.Leading.{Loops, Does}
 use Rattle.inform_logic.specs.Worked.{carried, carried_loop, CarriedIsCounted}
 use Rattle.inform_logic.proofs.Lists.{map_at_rest, after_rest}
 use Rattle.inform_logic.proofs.Words.{small_number, small_sum, eq_is}
-use Rattle.inform_logic.proofs.Values.{within, valued, number, name, entry}
+use Rattle.inform_logic.proofs.Values.{within, valued, number, local, entry}
 use Rattle.inform_logic.proofs.Conditions.{compare}
 use Rattle.inform_logic.proofs.Changes.{set_variable, increment}
 use Rattle.inform_logic.proofs.Statements.{end, next, returns, assign, return, if_true, if_false, for}
@@ -34,7 +34,7 @@ module _ (p : Program) (d r : ℕ) (w : Stage) (places : List ℕ) (small : leng
       loop : (rest : List ℕ) (i n : ℕ) → drop i places ≡ rest → i + length rest ≡ length places
           → n ≤ i → Counts i n (more n rest) (3 * length rest + 1)
       loop [] i n left all few = subst (λ i. Counts i n n 1) done
-          (for_ends (compare (name refl) (valued (small_number p.width small) number) over)) where
+          (for_ends (compare (local refl) (valued (small_number p.width small) number) over)) where
             done : length places ≡ i
             done = omega (arith, all)
             over : nat_lt (length places) (length places) ≡ false
@@ -47,15 +47,15 @@ module _ (p : Program) (d r : ℕ) (w : Stage) (places : List ℕ) (small : leng
                 → ((m : ℕ) → m ≤ i + 1 → Counts (i + 1) m (more m rest) (3 * length rest + 1))
                 → Counts i n (more (n + cond b 1 0) rest) (3 * length (x ∷ rest) + 1)
             from true is after = within (omega arith) (for_once_more
-                (compare (name refl) (valued (small_number p.width small) number) under)
-                (next (if_true (compare (entry (name refl) there (map_at_rest pos places i left)) number
+                (compare (local refl) (valued (small_number p.width small) number) under)
+                (next (if_true (compare (entry (local refl) there (map_at_rest pos places i left)) number
                 (eq_is x 255 ∙ is)) (next (assign (increment refl
                 (small_sum p.width n 1 (omega (arith, few, all, small))))) end)) end)
                 (increment refl (small_sum p.width i 1 (omega (arith, all, small))))
                 (after (n + 1) (omega (arith, few))))
             from false is after = within (omega arith) (for_once_more
-                (compare (name refl) (valued (small_number p.width small) number) under)
-                (next (if_false (compare (entry (name refl) there (map_at_rest pos places i left)) number
+                (compare (local refl) (valued (small_number p.width small) number) under)
+                (next (if_false (compare (entry (local refl) there (map_at_rest pos places i left)) number
                 (eq_is x 255 ∙ is)) end) end)
                 (increment refl (small_sum p.width i 1 (omega (arith, all, small))))
                 (subst (λ m. Counts (i + 1) n (more m rest) (3 * length rest + 1)) (sym (add-zero n))
@@ -65,4 +65,4 @@ pub carried_is_counted : CarriedIsCounted
 carried_is_counted p d w places small has there = does_within (omega arith) (routine has
     (next (for (set_variable number refl)
     (loop p d has.at w places small there places 0 0 refl (omega arith) (omega arith)))
-    (returns (return (name refl)))) refl)
+    (returns (return (local refl)))) refl)

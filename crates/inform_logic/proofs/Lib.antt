@@ -6,6 +6,7 @@ pub mod Values
 pub mod Conditions
 pub mod Changes
 pub mod Printing
+pub mod Choices
 pub mod Statements
 pub mod Loops
 pub mod Routines
@@ -14,3 +15,8 @@ pub mod Stopping
 pub mod Stops
 pub mod Whole
 pub mod Holding
+pub mod Swapped
+pub mod Said
+pub mod Cleared
+pub mod Asked
+pub mod LineNoted

@@ -83,6 +83,20 @@ module _ {p : Program} {d : ℕ} where
   unfolding opened
   turn_returns = record { takes = nothing_taken (λ k. refl) }
 
+  -- ---- a loop that its body leaves
+
+  pub loop_broken : {l : Loop} {b : Bool} {s s' : Scope} {w w1 w' : Stage} {n m : ℕ}
+      → TestsIfAny p d l.test s w b w1 n → loop_goes_on l b ≡ true
+      → Runs p d l.body s w1 Breaks s' w' m → Loops p d l s w Normal s' w' (n + m + 1)
+  loop_broken x goes body =
+      within (omega arith) (turn x (turn_goes_on goes (λ j. tt) body turn_breaks))
+
+  pub loop_returns : {l : Loop} {b : Bool} {s s' : Scope} {w w1 w' : Stage} {v : ℤ} {n m : ℕ}
+      → TestsIfAny p d l.test s w b w1 n → loop_goes_on l b ≡ true
+      → Runs p d l.body s w1 (Returns v) s' w' m → Loops p d l s w (Returns v) s' w' (n + m + 1)
+  loop_returns x goes body =
+      within (omega arith) (turn x (turn_goes_on goes (λ j. tt) body turn_returns))
+
   -- ---- the three kinds of loops
 
   pub while_once_more : {x : Condition} {body : Statements} {s s1 s' : Scope} {w w1 w2 w' : Stage}

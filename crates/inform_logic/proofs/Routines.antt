@@ -40,29 +40,36 @@ leaves_any Continues v h j = tt
 leaves_any (Halts halt) v h j = tt
 leaves_any (Waits lack fs) v h j = cc
 
+-- a call of a routine that is there: its body, one call deeper, and the way back
+pub entering : (p : Program) (d : ℕ) {r : RoutineTree} (values : List ℤ) {at : ℕ} {o : Option ℕ}
+    (s : Scope) {s' : Scope} {w w' : Stage} {e : Outcome} {n : ℕ}
+    → p.routines r.name ≡ Some (routine_at at r) → noted_body (p.notes r.name at) r.body ≡ o
+    → Takes (bind (exec_all p (call_at p d) r.body) (on_return s)) (scope_of (routine_at at r) values)
+    (with_past (with_note o w.past) w) e s' w' n
+    → Takes (call_at p (suc d) r.name values) s w e s' w' n
+unfolding call_at
+entering p d {r} values {at} {o} s {s'} {w} {w'} {e} {n} there note body =
+    subst (λ o. Takes (enter p (call_at p d) r.name o values) s w e s' w' n) (sym there) (record {
+      steps = noted.steps;
+      few = noted.few;
+      by = noted.by;
+    }) where
+      noted : Takes (bind (exec_all p (call_at p d) r.body) (on_return s))
+          (scope_of (routine_at at r) values)
+          (with_past (with_note (noted_body (p.notes r.name at) r.body) w.past) w) e s' w' n
+      noted = subst (λ o. Takes (bind (exec_all p (call_at p d) r.body) (on_return s))
+          (scope_of (routine_at at r) values) (with_past (with_note o w.past) w) e s' w' n)
+          (sym note) body
+
 module _ {p : Program} {d : ℕ} {r : RoutineTree} {values : List ℤ} where
-  -- a routine that may be noted: its body runs with its arguments, one call deeper
   by_body : {at : ℕ} {o : Option ℕ} {s' : Scope} {w w' : Stage} {e : Outcome} {v : ℤ} {n : ℕ}
       → p.routines r.name ≡ Some (routine_at at r) → noted_body (p.notes r.name at) r.body ≡ o
       → Runs p d r.body (scope_of (routine_at at r) values) (with_past (with_note o w.past) w) e s' w' n
       → returned e ≡ Value v → Does p (suc d) r.name values w v w' n
-  unfolding call_at
-  by_body {at} {o} {s'} {w} {w'} {e} {v} {n} there note body is = record {
-    takes = λ s. subst (λ o. Takes (enter p (call_at p d) r.name o values) s w (Value v) s w' n)
-        (sym there) (inside s);
-  } where
-    noted : Stage
-    noted = with_past (with_note (noted_body (p.notes r.name at) r.body) w.past) w
-    body' : Runs p d r.body (scope_of (routine_at at r) values) noted e s' w' n
-    body' = subst (λ o. Runs p d r.body (scope_of (routine_at at r) values)
-        (with_past (with_note o w.past) w) e s' w' n) (sym note) body
-    inside : (s : Scope)
-        → Takes (enter p (call_at p d) r.name (Some (routine_at at r)) values) s w (Value v) s w' n
-    inside s =
-        let done : Takes (bind (exec_all p (call_at p d) r.body) (on_return s))
-            (scope_of (routine_at at r) values) noted (Value v) s w' n =
-                finally _ (λ j h. leaves_any e v is j) body'.takes (λ k. gives_back s e v _ is) in
-        record { steps = done.steps; few = done.few; by = done.by }
+  by_body {e = e} {v} there note body is = record {
+    takes = λ s. entering p d values s there note
+        (finally _ (λ j h. leaves_any e v is j) body.takes (λ k. gives_back s e v _ is));
+  }
 
   -- a routine that isn't noted, by its body
   pub routine : (has : Has p r) {s' : Scope} {w w' : Stage} {e : Outcome} {v : ℤ} {n : ℕ}

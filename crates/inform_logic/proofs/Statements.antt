@@ -8,12 +8,12 @@ use Rattle.inform_tree.specs.Statements.{Statement, Empty, Block, Assign, Call, 
 use Rattle.inform_meaning.specs.Worlds.{Program, Scope, has_room, filled}
 use Rattle.inform_meaning.specs.Frames as f
 use Rattle.inform_meaning.specs.Frames.{Outcome, Normal, Returns, Breaks, Continues, Halts, when}
-use Rattle.inform_meaning.specs.Statements.{while_loop, do_loop, for_loop, fits_any}
+use Rattle.inform_meaning.specs.Statements.{while_loop, do_loop, for_loop}
 use Rattle.inform_meaning.specs.declared.traps.Trap.TheVariants as t
 use Rattle.inform_meaning.specs.Tables.{put_by}
 use Rattle.inform_meaning.specs.Parts.{line_at, take_line, read_line, trap}
 use Rattle.inform_logic.specs.Stages.{Stage, world_in, in_scope, with_array, said}
-use Rattle.inform_logic.specs.Leading.{Leaves, Leads, TheAct, TheCases, AfterBody, Evaluates, Calls, Tests, Changes, ChangesIfAny, Prints, Executes, Runs, Loops, Takes}
+use Rattle.inform_logic.specs.Leading.{Leaves, Leads, TheAct, TheCases, AfterBody, Evaluates, Calls, Tests, Changes, ChangesIfAny, Prints, Executes, Runs, Loops, Fits, Takes}
 use Rattle.inform_logic.proofs.Opened.{opened}
 use Rattle.inform_logic.proofs.Steps.{nothing_taken, and_then, value_then, truth_then, normal_then, finally, one_step, with_said, chosen, not_chosen}
 
@@ -122,16 +122,16 @@ module _ {p : Program} {d : ℕ} where
   switch x xs = step (record { takes = value_then _ x.takes xs.takes })
 
   pub this_case : {a : ℤ} {choices : List Choice} {body : Statements} {xs : Cases} {rest : Default}
-      {s s' : Scope} {w w' : Stage} {e : Outcome} {n : ℕ} → fits_any p a choices ≡ true
+      {s s' : Scope} {w w' : Stage} {e : Outcome} {n : ℕ} → Fits p a choices true
       → Runs p d body s w e s' w' n
       → Leads p d (TheCases a (MoreCases choices body xs) rest) s w e s' w' n
-  this_case fits body = record { takes = chosen _ fits body.takes }
+  this_case fits body = record { takes = chosen _ fits.fits body.takes }
 
   pub later_case : {a : ℤ} {choices : List Choice} {body : Statements} {xs : Cases} {rest : Default}
-      {s s' : Scope} {w w' : Stage} {e : Outcome} {n : ℕ} → fits_any p a choices ≡ false
+      {s s' : Scope} {w w' : Stage} {e : Outcome} {n : ℕ} → Fits p a choices false
       → Leads p d (TheCases a xs rest) s w e s' w' n
       → Leads p d (TheCases a (MoreCases choices body xs) rest) s w e s' w' n
-  later_case fits xs = record { takes = not_chosen _ fits xs.takes }
+  later_case fits xs = record { takes = not_chosen _ fits.fits xs.takes }
 
   pub default : {a : ℤ} {body : Statements} {s s' : Scope} {w w' : Stage} {e : Outcome} {n : ℕ}
       → Runs p d body s w e s' w' n → Leads p d (TheCases a NoCases (SomeDefault body)) s w e s' w' n

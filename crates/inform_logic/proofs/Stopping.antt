@@ -73,6 +73,11 @@ passes_return s (Lacking lack) e stop inner = record {
   by = λ j w. ap (λ e. on_return s e (in_scope j inner w)) stop.1;
 }
 
+-- the same stop of another meaning
+pub with_takes : {m m' : Meaning} {s s' : Scope} {w w' w1 w1' : Stage} {stop : Stop} {n n' : ℕ}
+    (x : Ends m s w stop w' n) → Takes m' s' w1 x.ending x.scope w1' n' → Ends m' s' w1 stop w1' n'
+with_takes x takes = record { ending = x.ending; scope = x.scope; is = x.is; takes = takes }
+
 -- a part that stops, and what would be done with its outcome
 pub ends_first : {m : Meaning} (k : Outcome → Meaning) {s : Scope} {w w' : Stage} {stop : Stop}
     {n : ℕ} → Passes k → Ends m s w stop w' n → Ends (bind m k) s w stop w' n
@@ -85,12 +90,10 @@ ends_first k {s} {w} {w'} {stop} {n} pass x = let after = pass stop x.ending x.i
 
 pub ends_chosen : {b : Bool} {m : Meaning} (m' : Meaning) {s : Scope} {w w' : Stage} {stop : Stop}
     {n : ℕ} → b ≡ true → Ends m s w stop w' n → Ends (when b m m') s w stop w' n
-ends_chosen m' h x =
-    record { ending = x.ending; scope = x.scope; is = x.is; takes = chosen m' h x.takes }
+ends_chosen m' h x = with_takes x (chosen m' h x.takes)
 
 -- a value, and then a part that stops
 pub ends_after : {m : Meaning} (k : Outcome → Meaning) {s s1 : Scope} {w w1 w' : Stage} {v : ℤ}
     {stop : Stop} {a b : ℕ} → Takes m s w (Value v) s1 w1 a → Ends (k (Value v)) s1 w1 stop w' b
     → Ends (bind m k) s w stop w' (a + b)
-ends_after k x y =
-    record { ending = y.ending; scope = y.scope; is = y.is; takes = value_then k x y.takes }
+ends_after k x y = with_takes y (value_then k x y.takes)

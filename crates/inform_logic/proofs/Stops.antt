@@ -19,8 +19,9 @@ use Rattle.inform_logic.specs.Leading.{Takes, Leads, Part, TheValue, TheCall, Th
 use Rattle.inform_logic.specs.Stopping.{IsStop, Ends, Stops, CallStops, First, in_entry, in_random, in_negation, in_sum, in_term, in_product, in_factor, in_call, in_argument, in_comparison, in_nonzero, in_negated, in_all, in_one_of_all, in_any, in_one_of_any, in_set, in_index, in_number, in_character, in_statements, in_assignment, in_print, in_call_alone, in_return, in_if, in_switch, in_while, in_do, in_for, in_block, in_body, in_change}
 use Rattle.inform_logic.proofs.Opened.{opened}
 use Rattle.inform_logic.proofs.Steps.{nothing_taken, finally, one_step}
-use Rattle.inform_logic.proofs.Stopping.{Passes, passes_value, passes_truth, passes_normal, passes_body, passes_return, ends_first, ends_after, ends_chosen}
+use Rattle.inform_logic.proofs.Stopping.{with_takes, passes_value, passes_truth, passes_normal, passes_body, passes_return, ends_first, ends_after, ends_chosen}
 use Rattle.inform_logic.proofs.Statements.{step}
+use Rattle.inform_logic.proofs.Routines.{entering}
 
 module _ {p : Program} {d : ℕ} where
   -- ---- where a stop begins
@@ -145,9 +146,7 @@ module _ {p : Program} {d : ℕ} where
   pub called_stops : {f : List ℕ} {values : List ℤ} {s : Scope} {w w' : Stage} {stop : Stop} {n : ℕ}
       → CallStops p d f values w stop w' n → Stops p d (TheCall f values NoArguments) s w stop w' (n + 1)
   called_stops {s = s} x =
-      let inner = x.ends s in
-      record { ends = record { ending = inner.ending; scope = inner.scope; is = inner.is;
-      takes = one_step _ inner.takes } }
+      record { ends = with_takes (x.ends s) (one_step _ (x.ends s).takes) }
 
 -- ---- routines
 
@@ -156,27 +155,10 @@ module _ {p : Program} {d : ℕ} {r : RoutineTree} {values : List ℤ} where
       → p.routines r.name ≡ Some (routine_at at r) → noted_body (p.notes r.name at) r.body ≡ o
       → Stops p d (TheBlock r.body) (scope_of (routine_at at r) values)
       (with_past (with_note o w.past) w) stop w' n → CallStops p (suc d) r.name values w stop w' n
-  unfolding call_at
-  by_body {at} {o} {w} {w'} {stop} {n} there note body = record {
-    ends = λ s. subst (λ o. Ends (enter p (call_at p d) r.name o values) s w stop w' n) (sym there)
-        (inside s);
-  } where
-    noted : Stage
-    noted = with_past (with_note (noted_body (p.notes r.name at) r.body) w.past) w
-    body' : Stops p d (TheBlock r.body) (scope_of (routine_at at r) values) noted stop w' n
-    body' = subst (λ o. Stops p d (TheBlock r.body) (scope_of (routine_at at r) values)
-        (with_past (with_note o w.past) w) stop w' n) (sym note) body
-    inside : (s : Scope)
-        → Ends (enter p (call_at p d) r.name (Some (routine_at at r)) values) s w stop w' n
-    inside s =
-        let done : Ends (bind (exec_all p (call_at p d) r.body) (on_return s))
-            (scope_of (routine_at at r) values) noted stop w' n =
-                ends_first _ (passes_return s) body'.ends in record {
-          ending = done.ending;
-          scope = done.scope;
-          is = done.is;
-          takes = record { steps = done.takes.steps; few = done.takes.few; by = done.takes.by };
-        }
+  by_body there note body = record {
+    ends = λ s. let inner = ends_first _ (passes_return s) body.ends in
+        with_takes inner (entering p d values s there note inner.takes);
+  }
 
   -- a routine that isn't noted, by its body
   pub routine_stops : (has : Has p r) {w w' : Stage} {stop : Stop} {n : ℕ}

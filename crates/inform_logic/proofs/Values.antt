@@ -36,12 +36,28 @@ module _ {p : Program} {d : ℕ} where
   pub character : {byte : ℕ} {s : Scope} {w : Stage} → Evaluates p d (Char byte) s w (pos byte) w 0
   character = record { takes = nothing_taken (λ k. refl) }
 
-  -- a name has the value of the local, else of the global, else of the constant
-  pub name : {x : List ℕ} {s : Scope} {w : Stage} {v : ℤ}
+  name : {x : List ℕ} {s : Scope} {w : Stage} {v : ℤ}
       → first_of_two (found x s.locals) (first_of_two (w.globals x) (p.constants x)) ≡ Some v
       → Evaluates p d (Name x) s w v w 0
   name {s = s} {w} h =
       record { takes = nothing_taken (λ k. ap (λ o. (Value (unwrap_or o (pos 0)), in_scope k s w)) h) }
+
+  -- a name is that of a local, else of a global, else of a constant
+  pub local : {x : List ℕ} {s : Scope} {w : Stage} {v : ℤ} → found x s.locals ≡ Some v
+      → Evaluates p d (Name x) s w v w 0
+  local {x} {w = w} h = name (ap (λ o. first_of_two o (first_of_two (w.globals x) (p.constants x))) h)
+
+  pub global : {x : List ℕ} {s : Scope} {w : Stage} {v : ℤ} → found x s.locals ≡ None
+      → w.globals x ≡ Some v → Evaluates p d (Name x) s w v w 0
+  global {x} {w = w} none h =
+      name (ap (λ o. first_of_two o (first_of_two (w.globals x) (p.constants x))) none
+      ∙ ap (λ o. first_of_two o (p.constants x)) h)
+
+  pub constant : {x : List ℕ} {s : Scope} {w : Stage} {v : ℤ} → found x s.locals ≡ None
+      → w.globals x ≡ None → p.constants x ≡ Some v → Evaluates p d (Name x) s w v w 0
+  constant {x} {w = w} none no_global h =
+      name (ap (λ o. first_of_two o (first_of_two (w.globals x) (p.constants x))) none
+      ∙ ap (λ o. first_of_two o (p.constants x)) no_global ∙ h)
 
   pub entry : {a : List ℕ} {words : Bool} {x : Expression} {s : Scope} {w w' : Stage} {i v : ℤ}
       {xs : List ℤ} {n : ℕ} → Evaluates p d x s w i w' n → w'.arrays a ≡ Some xs

@@ -2,11 +2,11 @@
 use Rattle.std.specs.Prelude.{◌≡◌, ℕ, ◌≤◌, ℤ, Bool, List, Option, Some}
 use Rattle.inform_tree.specs.Values.{Expression, Arguments, Terms, Factors}
 use Rattle.inform_tree.specs.Conditions.{Condition, Conditions}
-use Rattle.inform_tree.specs.Statements.{Statement, Statements, Cases, Default, Assignment, PrintItem}
+use Rattle.inform_tree.specs.Statements.{Statement, Statements, Cases, Default, Assignment, PrintItem, Choice}
 use Rattle.inform_meaning.specs.Worlds.{Program, Scope}
 use Rattle.inform_meaning.specs.Frames.{Loop, Lack, Spent, Outcome, Value, Truth, Normal, Waits, Meaning}
 use Rattle.inform_meaning.specs.Meaning.{eval, eval_call, eval_sum, eval_product, test_all, test_any, test_if_any, alter_if_any, print_items}
-use Rattle.inform_meaning.specs.Statements.{act, exec, exec_all, exec_cases, exec_default, turns_of, test_done, body_done}
+use Rattle.inform_meaning.specs.Statements.{fits_any, act, exec, exec_all, exec_cases, exec_default, turns_of, test_done, body_done}
 use Rattle.inform_meaning.specs.Runs.{call_at}
 use Rattle.inform_logic.specs.Stages.{plus, Stage, in_scope}
 
@@ -119,6 +119,10 @@ Runs p d xs = Leads p d (TheBlock xs)
 
 abbrev pub Loops : Program → ℕ → Loop → Scope → Stage → Outcome → Scope → Stage → ℕ → Type 0
 Loops p d l = Leads p d (TheTurns l)
+
+-- whether a value fits one of these choices
+pub record Fits (p : Program) (a : ℤ) (choices : List Choice) (b : Bool) : Type 0 where
+  pub fits : fits_any p a choices ≡ b
 
 -- ---- routines
 

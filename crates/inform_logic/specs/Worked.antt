@@ -1,48 +1,68 @@
 -- Worked routines, as trees, and what they do in every program that has them.
-use Rattle.std.specs.Prelude.{◌≡◌, ℕ, suc, ◌+◌, ◌*◌, ◌<◌, ◌≤◌, ℤ, pos, nat_eq, nat_le, Bool, true, if◌then◌else◌, ◌&&◌, List, [], ◌∷◌, ◌++◌, map, length, count_by, codes, Option, Some, None}
-use Rattle.std.specs.Fmt.{signed_decimal}
+use Rattle.std.specs.Prelude.{◌≡◌, ℕ, suc, ◌+◌, ◌*◌, ◌<◌, ◌≤◌, ℤ, pos, nat_eq, nat_le, true, not, decimal, if◌then◌else◌, List, [], ◌∷◌, ◌++◌, map, length, count_by, codes, Some, None}
+use Rattle.std.specs.List.{prefix_len}
+use Rattle.adv_io.specs.Steps.{Took, Noted}
 use Rattle.inform_tree.specs.declared.values.Const.TheVariants as k
 use Rattle.inform_tree.specs.declared.values.SumOp.TheVariants.{Add}
 use Rattle.inform_tree.specs.declared.conditions.Relation.TheVariants.{Eq, Lt}
 use Rattle.inform_tree.specs.Values as v
 use Rattle.inform_tree.specs.Values.{Expression}
 use Rattle.inform_tree.specs.Conditions as c
-use Rattle.inform_tree.specs.Statements as s
+use Rattle.inform_tree.specs.Statements as t
 use Rattle.inform_tree.specs.Statements.{Statement, statements}
 use Rattle.inform_tree.specs.Programs.{RoutineTree}
-use Rattle.inform_meaning.specs.Worlds.{Program}
-use Rattle.inform_meaning.specs.Frames.{Loop}
-use Rattle.inform_meaning.specs.Statements.{for_loop}
-use Rattle.inform_logic.specs.Stages.{Stage, with_global, said}
+use Rattle.inform_meaning.specs.Worlds.{Program, has_room, filled}
+use Rattle.inform_meaning.specs.Frames.{Loop, Quits, NeedsLine}
+use Rattle.inform_meaning.specs.Statements.{while_loop, for_loop}
+use Rattle.inform_meaning.specs.Runs.{Halted, Lacking}
+use Rattle.inform_logic.specs.Stages.{Stage, with_past, with_global, with_array, said}
 use Rattle.inform_logic.specs.Leading.{Does}
-use Rattle.inform_logic.specs.Holding.{Has}
+use Rattle.inform_logic.specs.Holding.{Has, Notes}
+use Rattle.inform_logic.specs.Stopping.{CallStops}
 
 -- ---- short words for trees
 
 abbrev routine : List ℕ → List (List ℕ) → List Statement → RoutineTree
 routine name locals body = record { name = name; locals = locals; body = statements body }
 
+abbrev name : List ℕ → Expression
+name x = v.Name x
+
+abbrev set : List ℕ → Expression → Statement
+set x y = t.Assign (t.Set x y)
+
+abbrev increment : List ℕ → Statement
+increment x = t.Assign (t.Inc x)
+
+abbrev entry : List ℕ → List ℕ → Expression
+entry a i = v.Entry a true (v.Name i)
+
+abbrev call : List ℕ → List Expression → Expression
+call f xs = v.Call f (v.arguments xs)
+
 abbrev if_only : c.Condition → List Statement → Statement
-if_only x body = s.If x (statements body) s.NoStatements
+if_only x body = t.If x (statements body) t.NoStatements
 
-abbrev for_statement : s.Assignment → Loop → Statement
-for_statement first l = s.For (Some first) l.test l.change l.body
+abbrev for : t.Assignment → Loop → Statement
+for first l = t.For (Some first) l.test l.change l.body
 
-abbrev called : List ℕ → List Expression → Expression
-called name xs = v.Call name (v.arguments xs)
+abbrev return : Expression → Statement
+return x = t.Return (Some x)
+
+abbrev text : List ℕ → Statement
+text bytes = t.Print (t.Text bytes ∷ [])
 
 -- ---- `[ carried i n; for (i = 0 : i < ITEMS : i++) { if (item-->i == 255) n++; } return n; ];`
 
 abbrev pub carried_loop : ℕ → Loop
-carried_loop items = for_loop (Some (c.Compare Lt (v.Name (codes "i")) (v.Number items)))
-    (Some (s.Inc (codes "i"))) (statements (if_only
-    (c.Compare Eq (v.Entry (codes "item") true (v.Name (codes "i"))) (v.Number 255))
-    (s.Assign (s.Inc (codes "n")) ∷ []) ∷ []))
+carried_loop items = for_loop (Some (c.Compare Lt (name (codes "i")) (v.Number items)))
+    (Some (t.Inc (codes "i")))
+    (statements (if_only (c.Compare Eq (entry (codes "item") (codes "i")) (v.Number 255))
+    (increment (codes "n") ∷ []) ∷ []))
 
 abbrev pub carried : ℕ → RoutineTree
 carried items = routine (codes "carried") (codes "i" ∷ codes "n" ∷ [])
-    (for_statement (s.Set (codes "i") (v.Number 0)) (carried_loop items)
-    ∷ s.Return (Some (v.Name (codes "n"))) ∷ [])
+    (for (t.Set (codes "i") (v.Number 0)) (carried_loop items) ∷ return (name (codes "n")) ∷ [])
 
 -- It gives the number of items whose place is 255, and changes nothing.
 abbrev pub CarriedIsCounted : Type 0
@@ -50,3 +70,96 @@ CarriedIsCounted = (p : Program) (d : ℕ) (w : Stage) (places : List ℕ) → l
     → Has p (carried (length places)) → w.arrays (codes "item") ≡ Some (map pos places)
     → Does p (suc d) (codes "carried") [] w (pos (count_by (λ place. nat_eq place 255) places)) w
     (3 * length places + 3)
+
+-- ---- `[ move_to r old; old = here; here = r; return old; ];` and `[ swap; saved = move_to(saved); ];`
+
+abbrev pub move_to : RoutineTree
+move_to = routine (codes "move_to") (codes "r" ∷ codes "old" ∷ [])
+    (set (codes "old") (name (codes "here")) ∷ set (codes "here") (name (codes "r"))
+    ∷ return (name (codes "old")) ∷ [])
+
+abbrev pub swap : RoutineTree
+swap = routine (codes "swap") []
+    (set (codes "saved") (call (codes "move_to") (name (codes "saved") ∷ [])) ∷ [])
+
+-- The two globals have each other's value.
+abbrev pub GlobalsAreSwapped : Type 0
+GlobalsAreSwapped = (p : Program) (d : ℕ) (w : Stage) (here saved : ℤ) → Has p move_to → Has p swap
+    → w.globals (codes "here") ≡ Some here → w.globals (codes "saved") ≡ Some saved
+    → Does p (suc (suc d)) (codes "swap") [] w (pos 1)
+    (with_global (codes "saved") here (with_global (codes "here") saved w)) 5
+
+-- ---- `[ say_place n; switch (n) { 0: print "nowhere"; 1 to 9: print "room ", n;
+-- default: print "held"; } ];`
+
+abbrev pub say_place : RoutineTree
+say_place = routine (codes "say_place") (codes "n" ∷ []) (t.Switch (name (codes "n"))
+    (t.MoreCases ((k.Number 0, None) ∷ []) (statements (text (codes "nowhere") ∷ []))
+    (t.MoreCases ((k.Number 1, Some (k.Number 9)) ∷ [])
+    (statements (t.Print (t.Text (codes "room ") ∷ t.Value (name (codes "n")) ∷ []) ∷ [])) t.NoCases))
+    (t.SomeDefault (statements (text (codes "held") ∷ []))) ∷ [])
+
+abbrev pub place_text : ℕ → List ℕ
+place_text n = if nat_eq n 0 then codes "nowhere" else
+    if nat_le n 9 then codes "room " ++ decimal n else codes "held"
+
+-- It says where the place is, and nothing else happens.
+abbrev pub PlaceIsSaid : Type 0
+PlaceIsSaid = (p : Program) (d : ℕ) (w : Stage) (n : ℕ) → Has p say_place
+    → Does p (suc d) (codes "say_place") (pos n ∷ []) w (pos 1) (said (place_text n) w) 2
+
+-- ---- `[ first_clear i; while (1 == 1) { if (flag-->i == 0) break; i++; } return i; ];`
+
+abbrev pub clear_loop : Loop
+clear_loop = while_loop (c.Compare Eq (v.Number 1) (v.Number 1))
+    (statements (if_only (c.Compare Eq (entry (codes "flag") (codes "i")) (v.Number 0)) (t.Break ∷ [])
+    ∷ increment (codes "i") ∷ []))
+
+abbrev pub first_clear : RoutineTree
+first_clear = routine (codes "first_clear") (codes "i" ∷ [])
+    (t.While (c.Compare Eq (v.Number 1) (v.Number 1)) clear_loop.body ∷ return (name (codes "i")) ∷ [])
+
+-- how many flags there are before the first that is 0
+abbrev pub set_flags : List ℕ → ℕ
+set_flags flags = prefix_len (λ flag. not (nat_eq flag 0)) flags
+
+-- Where a flag is 0, it gives the number of the first one, and changes nothing.
+abbrev pub FirstClearIsFound : Type 0
+FirstClearIsFound = (p : Program) (d : ℕ) (w : Stage) (flags : List ℕ) → length flags < 32768
+    → set_flags flags < length flags → Has p first_clear
+    → w.arrays (codes "flag") ≡ Some (map pos flags)
+    → Does p (suc d) (codes "first_clear") [] w (pos (set_flags flags)) w (3 * set_flags flags + 5)
+
+-- ---- `[ ask; read buf pbuf; quit; ];`
+
+abbrev pub ask : RoutineTree
+ask = routine (codes "ask") [] (t.Read (codes "buf") (codes "pbuf") ∷ t.Quit ∷ [])
+
+-- With a line it takes it into the buffer, and the run is over.
+abbrev pub LineIsTaken : Type 0
+LineIsTaken = (p : Program) (d : ℕ) (w : Stage) (entries : List ℤ) (line : List ℕ)
+    (lines : List (List ℕ)) → Has p ask → w.arrays (codes "buf") ≡ Some entries
+    → has_room entries ≡ true → w.lines ≡ line ∷ lines
+    → CallStops p (suc d) (codes "ask") [] w (Halted Quits)
+    (with_array (codes "buf") (filled entries line)
+    (record w { lines = lines; past = w.past ++ Took line ∷ [] })) 2
+
+-- Without one the run waits for it, and nothing has happened.
+abbrev pub LineIsAwaited : Type 0
+LineIsAwaited = (p : Program) (d : ℕ) (w : Stage) (entries : List ℤ) → Has p ask
+    → w.arrays (codes "buf") ≡ Some entries → has_room entries ≡ true → w.lines ≡ []
+    → CallStops p (suc d) (codes "ask") [] w (Lacking NeedsLine) w 1
+
+-- ---- `[ line_1; carried(); return 2; ];`, which is noted
+
+abbrev pub line_one : RoutineTree
+line_one = routine (codes "line_1") [] (t.Call (codes "carried") v.NoArguments ∷ return (v.Number 2)
+    ∷ [])
+
+-- Its number is noted before what it does.
+abbrev pub LineIsNoted : Type 0
+LineIsNoted = (p : Program) (d : ℕ) (w : Stage) (places : List ℕ) (number : ℕ)
+    → length places < 32768 → Notes p line_one number
+    → Has p (carried (length places)) → w.arrays (codes "item") ≡ Some (map pos places)
+    → Does p (suc (suc d)) (codes "line_1") [] w (pos 2)
+    (with_past (w.past ++ Noted number ∷ []) w) (3 * length places + 6)

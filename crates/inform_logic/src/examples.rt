@@ -1,7 +1,37 @@
 //! Worked routines, each proved by the rules. Each is the contract of a function that does nothing.
-ghost use Rattle.inform_logic.specs.Worked.{CarriedIsCounted};
+ghost use Rattle.inform_logic.specs.Worked.{CarriedIsCounted, GlobalsAreSwapped, PlaceIsSaid, FirstClearIsFound, LineIsTaken, LineIsAwaited, LineIsNoted};
 
 /// Items are counted by a loop over their places.
 pub fn carried_is_counted()
     ensures { CarriedIsCounted }
+{}
+
+/// Two globals are swapped by a routine that is called with an argument.
+pub fn globals_are_swapped()
+    ensures { GlobalsAreSwapped }
+{}
+
+/// A `switch` says where a place is.
+pub fn place_is_said()
+    ensures { PlaceIsSaid }
+{}
+
+/// A loop is left at the first flag that is 0.
+pub fn first_clear_is_found()
+    ensures { FirstClearIsFound }
+{}
+
+/// A line is read, and the run is over.
+pub fn line_is_taken()
+    ensures { LineIsTaken }
+{}
+
+/// Where no line is left, the run waits for one.
+pub fn line_is_awaited()
+    ensures { LineIsAwaited }
+{}
+
+/// A routine that is noted calls one that isn't.
+pub fn line_is_noted()
+    ensures { LineIsNoted }
 {}
