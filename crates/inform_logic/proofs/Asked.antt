@@ -1,5 +1,4 @@
 -- A line that is read, and the end of the run or the wait for a line.
-use Rattle.std.proofs.Common.{refl}
 use Rattle.inform_logic.specs.Worked.{LineIsTaken, LineIsAwaited}
 use Rattle.inform_logic.specs.Stopping.{in_block}
 use Rattle.inform_logic.proofs.Statements.{next, read}

@@ -1,11 +1,11 @@
 -- The rules of changes: what a variable or an entry is after them.
-use Rattle.std.proofs.Common.{◌≡◌, ◌∙◌, ℕ, ◌+◌, ℤ, pos, negsuc, unsigned_abs, Bool, true, false, List, [], set, Option, Some, None, is_some, refl, ap}
+use Rattle.std.proofs.Common.{◌≡◌, ◌∙◌, ℕ, ◌+◌, ℤ, pos, negsuc, unsigned_abs, Bool, true, List, [], set, Option, Some, None, is_some, refl, ap}
 use Rattle.std.specs.Prelude.{unwrap_or}
 use Rattle.inform_tree.specs.Values.{Expression}
 use Rattle.inform_tree.specs.Statements.{Set, SetEntry, Inc, Dec}
 use Rattle.inform_meaning.specs.Words.{word_sum}
 use Rattle.inform_meaning.specs.Tables.{found, put_by, first_of_two}
-use Rattle.inform_meaning.specs.Worlds.{Program, Scope, value_of, assigned_by, assigned, entry_at, kept, stored}
+use Rattle.inform_meaning.specs.Worlds.{Program, Scope, assigned_by, assigned, entry_at, kept, stored}
 use Rattle.inform_meaning.specs.Frames.{Normal}
 use Rattle.inform_meaning.specs.Parts.{changes, counts, store_by, store}
 use Rattle.inform_logic.specs.Stages.{Stage, world_in, in_scope, with_array, scope_after, stage_after}
@@ -16,8 +16,11 @@ use Rattle.inform_logic.proofs.Steps.{nothing_taken, value_then, finally}
 -- a variable that is there has the other value after it is assigned
 assigned_is : (x : List ℕ) (v : ℤ) (s : Scope) (w : Stage)
     → is_some (first_of_two (found x s.locals) (w.globals x)) ≡ true → (k : ℕ)
-    → changes (assigned x v) (in_scope k s w) ≡ (Normal, in_scope k
-    (scope_after (found x s.locals) x v s) (stage_after (found x s.locals) x v w))
+    → changes (assigned x v) (in_scope k s w) ≡ (
+      Normal,
+      in_scope k
+          (scope_after (found x s.locals) x v s) (stage_after (found x s.locals) x v w),
+    )
 assigned_is x v s w there k = by (found x s.locals) (w.globals x) refl there where
   by : (o g : Option ℤ) → w.globals x ≡ g → is_some (first_of_two o g) ≡ true
       → changes (assigned_by (is_some o) x v) (in_scope k s w)
@@ -30,8 +33,11 @@ assigned_is x v s w there k = by (found x s.locals) (w.globals x) refl there whe
 -- the change of a variable by 1 or -1, whose value was a
 counted : (p : Program) (x : List ℕ) (s : Scope) (w : Stage) (a by v : ℤ)
     → first_of_two (found x s.locals) (w.globals x) ≡ Some a → word_sum p.width a by ≡ v
-    → (k : ℕ) → counts p x by (in_scope k s w) ≡ (Normal, in_scope k
-    (scope_after (found x s.locals) x v s) (stage_after (found x s.locals) x v w))
+    → (k : ℕ) → counts p x by (in_scope k s w) ≡ (
+      Normal,
+      in_scope k
+          (scope_after (found x s.locals) x v s) (stage_after (found x s.locals) x v w),
+    )
 counted p x s w a by v there is k =
     ap (λ u. changes (assigned x u) (in_scope k s w))
     (ap (λ u. word_sum p.width u by) (value (found x s.locals) (w.globals x) there) ∙ is)
@@ -85,8 +91,13 @@ module _ {p : Program} {d : ℕ} where
           go : (o : Option ℤ) → is_some o ≡ true
               → store_by o (stored a words i v) (in_scope k s w')
               ≡ (Normal, in_scope k s (with_array a (set xs (unsigned_abs i) (kept words v)) w'))
-          go (Some old) h = ap (λ o. (Normal, record (in_scope k s w') { world = record (world_in s w')
-              { arrays = put_by o w'.arrays a (set (unwrap_or o []) (unsigned_abs i) (kept words v)) } })) there
+          go (Some old) h = ap (λ o. (
+            Normal,
+            record (in_scope k s w') {
+              world = record (world_in s w')
+                  { arrays = put_by o w'.arrays a (set (unwrap_or o []) (unsigned_abs i) (kept words v)) };
+            },
+          )) there
           go None h = cc
 
   -- no change

@@ -1,5 +1,5 @@
 -- The first flag that is clear, by a loop that is left.
-use Rattle.std.proofs.Common.{◌≡◌, ◌∙◌, arith, ℕ, ◌+◌, ◌*◌, ◌<◌, ℤ, pos, nat_eq, cond, not, Bool, true, false, List, [], ◌∷◌, map, length, drop, codes, Some, refl, subst}
+use Rattle.std.proofs.Common.{◌≡◌, ◌∙◌, arith, ℕ, ◌+◌, ◌*◌, ◌<◌, pos, nat_eq, cond, not, Bool, true, false, List, [], ◌∷◌, map, length, drop, codes, Some, refl, subst}
 use Rattle.inform_meaning.specs.Worlds.{Program, Scope}
 use Rattle.inform_meaning.specs.Frames.{Normal}
 use Rattle.inform_logic.specs.Stages.{Stage}
@@ -19,31 +19,31 @@ at_flag r i = record { directive = r; locals = (codes "i", pos i) ∷ [] }
 
 module _ (p : Program) (d r : ℕ) (w : Stage) (flags : List ℕ) (small : length flags < 32768)
     (there : w.arrays (codes "flag") ≡ Some (map pos flags)) where
-      loop : (rest : List ℕ) (i m : ℕ) → drop i flags ≡ rest → i + length rest ≡ length flags
-          → set_flags rest < length rest → i + set_flags rest ≡ m
-          → Loops p d clear_loop (at_flag r i) w Normal (at_flag r m) w (3 * set_flags rest + 3)
-      loop [] i m left all some is = absurd (omega (arith, some))
-      loop (x ∷ rest) i m left all some is = from (nat_eq x 0) refl some is
-          (λ h g. loop rest (i + 1) m (after_rest flags i left) (omega (arith, all)) h g) where
-            from : (b : Bool) → nat_eq x 0 ≡ b
-                → cond (not b) (1 + set_flags rest) 0 < length (x ∷ rest)
-                → i + cond (not b) (1 + set_flags rest) 0 ≡ m
-                → (set_flags rest < length rest → i + 1 + set_flags rest ≡ m → Loops p d clear_loop
-                (at_flag r (i + 1)) w Normal (at_flag r m) w (3 * set_flags rest + 3))
-                → Loops p d clear_loop (at_flag r i) w Normal (at_flag r m) w
-                (3 * cond (not b) (1 + set_flags rest) 0 + 3)
-            from true clear some is later =
-                let here : i ≡ m = omega (arith, is) in
-                subst (λ m. Loops p d clear_loop (at_flag r i) w Normal (at_flag r m) w 3) here
-                (loop_broken (compare number number refl) refl (breaks (if_true
-                (compare (entry (local refl) there (map_at_rest pos flags i left)) number
-                (eq_is x 0 ∙ clear)) (breaks break))))
-            from false clear some is later = within (omega arith) (while_once_more
-                (compare number number refl)
-                (next (if_false (compare (entry (local refl) there (map_at_rest pos flags i left)) number
-                (eq_is x 0 ∙ clear)) end)
-                (next (assign (increment refl (small_sum p.width i 1 (omega (arith, all, small))))) end))
-                (later (omega (arith, some)) (omega (arith, is))))
+  loop : (rest : List ℕ) (i m : ℕ) → drop i flags ≡ rest → i + length rest ≡ length flags
+      → set_flags rest < length rest → i + set_flags rest ≡ m
+      → Loops p d clear_loop (at_flag r i) w Normal (at_flag r m) w (3 * set_flags rest + 3)
+  loop [] i m left all some is = absurd (omega (arith, some))
+  loop (x ∷ rest) i m left all some is = from (nat_eq x 0) refl some is
+      (λ h g. loop rest (i + 1) m (after_rest flags i left) (omega (arith, all)) h g) where
+        from : (b : Bool) → nat_eq x 0 ≡ b
+            → cond (not b) (1 + set_flags rest) 0 < length (x ∷ rest)
+            → i + cond (not b) (1 + set_flags rest) 0 ≡ m
+            → (set_flags rest < length rest → i + 1 + set_flags rest ≡ m → Loops p d clear_loop
+            (at_flag r (i + 1)) w Normal (at_flag r m) w (3 * set_flags rest + 3))
+            → Loops p d clear_loop (at_flag r i) w Normal (at_flag r m) w
+            (3 * cond (not b) (1 + set_flags rest) 0 + 3)
+        from true clear some is later =
+            let here : i ≡ m = omega (arith, is) in
+            subst (λ m. Loops p d clear_loop (at_flag r i) w Normal (at_flag r m) w 3) here
+            (loop_broken (compare number number refl) refl (breaks (if_true
+            (compare (entry (local refl) there (map_at_rest pos flags i left)) number
+            (eq_is x 0 ∙ clear)) (breaks break))))
+        from false clear some is later = within (omega arith) (while_once_more
+            (compare number number refl)
+            (next (if_false (compare (entry (local refl) there (map_at_rest pos flags i left)) number
+            (eq_is x 0 ∙ clear)) end)
+            (next (assign (increment refl (small_sum p.width i 1 (omega (arith, all, small))))) end))
+            (later (omega (arith, some)) (omega (arith, is))))
 
 pub first_clear_is_found : FirstClearIsFound
 first_clear_is_found p d w flags small some has there = does_within (omega arith) (routine has

@@ -1,5 +1,5 @@
 -- The rules of conditions: whether they hold.
-use Rattle.std.proofs.Common.{◌≡◌, ℕ, ◌+◌, ℤ, pos, Bool, true, false, not, Option, None, refl, ap}
+use Rattle.std.proofs.Common.{◌≡◌, ℕ, ◌+◌, ℤ, pos, Bool, true, false, not, None, refl, ap}
 use Rattle.std.specs.Ordering.{int_eq}
 use Rattle.inform_tree.specs.declared.conditions.Relation.{Relation}
 use Rattle.inform_tree.specs.Values.{Expression}

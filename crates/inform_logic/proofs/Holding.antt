@@ -1,5 +1,5 @@
 -- What a program of directives holds, and lists of directives by their parts.
-use Rattle.std.proofs.Common.{◌≡◌, ◌≢◌, ◌∙◌, arith, ℕ, zero, suc, ◌+◌, Bool, true, false, cond, List, [], ◌∷◌, ◌++◌, drop, slice_get, map, Option, Some, None, option_map, refl, sym, ap, subst}
+use Rattle.std.proofs.Common.{◌≡◌, ◌≢◌, ◌∙◌, arith, ℕ, zero, suc, ◌+◌, Bool, true, false, cond, List, [], ◌∷◌, ◌++◌, drop, slice_get, Option, Some, None, option_map, refl, sym, ap, subst}
 use Rattle.std.specs.List.{AllByRecursion, position_from}
 use Rattle.std.specs.Option.{option_and_then, unwrap_or}
 use Rattle.std.specs.Str.{bytes_eq}
@@ -12,8 +12,7 @@ use Rattle.inform_names.specs.Meanings.{name_of, meanings, first_directive}
 use Rattle.inform_names.specs.Laws.{MeaningsAreFirst}
 use Rattle.inform_meaning.specs.Worlds.{Program}
 use Rattle.inform_meaning.specs.Programs.{program_in, number_of, routine_in, global_in, array_in}
-use Rattle.inform_logic.specs.Stages.{Stage}
-use Rattle.inform_logic.specs.Holding.{Held, Holds, Opened, Opens, opening_stage, Distinct}
+use Rattle.inform_logic.specs.Holding.{Held, Holds, Opened, opening_stage, Distinct}
 use Rattle.inform_logic.specs.Laws.{ProgramHolds, OpeningOpens}
 use Rattle.inform_logic.proofs.Lists.{at_rest, after_rest}
 
@@ -80,21 +79,21 @@ first_is (y ∷ ys) i (suc at) x distinct is = ap (λ b. cond b (Some i) (positi
 
 module _ (law : MeaningsAreFirst) (width : Width) (ds : List DirectiveTree) (distinct : Distinct ds)
     (at : ℕ) (x : DirectiveTree) (there : slice_get ds at ≡ Some x) where
-      meant : option_map (λ m. m.at) (meanings width ds (name_of x)) ≡ Some at
-      meant = law width ds (name_of x) ∙ first_is ds 0 at x distinct there ∙ ap Some (omega arith)
+  meant : option_map (λ m. m.at) (meanings width ds (name_of x)) ≡ Some at
+  meant = law width ds (name_of x) ∙ first_is ds 0 at x distinct there ∙ ap Some (omega arith)
 
-      number_is : number_of (meanings width ds (name_of x)) ≡ at
-      number_is = by (meanings width ds (name_of x)) meant where
-        by : (o : Option Meaning) → option_map (λ m. m.at) o ≡ Some at → number_of o ≡ at
-        by None h = cc
-        by (Some m) h = ap (λ o. unwrap_or o 0) h
+  number_is : number_of (meanings width ds (name_of x)) ≡ at
+  number_is = by (meanings width ds (name_of x)) meant where
+    by : (o : Option Meaning) → option_map (λ m. m.at) o ≡ Some at → number_of o ≡ at
+    by None h = cc
+    by (Some m) h = ap (λ o. unwrap_or o 0) h
 
-      directive_is : first_directive width ds (name_of x) ≡ Some x
-      directive_is = by (meanings width ds (name_of x)) meant ∙ there where
-        by : (o : Option Meaning) → option_map (λ m. m.at) o ≡ Some at
-            → option_and_then (λ m. slice_get ds m.at) o ≡ slice_get ds at
-        by None h = cc
-        by (Some m) h = ap (λ o. slice_get ds (unwrap_or o 0)) h
+  directive_is : first_directive width ds (name_of x) ≡ Some x
+  directive_is = by (meanings width ds (name_of x)) meant ∙ there where
+    by : (o : Option Meaning) → option_map (λ m. m.at) o ≡ Some at
+        → option_and_then (λ m. slice_get ds m.at) o ≡ slice_get ds at
+    by None h = cc
+    by (Some m) h = ap (λ o. slice_get ds (unwrap_or o 0)) h
 
 held_by : (law : MeaningsAreFirst) (width : Width) (ds : List DirectiveTree)
     (notes : List ℕ → ℕ → Option ℕ) → Distinct ds → (at : ℕ) (x : DirectiveTree)
@@ -102,10 +101,12 @@ held_by : (law : MeaningsAreFirst) (width : Width) (ds : List DirectiveTree)
 held_by law width ds notes distinct at (t.Constant name x) there = tt
 held_by law width ds notes distinct at (t.Global name x) there = tt
 held_by law width ds notes distinct at (t.Array name words xs) there = tt
-held_by law width ds notes distinct at (t.Routine r) there = (at,
+held_by law width ds notes distinct at (t.Routine r) there = (
+  at,
   ap (λ n. option_and_then (routine_in n) (first_directive width ds r.name))
       (number_is law width ds distinct at (t.Routine r) there)
-  ∙ ap (option_and_then (routine_in at)) (directive_is law width ds distinct at (t.Routine r) there))
+      ∙ ap (option_and_then (routine_in at)) (directive_is law width ds distinct at (t.Routine r) there),
+)
 
 pub program_holds : MeaningsAreFirst → ProgramHolds
 program_holds law width ds notes distinct = all_from (Held (program_in width ds notes)) ds

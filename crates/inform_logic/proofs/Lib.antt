@@ -20,3 +20,5 @@ pub mod Said
 pub mod Cleared
 pub mod Asked
 pub mod LineNoted
+pub mod AskedRuns
+pub mod NumbersSaid

@@ -1,6 +1,5 @@
 -- A line whose number is noted.
 use Rattle.std.proofs.Common.{arith, refl}
-use Rattle.inform_logic.specs.Stages.{with_past}
 use Rattle.inform_logic.specs.Worked.{LineIsNoted}
 use Rattle.inform_logic.proofs.Values.{number, called}
 use Rattle.inform_logic.proofs.Statements.{next, returns, call_alone, return}

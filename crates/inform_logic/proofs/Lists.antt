@@ -1,5 +1,5 @@
 -- Lists by what is left of them from a place on.
-use Rattle.std.proofs.Common.{◌≡◌, ◌∙◌, ℕ, zero, suc, ◌+◌, List, [], ◌∷◌, map, drop, slice_get, Option, Some, option_map, ap, add-one}
+use Rattle.std.proofs.Common.{◌≡◌, ◌∙◌, ℕ, zero, suc, ◌+◌, List, [], ◌∷◌, map, drop, slice_get, Some, option_map, ap, add-one}
 use Rattle.std.proofs.lemmas.Option.{slice_get-map}
 
 -- the element at which the rest begins

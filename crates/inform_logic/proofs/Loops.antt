@@ -1,5 +1,5 @@
 -- The rules of loops: a turn of them, and how they are left.
-use Rattle.std.proofs.Common.{◌≡◌, arith, ℕ, ◌+◌, ℤ, Bool, true, false, Option, Some, None, refl}
+use Rattle.std.proofs.Common.{◌≡◌, arith, ℕ, ◌+◌, ℤ, Bool, true, false, Option, refl}
 use Rattle.inform_tree.specs.Conditions.{Condition}
 use Rattle.inform_tree.specs.Statements.{Statements, Assignment}
 use Rattle.inform_meaning.specs.Worlds.{Program, Scope, Config}
@@ -11,7 +11,7 @@ use Rattle.inform_meaning.specs.Runs.{call_at}
 use Rattle.inform_meaning.proofs.Looping.{loop_once}
 use Rattle.inform_meaning.proofs.GoingTrees.{test_if_any-going, exec_all-going, alter_if_any-going}
 use Rattle.inform_meaning.proofs.GoingRuns.{call_at-going}
-use Rattle.inform_logic.specs.Stages.{Stage, in_scope}
+use Rattle.inform_logic.specs.Stages.{Stage}
 use Rattle.inform_logic.specs.Leading.{Leaves, Leads, AfterTest, AfterBody, TestsIfAny, Tests, ChangesIfAny, Runs, Loops}
 use Rattle.inform_logic.proofs.Opened.{opened}
 use Rattle.inform_logic.proofs.Steps.{nothing_taken, and_then, truth_then, normal_then, one_step, takes_same, chosen, not_chosen}

@@ -1,5 +1,5 @@
 -- The rules of `print`: what its items say.
-use Rattle.std.proofs.Common.{◌≡◌, ◌∙◌, ℕ, ◌+◌, ℤ, List, [], ◌∷◌, ◌++◌, refl, sym, ap, append_assoc}
+use Rattle.std.proofs.Common.{◌≡◌, ◌∙◌, ℕ, ◌+◌, ℤ, List, [], ◌∷◌, ◌++◌, refl, sym, ap, append_assoc, append-nil}
 use Rattle.std.proofs.lemmas.List.{map-append}
 use Rattle.adv_io.specs.Steps.{Said, said_steps}
 use Rattle.std.specs.Fmt.{signed_decimal}
@@ -7,12 +7,15 @@ use Rattle.inform_tree.specs.Values.{Expression}
 use Rattle.inform_tree.specs.Statements.{PrintItem, Text, Value, Char}
 use Rattle.inform_meaning.specs.Words.{low_byte}
 use Rattle.inform_meaning.specs.Worlds.{Program, Scope}
-use Rattle.inform_logic.specs.Stages.{Stage, in_scope, with_past, said}
+use Rattle.inform_logic.specs.Stages.{Stage, with_past, said}
 use Rattle.inform_logic.specs.Leading.{Evaluates, Prints}
 use Rattle.inform_logic.proofs.Opened.{opened}
 use Rattle.inform_logic.proofs.Steps.{nothing_taken, value_then, with_said}
 
--- texts that are said one after the other
+-- an empty text, and two texts that are said one after the other
+pub said_nothing : (w : Stage) → said [] w ≡ w
+said_nothing w = ap (λ past. with_past past w) (append-nil w.past)
+
 pub said_twice : (xs ys : List ℕ) (w : Stage) → said ys (said xs w) ≡ said (xs ++ ys) w
 said_twice xs ys w = ap (λ past. with_past past w) (append_assoc w.past (said_steps xs) (said_steps ys)
     ∙ ap (λ ss. w.past ++ ss) (sym (map-append Said xs ys)))

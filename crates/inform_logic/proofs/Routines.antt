@@ -1,15 +1,14 @@
 -- The rules of routines: what a call of one does, by its body.
-use Rattle.std.proofs.Common.{◌≡◌, ◌∙◌, ℕ, suc, ◌+◌, ◌≤◌, ℤ, pos, List, [], ◌∷◌, ◌++◌, Option, Some, None, refl, sym, ap, subst}
+use Rattle.std.proofs.Common.{◌≡◌, ◌∙◌, ℕ, suc, ◌≤◌, ℤ, List, [], ◌∷◌, ◌++◌, Option, Some, sym, ap, subst}
 use Rattle.adv_io.specs.Steps.{Noted}
 use Rattle.inform_tree.specs.Programs.{RoutineTree}
 use Rattle.inform_meaning.specs.Worlds.{Program, Scope, Config, scope_of, with_note}
 use Rattle.inform_meaning.specs.Frames.{Outcome, Value, Truth, Normal, Returns, Breaks, Continues, Halts, Waits, returned, within_scope, on_return, bind}
 use Rattle.inform_meaning.specs.Statements.{exec_all}
-use Rattle.inform_meaning.specs.Runs.{noted_body, entered, enter, call_at}
-use Rattle.inform_logic.specs.Stages.{Stage, in_scope, with_past}
+use Rattle.inform_meaning.specs.Runs.{noted_body, enter, call_at}
+use Rattle.inform_logic.specs.Stages.{Stage, with_past}
 use Rattle.inform_logic.specs.Leading.{Leaves, Takes, Runs, Does}
 use Rattle.inform_logic.specs.Holding.{routine_at, Has, Notes}
-use Rattle.inform_logic.proofs.Opened.{opened}
 use Rattle.inform_logic.proofs.Steps.{finally, takes_within}
 
 pub does_within : {p : Program} {d : ℕ} {f : List ℕ} {values : List ℤ} {w w' : Stage} {v : ℤ}

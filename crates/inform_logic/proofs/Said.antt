@@ -1,10 +1,8 @@
 -- The switch that says where a place is.
-use Rattle.std.proofs.Common.{◌≡◌, ◌∙◌, arith, ℕ, suc, pos, decimal, nat_eq, nat_le, ◌&&◌, if◌then◌else◌, Bool, true, false, List, [], ◌∷◌, ◌++◌, codes, refl, ap, subst}
-use Rattle.inform_meaning.specs.Worlds.{Program}
-use Rattle.inform_logic.specs.Stages.{Stage, said}
+use Rattle.std.proofs.Common.{◌≡◌, arith, suc, pos, decimal, nat_eq, nat_le, ◌&&◌, if◌then◌else◌, Bool, true, false, [], ◌∷◌, ◌++◌, codes, refl, subst}
+use Rattle.inform_logic.specs.Stages.{said}
 use Rattle.inform_logic.specs.Leading.{Does}
-use Rattle.inform_logic.specs.Holding.{Has}
-use Rattle.inform_logic.specs.Worked.{say_place, place_text, PlaceIsSaid}
+use Rattle.inform_logic.specs.Worked.{PlaceIsSaid}
 use Rattle.inform_logic.proofs.Choices.{one_number, one_range}
 use Rattle.inform_logic.proofs.Values.{local}
 use Rattle.inform_logic.proofs.Printing.{print_nothing, print_text, print_number, said_twice}
@@ -15,6 +13,7 @@ pub place_is_said : PlaceIsSaid
 place_is_said p d w n has = by (nat_eq n 0) (nat_le n 9) refl refl where
   within : (few : Bool) → nat_eq n 0 ≡ false → nat_le n 9 ≡ few → nat_le 1 n && nat_le n 9 ≡ few
   within few is h = grind (arith, is, h)
+
   by : (zero few : Bool) → nat_eq n 0 ≡ zero → nat_le n 9 ≡ few → Does p (suc d) (codes "say_place")
       (pos n ∷ []) w (pos 1)
       (said (if zero then codes "nowhere" else if few then codes "room " ++ decimal n else codes "held") w) 2

@@ -1,19 +1,18 @@
 -- The rules of statements: what they execute, each with a step of its own.
-use Rattle.std.proofs.Common.{◌≡◌, ◌∙◌, ℕ, ◌+◌, ℤ, pos, Bool, true, false, List, [], ◌∷◌, ◌++◌, Option, Some, None, refl, ap}
+use Rattle.std.proofs.Common.{◌≡◌, ◌∙◌, ℕ, ◌+◌, ℤ, pos, true, false, List, [], ◌∷◌, ◌++◌, Option, Some, None, refl, ap}
 use Rattle.std.specs.Prelude.{unwrap_or}
 use Rattle.adv_io.specs.Steps.{Took}
 use Rattle.inform_tree.specs.Values.{Expression, Arguments}
 use Rattle.inform_tree.specs.Conditions.{Condition}
-use Rattle.inform_tree.specs.Statements.{Statement, Empty, Block, Assign, Call, If, While, Do, For, Switch, Break, Continue, Quit, Rtrue, Rfalse, Return, NewLine, Print, Read, Statements, NoStatements, MoreStatements, Cases, NoCases, MoreCases, Default, NoDefault, SomeDefault, Assignment, PrintItem, Choice}
+use Rattle.inform_tree.specs.Statements.{Statement, Empty, Block, Assign, Call, If, While, Do, For, Switch, Break, Continue, Rtrue, Rfalse, Return, NewLine, Print, Read, Statements, NoStatements, MoreStatements, Cases, NoCases, MoreCases, Default, NoDefault, SomeDefault, Assignment, PrintItem, Choice}
 use Rattle.inform_meaning.specs.Worlds.{Program, Scope, has_room, filled}
-use Rattle.inform_meaning.specs.Frames as f
-use Rattle.inform_meaning.specs.Frames.{Outcome, Normal, Returns, Breaks, Continues, Halts, when}
+use Rattle.inform_meaning.specs.Frames.{Outcome, Normal, Returns, Breaks, Continues, when}
 use Rattle.inform_meaning.specs.Statements.{while_loop, do_loop, for_loop}
 use Rattle.inform_meaning.specs.declared.traps.Trap.TheVariants as t
 use Rattle.inform_meaning.specs.Tables.{put_by}
 use Rattle.inform_meaning.specs.Parts.{line_at, take_line, read_line, trap}
 use Rattle.inform_logic.specs.Stages.{Stage, world_in, in_scope, with_array, said}
-use Rattle.inform_logic.specs.Leading.{Leaves, Leads, TheAct, TheCases, AfterBody, Evaluates, Calls, Tests, Changes, ChangesIfAny, Prints, Executes, Runs, Loops, Fits, Takes}
+use Rattle.inform_logic.specs.Leading.{Leaves, Leads, TheAct, TheCases, AfterBody, Evaluates, Calls, Tests, Changes, ChangesIfAny, Prints, Executes, Runs, Loops, Fits}
 use Rattle.inform_logic.proofs.Opened.{opened}
 use Rattle.inform_logic.proofs.Steps.{nothing_taken, and_then, value_then, truth_then, normal_then, finally, one_step, with_said, chosen, not_chosen}
 
@@ -171,10 +170,19 @@ module _ {p : Program} {d : ℕ} where
   unfolding opened when
   read {a} {s = s} {w} {xs} {line} {lines} there room left = step (record { takes = nothing_taken taken })
     where
-      taken : (k : ℕ) → read_line a (in_scope k s w) ≡ (Normal, in_scope k s
-          (with_array a (filled xs line) (record w { lines = lines; past = w.past ++ Took line ∷ [] })))
+      taken : (k : ℕ) → read_line a (in_scope k s w) ≡ (
+        Normal,
+        in_scope k s
+            (with_array a (filled xs line) (record w { lines = lines; past = w.past ++ Took line ∷ [] })),
+      )
       taken k = ap (λ b. when b (take_line a) (trap t.Line) (in_scope k s w))
           (ap (λ o. has_room (unwrap_or o [])) there ∙ room)
           ∙ ap (λ ls. line_at ls a (in_scope k s w)) left
-          ∙ ap (λ o. (Normal, record (in_scope k s w) { lines = lines; past = w.past ++ Took line ∷ [];
-          world = record (world_in s w) { arrays = put_by o w.arrays a (filled (unwrap_or o []) line) } })) there
+          ∙ ap (λ o. (
+            Normal,
+            record (in_scope k s w) {
+              lines = lines;
+              past = w.past ++ Took line ∷ [];
+              world = record (world_in s w) { arrays = put_by o w.arrays a (filled (unwrap_or o []) line) };
+            },
+          )) there

@@ -1,11 +1,11 @@
 -- What stops a run is handed up: by the parts around it, and by the routines.
-use Rattle.std.proofs.Common.{◌≡◌, ◌∙◌, ℕ, suc, ◌+◌, ◌≤◌, ℤ, Bool, true, List, [], ◌∷◌, ◌++◌, Option, Some, None, refl, ap, subst, sym}
-use Rattle.inform_meaning.specs.Worlds.{Program, Scope, Config}
-use Rattle.inform_meaning.specs.Frames.{Halt, Lack, Frame, Calling, Outcome, Value, Normal, Halts, Waits, Meaning, bind, when, on_normal, on_value, on_truth, on_body, on_return}
+use Rattle.std.proofs.Common.{◌≡◌, ◌∙◌, ℕ, ◌+◌, ℤ, Bool, true, List, [], ◌∷◌, ◌++◌, refl, ap, subst, sym}
+use Rattle.inform_meaning.specs.Worlds.{Scope, Config}
+use Rattle.inform_meaning.specs.Frames.{Halt, Lack, Frame, Calling, Outcome, Value, Halts, Waits, Meaning, bind, when, on_normal, on_value, on_truth, on_body, on_return}
 use Rattle.inform_meaning.specs.Runs.{Stop, Halted, Lacking}
 use Rattle.inform_logic.specs.Stages.{Stage, in_scope}
-use Rattle.inform_logic.specs.Leading.{Leaves, Takes, Part, meaning_of, Leads}
-use Rattle.inform_logic.specs.Stopping.{IsStop, Ends, Stops, CallStops}
+use Rattle.inform_logic.specs.Leading.{Leaves, Takes}
+use Rattle.inform_logic.specs.Stopping.{IsStop, Ends}
 use Rattle.inform_logic.proofs.Steps.{finally, value_then, chosen}
 
 -- what is done with the outcome of a part leaves a stop as it is, perhaps in another scope

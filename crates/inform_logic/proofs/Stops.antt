@@ -1,5 +1,5 @@
 -- The rules of what stops a run: where it begins, and how it is handed up to the whole.
-use Rattle.std.proofs.Common.{◌≡◌, ◌∙◌, arith, ℕ, zero, suc, ◌+◌, ℤ, Bool, true, false, List, [], ◌∷◌, ◌++◌, Option, Some, None, refl, ap, subst, sym}
+use Rattle.std.proofs.Common.{◌≡◌, ◌∙◌, arith, ℕ, suc, ◌+◌, ℤ, Bool, true, false, List, [], ◌∷◌, ◌++◌, Option, Some, refl, ap}
 use Rattle.std.specs.Prelude.{unwrap_or, int_lt, pos}
 use Rattle.inform_tree.specs.declared.conditions.Relation.{Relation}
 use Rattle.inform_tree.specs.Values.{Expression, Random, NoArguments}
@@ -10,13 +10,13 @@ use Rattle.inform_tree.specs.Programs.{RoutineTree}
 use Rattle.inform_logic.specs.Holding.{routine_at, Has, Notes}
 use Rattle.inform_meaning.specs.declared.traps.Trap.TheVariants as t
 use Rattle.inform_meaning.specs.Worlds.{Program, Scope, scope_of, with_note, has_room}
-use Rattle.inform_meaning.specs.Frames.{Loop, CallDue, DrawDue, Due, LineDue, TurnDue, Outcome, Normal, Halts, Waits, Begins, Quits, NeedsLine, NeedsDraw, Spent, Meaning, bind, when, on_return}
-use Rattle.inform_meaning.specs.Parts.{tick_at, tick, trap, draw_at, take_draw, line_at, take_line, read_line}
-use Rattle.inform_meaning.specs.Statements.{turns, loop_goes_on, exec_all}
-use Rattle.inform_meaning.specs.Runs.{Stop, Halted, Lacking, noted_body, enter, call_at}
-use Rattle.inform_logic.specs.Stages.{plus, Stage, in_scope, with_past}
-use Rattle.inform_logic.specs.Leading.{Takes, Leads, Part, TheValue, TheCall, TheTest, TheChange, TheAct, TheStatement, TheBlock, TheTurns, Evaluates, Calls, TestsIfAny, Executes, Loops}
-use Rattle.inform_logic.specs.Stopping.{IsStop, Ends, Stops, CallStops, First, in_entry, in_random, in_negation, in_sum, in_term, in_product, in_factor, in_call, in_argument, in_comparison, in_nonzero, in_negated, in_all, in_one_of_all, in_any, in_one_of_any, in_set, in_index, in_number, in_character, in_statements, in_assignment, in_print, in_call_alone, in_return, in_if, in_switch, in_while, in_do, in_for, in_block, in_body, in_change}
+use Rattle.inform_meaning.specs.Frames.{Loop, CallDue, DrawDue, Due, LineDue, TurnDue, Outcome, Begins, Quits, NeedsLine, NeedsDraw, Spent, when}
+use Rattle.inform_meaning.specs.Parts.{tick, trap, draw_at, take_draw, line_at, take_line}
+use Rattle.inform_meaning.specs.Statements.{turns}
+use Rattle.inform_meaning.specs.Runs.{Stop, Halted, Lacking, noted_body}
+use Rattle.inform_logic.specs.Stages.{Stage, in_scope, with_past}
+use Rattle.inform_logic.specs.Leading.{Leads, Part, TheValue, TheCall, TheTest, TheChange, TheAct, TheStatement, TheBlock, TheTurns, Evaluates}
+use Rattle.inform_logic.specs.Stopping.{IsStop, Stops, CallStops, First, in_entry, in_random, in_negation, in_sum, in_term, in_product, in_factor, in_call, in_argument, in_comparison, in_nonzero, in_negated, in_all, in_one_of_all, in_any, in_one_of_any, in_set, in_index, in_number, in_character, in_statements, in_assignment, in_print, in_call_alone, in_return, in_if, in_switch, in_while, in_do, in_for, in_block, in_body, in_change}
 use Rattle.inform_logic.proofs.Opened.{opened}
 use Rattle.inform_logic.proofs.Steps.{nothing_taken, finally, one_step}
 use Rattle.inform_logic.proofs.Stopping.{with_takes, passes_value, passes_truth, passes_normal, passes_body, passes_return, ends_first, ends_after, ends_chosen}
@@ -41,10 +41,12 @@ module _ {p : Program} {d : ℕ} where
       → Stops p d (TheStatement (Read a words)) s w (Lacking NeedsLine) w 1
   unfolding when
   read_waits {a} {s = s} {w} there room left =
-      stopped (Begins (LineDue a) ∷ [], refl) (step (record { takes = nothing_taken (λ k.
-          ap (λ b. when b (take_line a) (trap t.Line) (in_scope k s w))
-          (ap (λ o. has_room (unwrap_or o [])) there ∙ room)
-          ∙ ap (λ ls. line_at ls a (in_scope k s w)) left) }))
+      stopped (Begins (LineDue a) ∷ [], refl) (step (record {
+        takes = nothing_taken (λ k.
+            ap (λ b. when b (take_line a) (trap t.Line) (in_scope k s w))
+            (ap (λ o. has_room (unwrap_or o [])) there ∙ room)
+            ∙ ap (λ ls. line_at ls a (in_scope k s w)) left);
+      }))
 
   -- no draw is left
   pub random_waits : {x : Expression} {s : Scope} {w w' : Stage} {limit : ℤ} {n : ℕ}
@@ -52,9 +54,11 @@ module _ {p : Program} {d : ℕ} where
       → Stops p d (TheValue (Random x)) s w (Lacking NeedsDraw) w' n
   unfolding opened when
   random_waits {s = s} {w' = w'} {limit = limit} x some left =
-      stopped (Begins (DrawDue limit) ∷ [], refl) (record { takes = finally _ (λ j h. tt) x.takes (λ k.
-          ap (λ b. when b (trap t.Random) (take_draw limit) (in_scope k s w')) some
-          ∙ ap (λ draws. draw_at draws limit (in_scope k s w')) left) })
+      stopped (Begins (DrawDue limit) ∷ [], refl) (record {
+        takes = finally _ (λ j h. tt) x.takes (λ k.
+            ap (λ b. when b (trap t.Random) (take_draw limit) (in_scope k s w')) some
+            ∙ ap (λ draws. draw_at draws limit (in_scope k s w')) left);
+      })
 
   -- no step is left: at a statement, at a call and at a turn of a loop
   pub statement_waits : {x : Statement} {s : Scope} {w : Stage}

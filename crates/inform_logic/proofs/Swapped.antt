@@ -1,5 +1,5 @@
 -- The swap of two globals by a helper.
-use Rattle.std.proofs.Common.{ℕ, pos, is_some, refl, ap}
+use Rattle.std.proofs.Common.{is_some, refl, ap}
 use Rattle.inform_logic.specs.Worked.{GlobalsAreSwapped}
 use Rattle.inform_logic.proofs.Values.{local, global, argument, called, call}
 use Rattle.inform_logic.proofs.Changes.{set_variable}

@@ -1,5 +1,5 @@
 -- The rules of values: what they evaluate to.
-use Rattle.std.proofs.Common.{◌≡◌, ◌∙◌, arith, ℕ, suc, ◌+◌, ◌≤◌, ℤ, pos, int_lt, Bool, false, List, [], ◌∷◌, ◌++◌, Option, Some, None, refl, sym, ap, subst}
+use Rattle.std.proofs.Common.{◌≡◌, ◌∙◌, arith, ℕ, ◌+◌, ◌≤◌, ℤ, pos, int_lt, Bool, false, List, [], ◌∷◌, ◌++◌, Some, None, refl, sym, ap, subst}
 use Rattle.std.specs.Prelude.{unwrap_or}
 use Rattle.adv_io.specs.Steps.{Drew}
 use Rattle.inform_tree.specs.declared.values.SumOp.{SumOp}
@@ -13,7 +13,7 @@ use Rattle.inform_meaning.specs.Frames.{Outcome, Value, when}
 use Rattle.inform_meaning.specs.Parts.{trap, entry_by, draw_at, take_draw}
 use Rattle.inform_meaning.specs.Meaning.{on_product, eval_product}
 use Rattle.inform_meaning.specs.Runs.{call_at}
-use Rattle.inform_logic.specs.Stages.{Stage, in_scope, with_past}
+use Rattle.inform_logic.specs.Stages.{Stage, in_scope}
 use Rattle.inform_logic.specs.Leading.{Takes, Leads, Part, Evaluates, Calls, Sums, Multiplies, Does}
 use Rattle.inform_logic.proofs.Opened.{opened}
 use Rattle.inform_logic.proofs.Steps.{nothing_taken, value_then, finally, one_step, takes_within}
@@ -86,7 +86,7 @@ module _ {p : Program} {d : ℕ} where
   unfolding opened
   more_terms {op} {x} {xs} {s} {w} {w1} {w'} {a} {b} {v = v} {m = m} y is rest =
       let rest' : Sums p d (summed p.width op a b) xs s w1 v w' m =
-              subst (λ c. Sums p d c xs s w1 v w' m) (sym is) rest in
+      subst (λ c. Sums p d c xs s w1 v w' m) (sym is) rest in
       record { takes = value_then _ y.takes rest'.takes }
 
   pub sum : {x : Expression} {xs : Terms} {s : Scope} {w w1 w' : Stage} {a v : ℤ} {n m : ℕ}

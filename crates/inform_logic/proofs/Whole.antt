@@ -1,5 +1,5 @@
 -- The rules of whole runs: from the body of `Main` to where the run stops.
-use Rattle.std.proofs.Common.{◌≡◌, ◌∙◌, arith, ℕ, ◌-◌, ◌≤◌, ℤ, List, [], ◌∷◌, refl, sym, ap, subst}
+use Rattle.std.proofs.Common.{◌≡◌, arith, ℕ, ◌-◌, ◌≤◌, ℤ, [], ◌∷◌, refl, sym, ap, subst}
 use Rattle.inform_tree.specs.Statements.{Statements}
 use Rattle.inform_meaning.specs.Worlds.{Program, Scope, Config}
 use Rattle.inform_meaning.specs.Frames.{Main, Quits, Outcome, Value, Truth, Normal, Returns, Breaks, Continues, Halts, Waits, Meaning, bind, on_main}
@@ -7,7 +7,7 @@ use Rattle.inform_meaning.specs.Runs.{CALL_LIMIT, Stop, Halted, Lacking, resume_
 use Rattle.inform_meaning.specs.Frames.{returned}
 use Rattle.inform_meaning.specs.Programs.{program_in}
 use Rattle.inform_logic.specs.Stages.{plus, Stage, in_scope, stage_of}
-use Rattle.inform_logic.specs.Leading.{Leaves, Takes, Runs, TheBlock}
+use Rattle.inform_logic.specs.Leading.{Leaves, Runs, TheBlock}
 use Rattle.inform_logic.specs.Stopping.{IsStop, Ends, Stops, stop_leaves, Stopped}
 use Rattle.inform_logic.specs.Laws.{RunStops}
 use Rattle.inform_logic.proofs.Opened.{opened}
@@ -75,7 +75,7 @@ pub stops_within : {m : Meaning} {s : Scope} {w w' : Stage} {stop : Stop} {n : �
 stops_within {m} {s} {w} {w'} {stop} x any steps enough =
     let k : ℕ = steps - x.takes.steps in
     let all : plus x.takes.steps k ≡ steps =
-            omega (arith, plus_is x.takes.steps k, x.takes.few, enough) in
+    omega (arith, plus_is x.takes.steps k, x.takes.few, enough) in
     subst (λ n. Stopped (m (in_scope n s w)) stop w') all (stops_with x k (any k))
 
 -- a program of directives, from its opening on

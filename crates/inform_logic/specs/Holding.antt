@@ -38,7 +38,8 @@ pub record Notes (p : Program) (r : RoutineTree) (number : ℕ) : Type 0 where
 abbrev pub Opened : Width → Known → Stage → DirectiveTree → Type 0
 Opened width known w (t.Constant name x) = Unit {0}
 Opened width known w (t.Global name x) = w.globals name ≡ global_in width known (t.Global name x)
-Opened width known w (t.Array name words xs) = w.arrays name ≡ Some (entries_in width known words xs)
+Opened width known w (t.Array name words xs) =
+    w.arrays name ≡ Some (entries_in width known words xs)
 Opened width known w (t.Routine r) = Unit {0}
 
 abbrev pub Opens : Width → Known → Stage → List DirectiveTree → Type 0

@@ -27,6 +27,7 @@ RunStops = (width : Width) (ds : List DirectiveTree) (notes : List ℕ → ℕ �
     (lines : List (List ℕ)) (draws : List ℕ) (w : Stage) (stop : Stop) (most : ℕ)
     → Stops (program_in width ds notes) CALL_LIMIT
     (TheBlock (body_of (routine_named width ds (codes "main"))))
-    (main_scope (routine_named width ds (codes "main"))) (opening_stage width ds lines draws) stop w most
+    (main_scope (routine_named width ds (codes "main"))) (opening_stage width ds lines draws) stop
+    w most
     → ((k : ℕ) → stop_leaves stop k) → (steps : ℕ) → most ≤ steps
     → Stopped (run_of width ds notes steps lines draws) stop w

@@ -4,3 +4,4 @@ pub mod Holding
 pub mod Stopping
 pub mod Laws
 pub mod Worked
+pub mod WorkedRuns

@@ -11,7 +11,7 @@ use Rattle.inform_tree.specs.Statements as t
 use Rattle.inform_tree.specs.Statements.{Statement, Statements, Cases, Default, Assignment, PrintItem}
 use Rattle.inform_meaning.specs.Worlds.{Program, Scope, Config}
 use Rattle.inform_meaning.specs.Frames.{Loop, Frame, Outcome, Normal, Halts, Waits, Meaning}
-use Rattle.inform_meaning.specs.Statements.{while_loop, do_loop, for_loop, loop_goes_on}
+use Rattle.inform_meaning.specs.Statements.{while_loop, loop_goes_on}
 use Rattle.inform_meaning.specs.Runs.{call_at, Stop, Halted, Lacking}
 use Rattle.inform_logic.specs.Stages.{Stage, stage_of}
 use Rattle.inform_logic.specs.Leading.{lack_leaves, Takes, Part, TheValue, TheCall, TheSum, TheProduct, TheTest, TheAll, TheAny, TheChange, TheItems, TheAct, TheStatement, TheBlock, TheTurns, AfterTest, AfterBody, meaning_of}
@@ -107,5 +107,6 @@ pub data First : Part → Part → Type 0 where
   -- of a block and of a loop
   in_block : {x : Statement} {xs : Statements}
       → First (TheStatement x) (TheBlock (t.MoreStatements x xs))
-  in_body : {l : Loop} {b : Bool} → loop_goes_on l b ≡ true → First (TheBlock l.body) (AfterTest l b)
+  in_body : {l : Loop} {b : Bool} → loop_goes_on l b ≡ true
+      → First (TheBlock l.body) (AfterTest l b)
   in_change : {l : Loop} → First (TheChange l.change) (AfterBody l Normal)

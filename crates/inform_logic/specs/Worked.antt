@@ -1,9 +1,8 @@
 -- Worked routines, as trees, and what they do in every program that has them.
-use Rattle.std.specs.Prelude.{◌≡◌, ℕ, suc, ◌+◌, ◌*◌, ◌<◌, ◌≤◌, ℤ, pos, nat_eq, nat_le, true, not, decimal, if◌then◌else◌, List, [], ◌∷◌, ◌++◌, map, length, count_by, codes, Some, None}
+use Rattle.std.specs.Prelude.{◌≡◌, ℕ, zero, suc, ◌+◌, ◌*◌, ◌<◌, ℤ, pos, nat_eq, nat_le, true, not, decimal, if◌then◌else◌, List, [], ◌∷◌, ◌++◌, map, length, count_by, codes, Some, None}
 use Rattle.std.specs.List.{prefix_len}
 use Rattle.adv_io.specs.Steps.{Took, Noted}
 use Rattle.inform_tree.specs.declared.values.Const.TheVariants as k
-use Rattle.inform_tree.specs.declared.values.SumOp.TheVariants.{Add}
 use Rattle.inform_tree.specs.declared.conditions.Relation.TheVariants.{Eq, Lt}
 use Rattle.inform_tree.specs.Values as v
 use Rattle.inform_tree.specs.Values.{Expression}
@@ -71,7 +70,8 @@ CarriedIsCounted = (p : Program) (d : ℕ) (w : Stage) (places : List ℕ) → l
     → Does p (suc d) (codes "carried") [] w (pos (count_by (λ place. nat_eq place 255) places)) w
     (3 * length places + 3)
 
--- ---- `[ move_to r old; old = here; here = r; return old; ];` and `[ swap; saved = move_to(saved); ];`
+-- ---- `[ move_to r old; old = here; here = r; return old; ];` and
+-- `[ swap; saved = move_to(saved); ];`
 
 abbrev pub move_to : RoutineTree
 move_to = routine (codes "move_to") (codes "r" ∷ codes "old" ∷ [])
@@ -96,7 +96,8 @@ abbrev pub say_place : RoutineTree
 say_place = routine (codes "say_place") (codes "n" ∷ []) (t.Switch (name (codes "n"))
     (t.MoreCases ((k.Number 0, None) ∷ []) (statements (text (codes "nowhere") ∷ []))
     (t.MoreCases ((k.Number 1, Some (k.Number 9)) ∷ [])
-    (statements (t.Print (t.Text (codes "room ") ∷ t.Value (name (codes "n")) ∷ []) ∷ [])) t.NoCases))
+    (statements (t.Print (t.Text (codes "room ") ∷ t.Value (name (codes "n")) ∷ []) ∷ []))
+    t.NoCases))
     (t.SomeDefault (statements (text (codes "held") ∷ []))) ∷ [])
 
 abbrev pub place_text : ℕ → List ℕ
@@ -112,12 +113,13 @@ PlaceIsSaid = (p : Program) (d : ℕ) (w : Stage) (n : ℕ) → Has p say_place
 
 abbrev pub clear_loop : Loop
 clear_loop = while_loop (c.Compare Eq (v.Number 1) (v.Number 1))
-    (statements (if_only (c.Compare Eq (entry (codes "flag") (codes "i")) (v.Number 0)) (t.Break ∷ [])
-    ∷ increment (codes "i") ∷ []))
+    (statements (if_only (c.Compare Eq (entry (codes "flag") (codes "i")) (v.Number 0))
+    (t.Break ∷ []) ∷ increment (codes "i") ∷ []))
 
 abbrev pub first_clear : RoutineTree
 first_clear = routine (codes "first_clear") (codes "i" ∷ [])
-    (t.While (c.Compare Eq (v.Number 1) (v.Number 1)) clear_loop.body ∷ return (name (codes "i")) ∷ [])
+    (t.While (c.Compare Eq (v.Number 1) (v.Number 1)) clear_loop.body
+    ∷ return (name (codes "i")) ∷ [])
 
 -- how many flags there are before the first that is 0
 abbrev pub set_flags : List ℕ → ℕ
@@ -163,3 +165,24 @@ LineIsNoted = (p : Program) (d : ℕ) (w : Stage) (places : List ℕ) (number : 
     → Has p (carried (length places)) → w.arrays (codes "item") ≡ Some (map pos places)
     → Does p (suc (suc d)) (codes "line_1") [] w (pos 2)
     (with_past (w.past ++ Noted number ∷ []) w) (3 * length places + 6)
+
+-- ---- `[ numbers n i; for (i = 0 : i < n : i++) print i, " "; ];`
+
+abbrev pub numbers_loop : Loop
+numbers_loop = for_loop (Some (c.Compare Lt (name (codes "i")) (name (codes "n"))))
+    (Some (t.Inc (codes "i")))
+    (statements (t.Print (t.Value (name (codes "i")) ∷ t.Text (codes " ") ∷ []) ∷ []))
+
+abbrev pub numbers : RoutineTree
+numbers = routine (codes "numbers") (codes "n" ∷ codes "i" ∷ [])
+    (for (t.Set (codes "i") (v.Number 0)) numbers_loop ∷ [])
+
+-- so many numbers from the first one on, a space after each
+abbrev pub numbers_text : ℕ → ℕ → List ℕ
+numbers_text first zero = []
+numbers_text first (suc count) = (decimal first ++ codes " ") ++ numbers_text (first + 1) count
+
+-- It says the numbers below n.
+abbrev pub NumbersAreSaid : Type 0
+NumbersAreSaid = (p : Program) (d : ℕ) (w : Stage) (n : ℕ) → n < 32768 → Has p numbers
+    → Does p (suc d) (codes "numbers") (pos n ∷ []) w (pos 1) (said (numbers_text 0 n) w) (2 * n + 2)

@@ -1,5 +1,6 @@
 //! Worked routines, each proved by the rules. Each is the contract of a function that does nothing.
-ghost use Rattle.inform_logic.specs.Worked.{CarriedIsCounted, GlobalsAreSwapped, PlaceIsSaid, FirstClearIsFound, LineIsTaken, LineIsAwaited, LineIsNoted};
+ghost use Rattle.inform_logic.specs.Worked.{CarriedIsCounted, GlobalsAreSwapped, PlaceIsSaid, NumbersAreSaid, FirstClearIsFound, LineIsTaken, LineIsAwaited, LineIsNoted};
+ghost use Rattle.inform_logic.specs.WorkedRuns.{RunIsOver, RunWaits};
 
 /// Items are counted by a loop over their places.
 pub fn carried_is_counted()
@@ -14,6 +15,11 @@ pub fn globals_are_swapped()
 /// A `switch` says where a place is.
 pub fn place_is_said()
     ensures { PlaceIsSaid }
+{}
+
+/// A loop says numbers one after the other.
+pub fn numbers_are_said()
+    ensures { NumbersAreSaid }
 {}
 
 /// A loop is left at the first flag that is 0.
@@ -34,4 +40,14 @@ pub fn line_is_awaited()
 /// A routine that is noted calls one that isn't.
 pub fn line_is_noted()
     ensures { LineIsNoted }
+{}
+
+/// With a line the whole run takes it and is over, at both widths.
+pub fn run_is_over()
+    ensures { RunIsOver }
+{}
+
+/// Without a line it waits for one.
+pub fn run_waits()
+    ensures { RunWaits }
 {}
