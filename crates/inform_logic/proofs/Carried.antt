@@ -10,8 +10,8 @@ use Rattle.inform_logic.proofs.Words.{small_number, small_sum, eq_is}
 use Rattle.inform_logic.proofs.Values.{within, valued, number, local, entry}
 use Rattle.inform_logic.proofs.Conditions.{compare}
 use Rattle.inform_logic.proofs.Changes.{set_variable, increment}
-use Rattle.inform_logic.proofs.Statements.{end, next, returns, assign, return, if_true, if_false, for}
-use Rattle.inform_logic.proofs.Loops.{for_once_more, for_ends}
+use Rattle.inform_logic.proofs.Statements.{end, next, returns, assign, return, if_true, if_false}
+use Rattle.inform_logic.proofs.Loops.{for, for_once_more, for_ends}
 use Rattle.inform_logic.proofs.Routines.{does_within, routine}
 
 abbrev counting : ℕ → ℕ → ℕ → Scope

@@ -10,8 +10,8 @@ use Rattle.inform_logic.proofs.Words.{small_sum, eq_is}
 use Rattle.inform_logic.proofs.Values.{within, number, local, entry}
 use Rattle.inform_logic.proofs.Conditions.{compare}
 use Rattle.inform_logic.proofs.Changes.{increment}
-use Rattle.inform_logic.proofs.Statements.{end, next, returns, breaks, assign, return, break, if_true, if_false, while}
-use Rattle.inform_logic.proofs.Loops.{while_once_more, loop_broken}
+use Rattle.inform_logic.proofs.Statements.{end, next, returns, breaks, assign, return, break, if_true, if_false}
+use Rattle.inform_logic.proofs.Loops.{while, while_once_more, loop_breaks}
 use Rattle.inform_logic.proofs.Routines.{does_within, routine}
 
 abbrev at_flag : ℕ → ℕ → Scope
@@ -35,7 +35,7 @@ module _ (p : Program) (d r : ℕ) (w : Stage) (flags : List ℕ) (small : lengt
         from true clear some is later =
             let here : i ≡ m = omega (arith, is) in
             subst (λ m. Loops p d clear_loop (at_flag r i) w Normal (at_flag r m) w 3) here
-            (loop_broken (compare number number refl) refl (breaks (if_true
+            (loop_breaks (compare number number refl) refl (breaks (if_true
             (compare (entry (local refl) there (map_at_rest pos flags i left)) number
             (eq_is x 0 ∙ clear)) (breaks break))))
         from false clear some is later = within (omega arith) (while_once_more

@@ -1,7 +1,7 @@
--- The rules of loops: a turn of them, and how they are left.
+-- The rules of loops: a turn of them, how they are left, and the statements that they are.
 use Rattle.std.proofs.Common.{◌≡◌, arith, ℕ, ◌+◌, ℤ, Bool, true, false, Option, refl}
 use Rattle.inform_tree.specs.Conditions.{Condition}
-use Rattle.inform_tree.specs.Statements.{Statements, Assignment}
+use Rattle.inform_tree.specs.Statements.{While, Do, For, Statements, Assignment}
 use Rattle.inform_meaning.specs.Worlds.{Program, Scope, Config}
 use Rattle.inform_meaning.specs.Frames.{Loop, TurnDue, Begins, Outcome, Normal, Returns, Breaks, Continues, bind}
 use Rattle.inform_meaning.specs.Parts.{tick}
@@ -12,11 +12,12 @@ use Rattle.inform_meaning.proofs.Looping.{loop_once}
 use Rattle.inform_meaning.proofs.GoingTrees.{test_if_any-going, exec_all-going, alter_if_any-going}
 use Rattle.inform_meaning.proofs.GoingRuns.{call_at-going}
 use Rattle.inform_logic.specs.Stages.{Stage}
-use Rattle.inform_logic.specs.Leading.{Leaves, Leads, AfterTest, AfterBody, TestsIfAny, Tests, ChangesIfAny, Runs, Loops}
+use Rattle.inform_logic.specs.Leading.{Leaves, Leads, AfterTest, AfterBody, TestsIfAny, Tests, ChangesIfAny, Executes, Runs, Loops}
 use Rattle.inform_logic.proofs.Opened.{opened}
 use Rattle.inform_logic.proofs.Steps.{nothing_taken, and_then, truth_then, normal_then, one_step, takes_same, chosen, not_chosen}
 use Rattle.inform_logic.proofs.Values.{within}
 use Rattle.inform_logic.proofs.Changes.{no_change}
+use Rattle.inform_logic.proofs.Statements.{step}
 
 -- a loop is its next turn
 once : (p : Program) (d : ℕ) (l : Loop) (c : Config) → turns_of p (call_at p d) l c ≡ tick (Begins (TurnDue l))
@@ -83,12 +84,28 @@ module _ {p : Program} {d : ℕ} where
   unfolding opened
   turn_returns = record { takes = nothing_taken (λ k. refl) }
 
-  -- ---- a loop that its body leaves
+  -- ---- a turn, by how its body ends
 
-  pub loop_broken : {l : Loop} {b : Bool} {s s' : Scope} {w w1 w' : Stage} {n m : ℕ}
+  -- the body, the change, and more turns
+  pub loop_again : {l : Loop} {b : Bool} {s s1 s2 s' : Scope} {w w1 w2 w3 w' : Stage} {e : Outcome}
+      {n m q t : ℕ} → TestsIfAny p d l.test s w b w1 n → loop_goes_on l b ≡ true
+      → Runs p d l.body s w1 Normal s1 w2 m → ChangesIfAny p d l.change s1 w2 s2 w3 q
+      → Loops p d l s2 w3 e s' w' t → Loops p d l s w e s' w' (n + m + q + t + 1)
+  loop_again x goes body change more = within (omega arith)
+      (turn x (turn_goes_on goes (λ j. tt) body (turn_ends change more)))
+
+  -- `continue` leaves the rest of the body out
+  pub loop_continues : {l : Loop} {b : Bool} {s s1 s2 s' : Scope} {w w1 w2 w3 w' : Stage}
+      {e : Outcome} {n m q t : ℕ} → TestsIfAny p d l.test s w b w1 n → loop_goes_on l b ≡ true
+      → Runs p d l.body s w1 Continues s1 w2 m → ChangesIfAny p d l.change s1 w2 s2 w3 q
+      → Loops p d l s2 w3 e s' w' t → Loops p d l s w e s' w' (n + m + q + t + 1)
+  loop_continues x goes body change more = within (omega arith)
+      (turn x (turn_goes_on goes (λ j. tt) body (turn_continues change more)))
+
+  pub loop_breaks : {l : Loop} {b : Bool} {s s' : Scope} {w w1 w' : Stage} {n m : ℕ}
       → TestsIfAny p d l.test s w b w1 n → loop_goes_on l b ≡ true
       → Runs p d l.body s w1 Breaks s' w' m → Loops p d l s w Normal s' w' (n + m + 1)
-  loop_broken x goes body =
+  loop_breaks x goes body =
       within (omega arith) (turn x (turn_goes_on goes (λ j. tt) body turn_breaks))
 
   pub loop_returns : {l : Loop} {b : Bool} {s s' : Scope} {w w1 w' : Stage} {v : ℤ} {n m : ℕ}
@@ -97,38 +114,69 @@ module _ {p : Program} {d : ℕ} where
   loop_returns x goes body =
       within (omega arith) (turn x (turn_goes_on goes (λ j. tt) body turn_returns))
 
+  pub loop_is_over : {l : Loop} {b : Bool} {s : Scope} {w w' : Stage} {n : ℕ}
+      → TestsIfAny p d l.test s w b w' n → loop_goes_on l b ≡ false
+      → Loops p d l s w Normal s w' (n + 1)
+  loop_is_over x ends = within (omega arith) (turn x (loop_ends ends))
+
   -- ---- the three kinds of loops
 
   pub while_once_more : {x : Condition} {body : Statements} {s s1 s' : Scope} {w w1 w2 w' : Stage}
-      {e : Outcome} {n m q : ℕ} → Tests p d x s w true w1 n → Runs p d body s w1 Normal s1 w2 m
-      → Loops p d (while_loop x body) s1 w2 e s' w' q
-      → Loops p d (while_loop x body) s w e s' w' (n + m + q + 1)
-  while_once_more x body more =
-      within (omega arith) (turn x (turn_goes_on refl (λ j. tt) body (turn_ends no_change more)))
+      {e : Outcome} {n m t : ℕ} → Tests p d x s w true w1 n → Runs p d body s w1 Normal s1 w2 m
+      → Loops p d (while_loop x body) s1 w2 e s' w' t
+      → Loops p d (while_loop x body) s w e s' w' (n + m + t + 1)
+  while_once_more x body more = within (omega arith) (loop_again x refl body no_change more)
 
   pub while_ends : {x : Condition} {body : Statements} {s : Scope} {w w' : Stage} {n : ℕ}
       → Tests p d x s w false w' n → Loops p d (while_loop x body) s w Normal s w' (n + 1)
-  while_ends x = within (omega arith) (turn x (loop_ends refl))
+  while_ends x = loop_is_over x refl
 
-  -- the test comes after the body, and ends the loop where it holds
+  -- the test comes after the body, and the loop ends where it holds
   pub do_once_more : {x : Condition} {body : Statements} {s s1 s' : Scope} {w w1 w2 w' : Stage}
-      {e : Outcome} {n m q : ℕ} → Tests p d x s w false w1 n → Runs p d body s w1 Normal s1 w2 m
-      → Loops p d (do_loop body x) s1 w2 e s' w' q
-      → Loops p d (do_loop body x) s w e s' w' (n + m + q + 1)
-  do_once_more x body more = within (omega arith) (turn x (turn_goes_on refl (λ j. tt) body (turn_ends no_change more)))
+      {e : Outcome} {n m t : ℕ} → Tests p d x s w false w1 n → Runs p d body s w1 Normal s1 w2 m
+      → Loops p d (do_loop body x) s1 w2 e s' w' t
+      → Loops p d (do_loop body x) s w e s' w' (n + m + t + 1)
+  do_once_more x body more = within (omega arith) (loop_again x refl body no_change more)
 
   pub do_ends : {x : Condition} {body : Statements} {s : Scope} {w w' : Stage} {n : ℕ}
       → Tests p d x s w true w' n → Loops p d (do_loop body x) s w Normal s w' (n + 1)
-  do_ends x = within (omega arith) (turn x (loop_ends refl))
+  do_ends x = loop_is_over x refl
 
   pub for_once_more : {x : Option Condition} {change : Option Assignment} {body : Statements}
       {s s1 s2 s' : Scope} {w w1 w2 w3 w' : Stage} {e : Outcome} {n m q t : ℕ}
       → TestsIfAny p d x s w true w1 n → Runs p d body s w1 Normal s1 w2 m
       → ChangesIfAny p d change s1 w2 s2 w3 q → Loops p d (for_loop x change body) s2 w3 e s' w' t
       → Loops p d (for_loop x change body) s w e s' w' (n + m + q + t + 1)
-  for_once_more x body change more = within (omega arith) (turn x (turn_goes_on refl (λ j. tt) body (turn_ends change more)))
+  for_once_more x body change more = loop_again x refl body change more
 
   pub for_ends : {x : Option Condition} {change : Option Assignment} {body : Statements} {s : Scope}
       {w w' : Stage} {n : ℕ} → TestsIfAny p d x s w false w' n
       → Loops p d (for_loop x change body) s w Normal s w' (n + 1)
-  for_ends x = within (omega arith) (turn x (loop_ends refl))
+  for_ends x = loop_is_over x refl
+
+  -- ---- the statements
+
+  pub while : {x : Condition} {body : Statements} {s s' : Scope} {w w' : Stage} {e : Outcome}
+      {n : ℕ} → Loops p d (while_loop x body) s w e s' w' n
+      → Executes p d (While x body) s w e s' w' (n + 1)
+  while turns = step (record { takes = turns.takes })
+
+  pub for : {first change : Option Assignment} {x : Option Condition} {body : Statements}
+      {s s1 s' : Scope} {w w1 w' : Stage} {e : Outcome} {n m : ℕ}
+      → ChangesIfAny p d first s w s1 w1 n → Loops p d (for_loop x change body) s1 w1 e s' w' m
+      → Executes p d (For first x change body) s w e s' w' (n + m + 1)
+  unfolding opened
+  for first turns = step (record { takes = normal_then _ first.takes turns.takes })
+
+  -- the body before the first test, and what comes after it
+  pub do_first : {x : Condition} {body : Statements} {s s1 s' : Scope} {w w1 w' : Stage} {e1 e : Outcome}
+      {n m : ℕ} → ((j : ℕ) → Leaves e1 j) → Runs p d body s w e1 s1 w1 n
+      → Leads p d (AfterBody (do_loop body x) e1) s1 w1 e s' w' m
+      → Executes p d (Do body x) s w e s' w' (n + m + 1)
+  unfolding opened
+  do_first any body rest = step (record { takes = and_then _ any body.takes rest.takes })
+
+  pub do_until : {x : Condition} {body : Statements} {s s1 s' : Scope} {w w1 w' : Stage}
+      {e : Outcome} {n m : ℕ} → Runs p d body s w Normal s1 w1 n
+      → Loops p d (do_loop body x) s1 w1 e s' w' m → Executes p d (Do body x) s w e s' w' (n + m + 1)
+  do_until body more = within (omega arith) (do_first (λ j. tt) body (turn_ends no_change more))

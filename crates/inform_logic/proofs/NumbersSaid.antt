@@ -1,5 +1,5 @@
 -- Numbers that are said by a loop.
-use Rattle.std.proofs.Common.{◌≡◌, ◌∙◌, arith, ℕ, zero, suc, ◌+◌, ◌*◌, ◌<◌, pos, decimal, nat_lt, true, false, List, [], ◌∷◌, ◌++◌, codes, refl, sym, ap, subst, subst₂}
+use Rattle.std.proofs.Common.{◌≡◌, ◌∙◌, arith, ℕ, zero, suc, ◌+◌, ◌*◌, ◌<◌, pos, decimal, nat_lt, true, false, [], ◌∷◌, ◌++◌, codes, refl, sym, ap, subst, subst₂}
 use Rattle.inform_meaning.specs.Worlds.{Program, Scope}
 use Rattle.inform_meaning.specs.Frames.{Normal}
 use Rattle.inform_logic.specs.Stages.{Stage, said}
@@ -10,8 +10,8 @@ use Rattle.inform_logic.proofs.Values.{within, number, local}
 use Rattle.inform_logic.proofs.Conditions.{compare}
 use Rattle.inform_logic.proofs.Changes.{set_variable, increment}
 use Rattle.inform_logic.proofs.Printing.{print_nothing, print_text, print_number, said_nothing, said_twice}
-use Rattle.inform_logic.proofs.Statements.{end, next, print, for}
-use Rattle.inform_logic.proofs.Loops.{for_once_more, for_ends}
+use Rattle.inform_logic.proofs.Statements.{end, next, print}
+use Rattle.inform_logic.proofs.Loops.{for, for_once_more, for_ends}
 use Rattle.inform_logic.proofs.Routines.{does_within, routine}
 
 abbrev at_number : ℕ → ℕ → ℕ → Scope

@@ -1,20 +1,19 @@
 -- The rules of statements: what they execute, each with a step of its own.
-use Rattle.std.proofs.Common.{◌≡◌, ◌∙◌, ℕ, ◌+◌, ℤ, pos, true, false, List, [], ◌∷◌, ◌++◌, Option, Some, None, refl, ap}
+use Rattle.std.proofs.Common.{◌≡◌, ◌∙◌, ℕ, ◌+◌, ℤ, pos, true, false, List, [], ◌∷◌, ◌++◌, Some, None, refl, ap}
 use Rattle.std.specs.Prelude.{unwrap_or}
 use Rattle.adv_io.specs.Steps.{Took}
 use Rattle.inform_tree.specs.Values.{Expression, Arguments}
 use Rattle.inform_tree.specs.Conditions.{Condition}
-use Rattle.inform_tree.specs.Statements.{Statement, Empty, Block, Assign, Call, If, While, Do, For, Switch, Break, Continue, Rtrue, Rfalse, Return, NewLine, Print, Read, Statements, NoStatements, MoreStatements, Cases, NoCases, MoreCases, Default, NoDefault, SomeDefault, Assignment, PrintItem, Choice}
+use Rattle.inform_tree.specs.Statements.{Statement, Empty, Block, Assign, Call, If, Switch, Break, Continue, Rtrue, Rfalse, Return, NewLine, Print, Read, Statements, NoStatements, MoreStatements, Cases, NoCases, MoreCases, Default, NoDefault, SomeDefault, Assignment, PrintItem, Choice}
 use Rattle.inform_meaning.specs.Worlds.{Program, Scope, has_room, filled}
 use Rattle.inform_meaning.specs.Frames.{Outcome, Normal, Returns, Breaks, Continues, when}
-use Rattle.inform_meaning.specs.Statements.{while_loop, do_loop, for_loop}
 use Rattle.inform_meaning.specs.declared.traps.Trap.TheVariants as t
 use Rattle.inform_meaning.specs.Tables.{put_by}
 use Rattle.inform_meaning.specs.Parts.{line_at, take_line, read_line, trap}
 use Rattle.inform_logic.specs.Stages.{Stage, world_in, in_scope, with_array, said}
-use Rattle.inform_logic.specs.Leading.{Leaves, Leads, TheAct, TheCases, AfterBody, Evaluates, Calls, Tests, Changes, ChangesIfAny, Prints, Executes, Runs, Loops, Fits}
+use Rattle.inform_logic.specs.Leading.{Leads, TheAct, TheCases, Evaluates, Calls, Tests, Changes, Prints, Executes, Runs, Fits}
 use Rattle.inform_logic.proofs.Opened.{opened}
-use Rattle.inform_logic.proofs.Steps.{nothing_taken, and_then, value_then, truth_then, normal_then, finally, one_step, with_said, chosen, not_chosen}
+use Rattle.inform_logic.proofs.Steps.{nothing_taken, value_then, truth_then, normal_then, finally, one_step, with_said, chosen, not_chosen}
 
 module _ {p : Program} {d : ℕ} where
   -- a step, and what the statement does
@@ -139,26 +138,6 @@ module _ {p : Program} {d : ℕ} where
   pub no_default : {a : ℤ} {s : Scope} {w : Stage}
       → Leads p d (TheCases a NoCases NoDefault) s w Normal s w 0
   no_default = record { takes = nothing_taken (λ k. refl) }
-
-  -- ---- loops, which the rules of turns go on with
-
-  pub while : {x : Condition} {xs : Statements} {s s' : Scope} {w w' : Stage} {e : Outcome} {n : ℕ}
-      → Loops p d (while_loop x xs) s w e s' w' n → Executes p d (While x xs) s w e s' w' (n + 1)
-  while turns = step (record { takes = turns.takes })
-
-  -- the body first
-  pub do_until : {x : Condition} {xs : Statements} {s s1 s' : Scope} {w w1 w' : Stage} {e1 e : Outcome}
-      {n m : ℕ} → ((j : ℕ) → Leaves e1 j) → Runs p d xs s w e1 s1 w1 n → Leads p d (AfterBody (do_loop xs x) e1) s1 w1 e s' w' m
-      → Executes p d (Do xs x) s w e s' w' (n + m + 1)
-  unfolding opened
-  do_until any xs rest = step (record { takes = and_then _ any xs.takes rest.takes })
-
-  pub for : {first change : Option Assignment} {x : Option Condition} {xs : Statements}
-      {s s1 s' : Scope} {w w1 w' : Stage} {e : Outcome} {n m : ℕ}
-      → ChangesIfAny p d first s w s1 w1 n → Loops p d (for_loop x change xs) s1 w1 e s' w' m
-      → Executes p d (For first x change xs) s w e s' w' (n + m + 1)
-  unfolding opened
-  for first turns = step (record { takes = normal_then _ first.takes turns.takes })
 
   -- ---- lines
 

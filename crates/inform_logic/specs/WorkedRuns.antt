@@ -1,5 +1,5 @@
 -- A worked program, and what its runs come to.
-use Rattle.std.specs.Prelude.{◌≡◌, ℕ, ◌≤◌, false, List, [], ◌∷◌, codes}
+use Rattle.std.specs.Prelude.{ℕ, ◌≤◌, false, List, [], ◌∷◌, codes}
 use Rattle.adv_io.specs.Steps.{Took}
 use Rattle.inform_tree.specs.declared.widths.Width.{Width}
 use Rattle.inform_tree.specs.declared.values.Const.{Const}
