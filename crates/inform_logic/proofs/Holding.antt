@@ -6,13 +6,13 @@ use Rattle.std.specs.Str.{bytes_eq}
 use Rattle.std.proofs.lemmas.Slice.Eq.{bytes_eq-Decides}
 use Rattle.inform_tree.specs.declared.widths.Width.{Width}
 use Rattle.inform_tree.specs.Programs as t
-use Rattle.inform_tree.specs.Programs.{DirectiveTree}
+use Rattle.inform_tree.specs.Programs.{RoutineTree, DirectiveTree}
 use Rattle.inform_names.specs.declared.meanings.Meaning.{Meaning}
 use Rattle.inform_names.specs.Meanings.{name_of, meanings, first_directive}
 use Rattle.inform_names.specs.Laws.{MeaningsAreFirst}
 use Rattle.inform_meaning.specs.Worlds.{Program}
 use Rattle.inform_meaning.specs.Programs.{program_in, number_of, routine_in, global_in, array_in}
-use Rattle.inform_logic.specs.Holding.{Held, Holds, Opened, opening_stage, Distinct}
+use Rattle.inform_logic.specs.Holding.{Has, Notes, Held, Holds, Opened, opening_stage, Distinct}
 use Rattle.inform_logic.specs.Laws.{ProgramHolds, OpeningOpens}
 use Rattle.inform_logic.proofs.Lists.{at_rest, after_rest}
 
@@ -55,6 +55,14 @@ module _ (p : Program) where
   pub holds_at : (ds : List DirectiveTree) (at : ℕ) {x : DirectiveTree} → Holds p ds
       → slice_get ds at ≡ Some x → Held p x
   holds_at = all_at (Held p)
+
+  -- a routine that is held, where nothing or this number is noted
+  pub has : {r : RoutineTree} (held : Held p (t.Routine r)) → p.notes r.name held.0 ≡ None → Has p r
+  has held unseen = record { at = held.0; there = held.1; unseen = unseen }
+
+  pub notes : {r : RoutineTree} {number : ℕ} (held : Held p (t.Routine r))
+      → p.notes r.name held.0 ≡ Some number → Notes p r number
+  notes held seen = record { at = held.0; there = held.1; seen = seen }
 
 -- ---- a program of directives
 

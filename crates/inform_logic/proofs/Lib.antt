@@ -22,3 +22,5 @@ pub mod Asked
 pub mod LineNoted
 pub mod AskedRuns
 pub mod NumbersSaid
+pub mod LeapYears
+pub mod Thrown

@@ -1,7 +1,7 @@
 -- The rules of `print`: what its items say.
 use Rattle.std.proofs.Common.{◌≡◌, ◌∙◌, ℕ, ◌+◌, ℤ, List, [], ◌∷◌, ◌++◌, refl, sym, ap, append_assoc, append-nil}
 use Rattle.std.proofs.lemmas.List.{map-append}
-use Rattle.adv_io.specs.Steps.{Said, said_steps}
+use Rattle.adv_io.specs.Steps.{Step, Said, said_steps}
 use Rattle.std.specs.Fmt.{signed_decimal}
 use Rattle.inform_tree.specs.Values.{Expression}
 use Rattle.inform_tree.specs.Statements.{PrintItem, Text, Value, Char}
@@ -19,6 +19,12 @@ said_nothing w = ap (λ past. with_past past w) (append-nil w.past)
 pub said_twice : (xs ys : List ℕ) (w : Stage) → said ys (said xs w) ≡ said (xs ++ ys) w
 said_twice xs ys w = ap (λ past. with_past past w) (append_assoc w.past (said_steps xs) (said_steps ys)
     ∙ ap (λ ss. w.past ++ ss) (sym (map-append Said xs ys)))
+
+-- what happened in a part and in the next one
+pub happened_then : (past : List Step) {mid later : List Step} (es fs : List Step)
+    → mid ≡ past ++ es → later ≡ mid ++ fs → later ≡ past ++ (es ++ fs)
+happened_then past es fs first next =
+    next ∙ ap (λ h. h ++ fs) first ∙ append_assoc past es fs
 
 module _ {p : Program} {d : ℕ} where
   pub print_nothing : {s : Scope} {w : Stage} → Prints p d [] s w w 0

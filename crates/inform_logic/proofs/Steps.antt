@@ -1,5 +1,5 @@
 -- Steps one after another, and how many there are at most.
-use Rattle.std.proofs.Common.{◌≡◌, ◌∙◌, arith, ℕ, zero, suc, ◌+◌, ◌≤◌, ℤ, Bool, true, false, List, refl, sym, ap, subst}
+use Rattle.std.proofs.Common.{◌≡◌, ◌∙◌, arith, ℕ, zero, suc, ◌+◌, ◌-◌, ◌≤◌, ℤ, Bool, true, false, List, refl, sym, ap, subst}
 use Rattle.inform_meaning.specs.Worlds.{Config, Scope}
 use Rattle.inform_meaning.specs.Frames.{Frame, Outcome, Value, Truth, Normal, Meaning, bind, when}
 use Rattle.inform_meaning.specs.Parts.{tick, saying}
@@ -16,6 +16,13 @@ plus_is (suc a) b = omega (arith, plus_is a b)
 
 pub few_of_two : {a b n m : ℕ} → a ≤ n → b ≤ m → plus a b ≤ n + m
 few_of_two {a} {b} few less = omega (arith, few, less, plus_is a b)
+
+-- what holds under so many calls holds wherever no more of them may be open
+pub with_room : (calls : ℕ) (P : ℕ → Type 0) → ((d : ℕ) → P (plus calls d)) → (n : ℕ) → calls ≤ n
+    → P n
+with_room calls P h n enough =
+    let all : plus calls (n - calls) ≡ n = omega (arith, plus_is calls (n - calls), enough) in
+    subst P all (h (n - calls))
 
 -- no step is taken
 pub nothing_taken : {m : Meaning} {s s' : Scope} {w w' : Stage} {e : Outcome}

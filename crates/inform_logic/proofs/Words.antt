@@ -1,5 +1,5 @@
 -- Words that are themselves at both widths, and how they compare.
-use Rattle.std.proofs.Common.{◌≡◌, ◌∙◌, arith, ℕ, ◌+◌, ◌-◌, ◌*◌, ◌/◌, ◌%◌, ◌<◌, ◌≤◌, ℤ, pos, negsuc, ◌+ℤ◌, ◌-ℤ◌, ◌*ℤ◌, neg_ℤ, int_div, int_rem, nat_lt, nat_eq, false, not, if◌then◌else◌, Some, None, FitsSigned, refl, ap}
+use Rattle.std.proofs.Common.{◌≡◌, ◌∙◌, arith, ℕ, suc, ◌+◌, ◌-◌, ◌*◌, ◌/◌, ◌%◌, ◌<◌, ◌≤◌, ℤ, pos, negsuc, ◌+ℤ◌, ◌-ℤ◌, ◌*ℤ◌, neg_ℤ, int_div, int_rem, nat_lt, nat_eq, false, not, if◌then◌else◌, Some, None, FitsSigned, refl, ap, mod-eq_of_lt}
 use Rattle.std.specs.Int as i
 use Rattle.std.specs.Ordering.{int_eq}
 use Rattle.std.proofs.lemmas.Int.{ints, int_wrap_fits}
@@ -8,7 +8,7 @@ use Rattle.inform_tree.specs.declared.widths.Width.TheVariants.{W16, W32}
 use Rattle.inform_tree.specs.declared.values.SumOp.TheVariants.{Add, Sub}
 use Rattle.inform_tree.specs.declared.values.ProdOp.TheVariants.{Mul, Div, Rem}
 use Rattle.inform_tree.specs.declared.conditions.Relation.TheVariants.{Eq, Ne, Lt, Gt, Le, Ge}
-use Rattle.inform_meaning.specs.Words.{wrapped, number_word, word_negation, summed, multiplied, compares}
+use Rattle.inform_meaning.specs.Words.{wrapped, number_word, word_sum, word_negation, summed, multiplied, compares, low_byte, draw_within}
 
 -- a word at both widths: -32768..32767
 abbrev pub IsWord : ℤ → Type 0
@@ -77,6 +77,25 @@ module _ (width : Width) where
 
   pub small_remainder : (a b : ℕ) → 0 < b → multiplied width Rem (pos a) (pos b) ≡ Some (pos (a % b))
   small_remainder a b h = remainder_is (pos a) (pos b) (not_zero b h)
+
+  pub counted_up : (a : ℕ) → a + 1 < 32768 → word_sum width (pos a) (pos 1) ≡ pos (a + 1)
+  counted_up a small = small_sum a 1 small
+
+  pub counted_down : (a : ℕ) → a < 32768 → word_sum width (pos (suc a)) (negsuc 0) ≡ pos a
+  counted_down a small =
+      let is : pos (suc a) +ℤ negsuc 0 ≡ pos a = omega (arith, ints) in
+      ap (wrapped width) is ∙ word_stays (small_word small)
+
+-- ---- bytes and draws
+
+pub small_byte : (a : ℕ) → a < 256 → low_byte (pos a) ≡ a
+small_byte a small = mod-eq_of_lt small
+
+-- a draw that is no greater than the limit is itself
+pub small_draw : (limit draw : ℕ) → 1 ≤ draw → draw ≤ limit → draw_within (pos limit) draw ≡ pos draw
+small_draw limit draw some few =
+    let within : draw - 1 < limit = omega (arith, some, few) in
+    ap (λ n. pos (n + 1)) (mod-eq_of_lt within) ∙ ap pos (omega (arith, some))
 
 -- ---- comparing numbers that aren't negative
 

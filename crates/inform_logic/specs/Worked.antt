@@ -1,14 +1,16 @@
 -- Worked routines, as trees, and what they do in every program that has them.
-use Rattle.std.specs.Prelude.{◌≡◌, ℕ, zero, suc, ◌+◌, ◌*◌, ◌<◌, ℤ, pos, nat_eq, nat_le, true, not, decimal, if◌then◌else◌, List, [], ◌∷◌, ◌++◌, map, length, count_by, codes, Some, None}
+use Rattle.std.specs.Prelude.{◌≡◌, ℕ, zero, suc, ◌+◌, ◌-◌, ◌*◌, ◌%◌, ◌<◌, ℤ, pos, nat_eq, nat_le, Bool, true, not, ◌&&◌, ◌||◌, decimal, if◌then◌else◌, List, [], ◌∷◌, ◌++◌, map, length, count_by, codes, Some, None}
 use Rattle.std.specs.List.{prefix_len}
-use Rattle.adv_io.specs.Steps.{Took, Noted}
+use Rattle.adv_io.specs.Steps.{Took, Drew, Noted}
 use Rattle.inform_tree.specs.declared.values.Const.TheVariants as k
-use Rattle.inform_tree.specs.declared.conditions.Relation.TheVariants.{Eq, Lt}
+use Rattle.inform_tree.specs.declared.values.SumOp.TheVariants.{Add}
+use Rattle.inform_tree.specs.declared.values.ProdOp.TheVariants.{Rem}
+use Rattle.inform_tree.specs.declared.conditions.Relation.TheVariants.{Eq, Ne, Lt}
 use Rattle.inform_tree.specs.Values as v
 use Rattle.inform_tree.specs.Values.{Expression}
 use Rattle.inform_tree.specs.Conditions as c
 use Rattle.inform_tree.specs.Statements as t
-use Rattle.inform_tree.specs.Statements.{Statement, statements}
+use Rattle.inform_tree.specs.Statements.{Statement, Statements, statements}
 use Rattle.inform_tree.specs.Programs.{RoutineTree}
 use Rattle.inform_meaning.specs.Worlds.{Program, has_room, filled}
 use Rattle.inform_meaning.specs.Frames.{Loop, Quits, NeedsLine}
@@ -186,3 +188,55 @@ numbers_text first (suc count) = (decimal first ++ codes " ") ++ numbers_text (f
 abbrev pub NumbersAreSaid : Type 0
 NumbersAreSaid = (p : Program) (d : ℕ) (w : Stage) (n : ℕ) → n < 32768 → Has p numbers
     → Does p (suc d) (codes "numbers") (pos n ∷ []) w (pos 1) (said (numbers_text 0 n) w) (2 * n + 2)
+
+-- ---- `[ is_leap y; if ((y % 4 == 0 && y % 100 ~= 0) || y % 400 == 0) rtrue; rfalse; ];`
+
+abbrev pub year_rest : ℕ → Expression
+year_rest n = v.Product (name (codes "y")) (v.factors ((Rem, v.Number n) ∷ []))
+
+abbrev pub leap_test : c.Condition
+leap_test = c.Any (c.conditions (c.All (c.conditions (c.Compare Eq (year_rest 4) (v.Number 0)
+    ∷ c.Compare Ne (year_rest 100) (v.Number 0) ∷ []))
+    ∷ c.Compare Eq (year_rest 400) (v.Number 0) ∷ []))
+
+abbrev pub is_leap : RoutineTree
+is_leap = routine (codes "is_leap") (codes "y" ∷ [])
+    (if_only leap_test (t.Rtrue ∷ []) ∷ t.Rfalse ∷ [])
+
+abbrev pub leap_year : ℕ → Bool
+leap_year y = (nat_eq (y % 4) 0 && not (nat_eq (y % 100) 0)) || nat_eq (y % 400) 0
+
+-- It gives 1 for a leap year and 0 for any other.
+abbrev pub LeapYearsAreKnown : Type 0
+LeapYearsAreKnown = (p : Program) (d : ℕ) (w : Stage) (y : ℕ) → Has p is_leap
+    → Does p (suc d) (codes "is_leap") (pos y ∷ []) w (pos (if leap_year y then 1 else 0)) w 2
+
+-- ---- `[ throws n t; do { t = t + random(6); n--; } until (n == 0); return t; ];`
+
+abbrev pub throw : Statements
+throw = statements
+    (set (codes "t") (v.Sum (name (codes "t")) (v.terms ((Add, v.Random (v.Number 6)) ∷ [])))
+    ∷ t.Assign (t.Dec (codes "n")) ∷ [])
+
+abbrev pub all_thrown : c.Condition
+all_thrown = c.Compare Eq (name (codes "n")) (v.Number 0)
+
+abbrev pub throws : RoutineTree
+throws = routine (codes "throws") (codes "n" ∷ codes "t" ∷ [])
+    (t.Do throw all_thrown ∷ return (name (codes "t")) ∷ [])
+
+-- the sum of dice, and the stage after they were thrown
+abbrev pub thrown : ℕ → List ℕ → ℕ
+thrown t [] = t
+thrown t (draw ∷ draws) = thrown (t + ((draw - 1) % 6 + 1)) draws
+
+abbrev pub after_draws : List ℕ → List ℕ → Stage → Stage
+after_draws draws rest w = record w { draws = rest; past = w.past ++ map Drew draws }
+
+-- It gives the sum of as many dice as it is told, one for each draw.
+abbrev pub DiceAreAdded : Type 0
+DiceAreAdded = (p : Program) (d : ℕ) (w : Stage) (draw : ℕ) (draws rest : List ℕ)
+    → 6 * length (draw ∷ draws) < 32768 → Has p throws → w.draws ≡ draw ∷ draws ++ rest
+    → Does p (suc d) (codes "throws") (pos (length (draw ∷ draws)) ∷ []) w
+    (pos (thrown 0 (draw ∷ draws))) (after_draws (draw ∷ draws) rest w)
+    (3 * length (draw ∷ draws) + 2)

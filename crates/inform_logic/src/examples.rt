@@ -1,5 +1,5 @@
 //! Worked routines, each proved by the rules. Each is the contract of a function that does nothing.
-ghost use Rattle.inform_logic.specs.Worked.{CarriedIsCounted, GlobalsAreSwapped, PlaceIsSaid, NumbersAreSaid, FirstClearIsFound, LineIsTaken, LineIsAwaited, LineIsNoted};
+ghost use Rattle.inform_logic.specs.Worked.{CarriedIsCounted, GlobalsAreSwapped, PlaceIsSaid, NumbersAreSaid, FirstClearIsFound, LeapYearsAreKnown, DiceAreAdded, LineIsTaken, LineIsAwaited, LineIsNoted};
 ghost use Rattle.inform_logic.specs.WorkedRuns.{RunIsOver, RunWaits};
 
 /// Items are counted by a loop over their places.
@@ -25,6 +25,16 @@ pub fn numbers_are_said()
 /// A loop is left at the first flag that is 0.
 pub fn first_clear_is_found()
     ensures { FirstClearIsFound }
+{}
+
+/// Conditions within conditions tell the leap years.
+pub fn leap_years_are_known()
+    ensures { LeapYearsAreKnown }
+{}
+
+/// Dice are added by a loop whose test comes after its body.
+pub fn dice_are_added()
+    ensures { DiceAreAdded }
 {}
 
 /// A line is read, and the run is over.
