@@ -26,8 +26,8 @@ assigned_is x v s w there k = by (found x s.locals) (w.globals x) refl there whe
       → changes (assigned_by (is_some o) x v) (in_scope k s w)
       ≡ (Normal, in_scope k (scope_after o x v s) (stage_after o x v w))
   by (Some old) g is there = refl
-  by None (Some old) is there = ap (λ g. changes (λ u. record u { globals = put_by g w.globals x v })
-      (in_scope k s w)) is
+  by None (Some old) is there =
+      ap (λ g. changes (λ u. record u { globals = put_by g w.globals x v }) (in_scope k s w)) is
   by None None is there = cc
 
 -- the change of a variable by 1 or -1, whose value was a
@@ -49,6 +49,7 @@ counted p x s w a by v there is k =
       value None None h = cc
 
 module _ {p : Program} {d : ℕ} where
+  -- a variable that is there gets the value
   pub set_variable : {x : List ℕ} {y : Expression} {s : Scope} {w w' : Stage} {v : ℤ} {n : ℕ}
       → Evaluates p d y s w v w' n
       → is_some (first_of_two (found x s.locals) (w'.globals x)) ≡ true
@@ -59,6 +60,7 @@ module _ {p : Program} {d : ℕ} where
     takes = finally _ (λ j h. tt) y.takes (assigned_is x v s w' there);
   }
 
+  -- a variable counts up
   pub increment : {x : List ℕ} {s : Scope} {w : Stage} {a v : ℤ}
       → first_of_two (found x s.locals) (w.globals x) ≡ Some a → word_sum p.width a (pos 1) ≡ v
       → Changes p d (Inc x) s w (scope_after (found x s.locals) x v s)
@@ -66,6 +68,7 @@ module _ {p : Program} {d : ℕ} where
   increment {x} {s} {w} {a} {v} there is =
       record { takes = nothing_taken (counted p x s w a (pos 1) v there is) }
 
+  -- a variable counts down
   pub decrement : {x : List ℕ} {s : Scope} {w : Stage} {a v : ℤ}
       → first_of_two (found x s.locals) (w.globals x) ≡ Some a
       → word_sum p.width a (negsuc 0) ≡ v
@@ -86,8 +89,9 @@ module _ {p : Program} {d : ℕ} where
   } where
     written : (k : ℕ) → store a words i v (in_scope k s w')
         ≡ (Normal, in_scope k s (with_array a (set xs (unsigned_abs i) (kept words v)) w'))
-    written k = ap (λ o. store_by (entry_at (unwrap_or o []) i) (stored a words i v) (in_scope k s w'))
-        there ∙ go (entry_at xs i) is where
+    written k =
+        ap (λ o. store_by (entry_at (unwrap_or o []) i) (stored a words i v) (in_scope k s w')) there
+        ∙ go (entry_at xs i) is where
           go : (o : Option ℤ) → is_some o ≡ true
               → store_by o (stored a words i v) (in_scope k s w')
               ≡ (Normal, in_scope k s (with_array a (set xs (unsigned_abs i) (kept words v)) w'))

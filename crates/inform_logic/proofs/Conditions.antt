@@ -13,26 +13,31 @@ use Rattle.inform_logic.proofs.Opened.{opened}
 use Rattle.inform_logic.proofs.Steps.{nothing_taken, value_then, truth_then, finally}
 
 module _ {p : Program} {d : ℕ} where
+  -- two values compare so
   pub compare : {relation : Relation} {x y : Expression} {s : Scope} {w w1 w' : Stage} {a b : ℤ}
       {t : Bool} {n m : ℕ} → Evaluates p d x s w a w1 n → Evaluates p d y s w1 b w' m
       → compares relation a b ≡ t → Tests p d (Compare relation x y) s w t w' (n + m)
   unfolding opened
   compare {s = s} {w' = w'} x y is = record {
-    takes = value_then _ x.takes (finally _ (λ j h. tt) y.takes (λ k. ap (λ t. (Truth t, in_scope k s w')) is));
+    takes = value_then _ x.takes (finally _ (λ j h. tt) y.takes (λ k.
+        ap (λ t. (Truth t, in_scope k s w')) is));
   }
 
+  -- a value is 0 or not
   pub nonzero : {x : Expression} {s : Scope} {w w' : Stage} {a : ℤ} {t : Bool} {n : ℕ}
       → Evaluates p d x s w a w' n → not (int_eq a (pos 0)) ≡ t → Tests p d (Nonzero x) s w t w' n
   unfolding opened
   nonzero {s = s} {w' = w'} x is =
-      record { takes = finally _ (λ j h. tt) x.takes (λ k. ap (λ t. (Truth t, in_scope k s w')) is) }
+      record { takes = finally _ (λ j h. tt) x.takes (λ k.
+      ap (λ t. (Truth t, in_scope k s w')) is) }
 
+  -- a negated condition
   pub negated : {x : Condition} {s : Scope} {w w' : Stage} {t : Bool} {n : ℕ}
       → Tests p d x s w t w' n → Tests p d (Not x) s w (not t) w' n
   unfolding opened
   negated x = record { takes = finally _ (λ j h. tt) x.takes (λ k. refl) }
 
-  -- no condition is true, as in a loop without a test
+  -- a test that isn't there is true
   pub no_test : {s : Scope} {w : Stage} → TestsIfAny p d None s w true w 0
   no_test = record { takes = nothing_taken (λ k. refl) }
 
@@ -42,15 +47,18 @@ module _ {p : Program} {d : ℕ} where
       → TestsAll p d xs s w t w' n → Tests p d (All xs) s w t w' n
   all_of xs = record { takes = xs.takes }
 
+  -- no one is left, so all hold
   pub all_hold : {s : Scope} {w : Stage} → TestsAll p d NoConditions s w true w 0
   all_hold = record { takes = nothing_taken (λ k. refl) }
 
+  -- this one holds, and it is on the others
   pub one_holds : {x : Condition} {xs : Conditions} {s : Scope} {w w1 w' : Stage} {t : Bool}
       {n m : ℕ} → Tests p d x s w true w1 n → TestsAll p d xs s w1 t w' m
       → TestsAll p d (MoreConditions x xs) s w t w' (n + m)
   unfolding opened when
   one_holds x xs = record { takes = truth_then _ x.takes xs.takes }
 
+  -- this one doesn't hold, so not all do
   pub one_fails : {x : Condition} {xs : Conditions} {s : Scope} {w w' : Stage} {n : ℕ}
       → Tests p d x s w false w' n → TestsAll p d (MoreConditions x xs) s w false w' n
   unfolding opened when
@@ -62,14 +70,17 @@ module _ {p : Program} {d : ℕ} where
       → TestsAny p d xs s w t w' n → Tests p d (Any xs) s w t w' n
   any_of xs = record { takes = xs.takes }
 
+  -- no one is left, so none holds
   pub none_holds : {s : Scope} {w : Stage} → TestsAny p d NoConditions s w false w 0
   none_holds = record { takes = nothing_taken (λ k. refl) }
 
+  -- this one holds
   pub this_holds : {x : Condition} {xs : Conditions} {s : Scope} {w w' : Stage} {n : ℕ}
       → Tests p d x s w true w' n → TestsAny p d (MoreConditions x xs) s w true w' n
   unfolding opened when
   this_holds x = record { takes = finally _ (λ j h. tt) x.takes (λ k. refl) }
 
+  -- this one doesn't, and it is on the others
   pub this_fails : {x : Condition} {xs : Conditions} {s : Scope} {w w1 w' : Stage} {t : Bool}
       {n m : ℕ} → Tests p d x s w false w1 n → TestsAny p d xs s w1 t w' m
       → TestsAny p d (MoreConditions x xs) s w t w' (n + m)

@@ -17,7 +17,8 @@ pub said_nothing : (w : Stage) → said [] w ≡ w
 said_nothing w = ap (λ past. with_past past w) (append-nil w.past)
 
 pub said_twice : (xs ys : List ℕ) (w : Stage) → said ys (said xs w) ≡ said (xs ++ ys) w
-said_twice xs ys w = ap (λ past. with_past past w) (append_assoc w.past (said_steps xs) (said_steps ys)
+said_twice xs ys w = ap (λ past. with_past past w)
+    (append_assoc w.past (said_steps xs) (said_steps ys)
     ∙ ap (λ ss. w.past ++ ss) (sym (map-append Said xs ys)))
 
 -- what happened in a part and in the next one
@@ -27,21 +28,23 @@ happened_then past es fs first next =
     next ∙ ap (λ h. h ++ fs) first ∙ append_assoc past es fs
 
 module _ {p : Program} {d : ℕ} where
+  -- no item is left
   pub print_nothing : {s : Scope} {w : Stage} → Prints p d [] s w w 0
   print_nothing = record { takes = nothing_taken (λ k. refl) }
 
+  -- a text, and the items after it
   pub print_text : {bytes : List ℕ} {xs : List PrintItem} {s : Scope} {w w' : Stage} {n : ℕ}
       → Prints p d xs s (said bytes w) w' n → Prints p d (Text bytes ∷ xs) s w w' n
   print_text xs = record { takes = with_said _ xs.takes }
 
-  -- a value in decimal
+  -- a value in decimal, and the items after it
   pub print_number : {x : Expression} {xs : List PrintItem} {s : Scope} {w w1 w' : Stage} {v : ℤ}
       {n m : ℕ} → Evaluates p d x s w v w1 n → Prints p d xs s (said (signed_decimal v) w1) w' m
       → Prints p d (Value x ∷ xs) s w w' (n + m)
   unfolding opened
   print_number x xs = record { takes = value_then _ x.takes (with_said _ xs.takes) }
 
-  -- a value as a character
+  -- a value as a character, and the items after it
   pub print_character : {x : Expression} {xs : List PrintItem} {s : Scope} {w w1 w' : Stage} {v : ℤ}
       {n m : ℕ} → Evaluates p d x s w v w1 n → Prints p d xs s (said (low_byte v ∷ []) w1) w' m
       → Prints p d (Char x ∷ xs) s w w' (n + m)

@@ -6,6 +6,8 @@ use Rattle.inform_meaning.specs.Parts.{tick, saying}
 use Rattle.inform_logic.specs.Stages.{plus, Stage, in_scope, said}
 use Rattle.inform_logic.specs.Leading.{Leaves, Takes}
 
+-- ---- counting steps
+
 pub plus-assoc : (a b k : ℕ) → plus (plus a b) k ≡ plus a (plus b k)
 plus-assoc zero b k = refl
 plus-assoc (suc a) b k = ap suc (plus-assoc a b k)
@@ -23,6 +25,8 @@ pub with_room : (calls : ℕ) (P : ℕ → Type 0) → ((d : ℕ) → P (plus ca
 with_room calls P h n enough =
     let all : plus calls (n - calls) ≡ n = omega (arith, plus_is calls (n - calls), enough) in
     subst P all (h (n - calls))
+
+-- ---- one meaning after another
 
 -- no step is taken
 pub nothing_taken : {m : Meaning} {s s' : Scope} {w w' : Stage} {e : Outcome}
@@ -58,9 +62,9 @@ pub value_then : {m : Meaning} (k : Outcome → Meaning) {s s1 s' : Scope} {w w1
     → Takes (bind m k) s w e s' w' (a + b)
 value_then k = and_then k (λ j. tt)
 
-pub truth_then : {m : Meaning} (k : Outcome → Meaning) {s s1 s' : Scope} {w w1 w' : Stage} {t : Bool}
-    {e : Outcome} {a b : ℕ} → Takes m s w (Truth t) s1 w1 a → Takes (k (Truth t)) s1 w1 e s' w' b
-    → Takes (bind m k) s w e s' w' (a + b)
+pub truth_then : {m : Meaning} (k : Outcome → Meaning) {s s1 s' : Scope} {w w1 w' : Stage}
+    {t : Bool} {e : Outcome} {a b : ℕ} → Takes m s w (Truth t) s1 w1 a
+    → Takes (k (Truth t)) s1 w1 e s' w' b → Takes (bind m k) s w e s' w' (a + b)
 truth_then k = and_then k (λ j. tt)
 
 pub normal_then : {m : Meaning} (k : Outcome → Meaning) {s s1 s' : Scope} {w w1 w' : Stage}
@@ -68,6 +72,7 @@ pub normal_then : {m : Meaning} (k : Outcome → Meaning) {s s1 s' : Scope} {w w
     → Takes (bind m k) s w e s' w' (a + b)
 normal_then k = and_then k (λ j. tt)
 
+-- a step, and then the rest
 pub one_step : (f : Frame) {m : Meaning} {s s' : Scope} {w w' : Stage} {e : Outcome} {n : ℕ}
     → Takes m s w e s' w' n → Takes (tick f m) s w e s' w' (n + 1)
 unfolding tick
@@ -82,6 +87,7 @@ takes_same {s = s} {w = w} same x = record {
   by = λ k leaves. same (in_scope (plus x.steps k) s w) ∙ x.by k leaves;
 }
 
+-- fewer steps than a greater bound
 pub takes_within : {m : Meaning} {s s' : Scope} {w w' : Stage} {e : Outcome} {n most : ℕ}
     → n ≤ most → Takes m s w e s' w' n → Takes m s w e s' w' most
 takes_within enough x = record { steps = x.steps; few = omega (arith, x.few, enough); by = x.by }
@@ -94,14 +100,14 @@ with_said bytes x = record { steps = x.steps; few = x.few; by = x.by }
 
 -- ---- one of two meanings
 
-pub chosen : {b : Bool} {m : Meaning} (m' : Meaning) {s s' : Scope} {w w' : Stage} {e : Outcome} {n : ℕ}
-    → b ≡ true → Takes m s w e s' w' n → Takes (when b m m') s w e s' w' n
+pub chosen : {b : Bool} {m : Meaning} (m' : Meaning) {s s' : Scope} {w w' : Stage} {e : Outcome}
+    {n : ℕ} → b ≡ true → Takes m s w e s' w' n → Takes (when b m m') s w e s' w' n
 unfolding when
 chosen {m = m} m' {s} {s'} {w} {w'} {e} {n} h x =
     subst (λ b. Takes (when b m m') s w e s' w' n) (sym h) x
 
-pub not_chosen : {b : Bool} (m : Meaning) {m' : Meaning} {s s' : Scope} {w w' : Stage} {e : Outcome} {n : ℕ}
-    → b ≡ false → Takes m' s w e s' w' n → Takes (when b m m') s w e s' w' n
+pub not_chosen : {b : Bool} (m : Meaning) {m' : Meaning} {s s' : Scope} {w w' : Stage}
+    {e : Outcome} {n : ℕ} → b ≡ false → Takes m' s w e s' w' n → Takes (when b m m') s w e s' w' n
 unfolding when
 not_chosen m {m'} {s} {s'} {w} {w'} {e} {n} h x =
     subst (λ b. Takes (when b m m') s w e s' w' n) (sym h) x

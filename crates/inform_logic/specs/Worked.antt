@@ -1,7 +1,7 @@
 -- Worked routines, as trees, and what they do in every program that has them.
 use Rattle.std.specs.Prelude.{◌≡◌, ℕ, zero, suc, ◌+◌, ◌-◌, ◌*◌, ◌%◌, ◌<◌, ℤ, pos, nat_eq, nat_le, Bool, true, not, ◌&&◌, ◌||◌, decimal, if◌then◌else◌, List, [], ◌∷◌, ◌++◌, map, length, count_by, codes, Some, None}
 use Rattle.std.specs.List.{prefix_len}
-use Rattle.adv_io.specs.Steps.{Took, Drew, Noted}
+use Rattle.adv_io.specs.Steps.{Drew, Noted}
 use Rattle.inform_tree.specs.declared.values.Const.TheVariants as k
 use Rattle.inform_tree.specs.declared.values.SumOp.TheVariants.{Add}
 use Rattle.inform_tree.specs.declared.values.ProdOp.TheVariants.{Rem}
@@ -12,11 +12,11 @@ use Rattle.inform_tree.specs.Conditions as c
 use Rattle.inform_tree.specs.Statements as t
 use Rattle.inform_tree.specs.Statements.{Statement, Statements, statements}
 use Rattle.inform_tree.specs.Programs.{RoutineTree}
-use Rattle.inform_meaning.specs.Worlds.{Program, has_room, filled}
+use Rattle.inform_meaning.specs.Worlds.{Program, has_room}
 use Rattle.inform_meaning.specs.Frames.{Loop, Quits, NeedsLine}
 use Rattle.inform_meaning.specs.Statements.{while_loop, for_loop}
 use Rattle.inform_meaning.specs.Runs.{Halted, Lacking}
-use Rattle.inform_logic.specs.Stages.{Stage, with_past, with_global, with_array, said}
+use Rattle.inform_logic.specs.Stages.{Stage, with_past, with_global, line_taken, said}
 use Rattle.inform_logic.specs.Leading.{Does}
 use Rattle.inform_logic.specs.Holding.{Has, Notes}
 use Rattle.inform_logic.specs.Stopping.{CallStops}
@@ -145,8 +145,7 @@ LineIsTaken = (p : Program) (d : ℕ) (w : Stage) (entries : List ℤ) (line : L
     (lines : List (List ℕ)) → Has p ask → w.arrays (codes "buf") ≡ Some entries
     → has_room entries ≡ true → w.lines ≡ line ∷ lines
     → CallStops p (suc d) (codes "ask") [] w (Halted Quits)
-    (with_array (codes "buf") (filled entries line)
-    (record w { lines = lines; past = w.past ++ Took line ∷ [] })) 2
+    (line_taken (codes "buf") entries line lines w) 2
 
 -- Without one the run waits for it, and nothing has happened.
 abbrev pub LineIsAwaited : Type 0

@@ -12,7 +12,7 @@ use Rattle.inform_meaning.specs.Worlds.{filled}
 use Rattle.inform_meaning.specs.Frames.{Quits, NeedsLine}
 use Rattle.inform_meaning.specs.Runs.{Halted, Lacking}
 use Rattle.inform_meaning.specs.Programs.{no_notes, entries_in, run_of}
-use Rattle.inform_logic.specs.Stages.{with_array}
+use Rattle.inform_logic.specs.Stages.{line_taken}
 use Rattle.inform_logic.specs.Holding.{opening_stage}
 use Rattle.inform_logic.specs.Stopping.{Stopped}
 use Rattle.inform_logic.specs.Worked.{ask}
@@ -37,9 +37,8 @@ asking = Array (codes "buf") false buffer ∷ Array (codes "pbuf") false (Number
 abbrev pub RunIsOver : Type 0
 RunIsOver = (width : Width) (line : List ℕ) (lines : List (List ℕ)) (draws : List ℕ) (steps : ℕ)
     → 4 ≤ steps → Stopped (run_of width asking no_notes steps (line ∷ lines) draws) (Halted Quits)
-    (with_array (codes "buf")
-    (filled (entries_in width (meanings width asking) false buffer) line)
-    (record (opening_stage width asking lines draws) { past = Took line ∷ [] }))
+    (line_taken (codes "buf") (entries_in width (meanings width asking) false buffer) line lines
+    (opening_stage width asking lines draws))
 
 -- Without one it waits for it.
 abbrev pub RunWaits : Type 0
