@@ -3,7 +3,7 @@ use Rattle.std.proofs.Common.{◌≡◌, ◌∙◌, arith, ℕ, ◌+◌, ◌*◌
 use Rattle.inform_meaning.specs.Worlds.{Program, Scope}
 use Rattle.inform_meaning.specs.Frames.{Normal}
 use Rattle.inform_logic.specs.Stages.{Stage}
-use Rattle.inform_logic.specs.Leading.{Loops}
+use Rattle.inform_logic.specs.Leading.{Loops, by_return}
 use Rattle.inform_logic.specs.Worked.{carried_loop, CarriedIsCounted}
 use Rattle.inform_logic.proofs.Lists.{map_at_rest, after_rest}
 use Rattle.inform_logic.proofs.Words.{small_number, small_sum, eq_is}
@@ -64,4 +64,4 @@ pub carried_is_counted : CarriedIsCounted
 carried_is_counted p d w places small has there = does_within (omega arith) (routine has
     (next (for (set_variable number refl)
     (loop p d has.at w places small there places 0 0 refl (omega arith) (omega arith)))
-    (returns (return (local refl)))) refl)
+    (returns (return (local refl)))) by_return)

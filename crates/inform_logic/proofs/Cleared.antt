@@ -3,7 +3,7 @@ use Rattle.std.proofs.Common.{◌≡◌, ◌∙◌, arith, ℕ, ◌+◌, ◌*◌
 use Rattle.inform_meaning.specs.Worlds.{Program, Scope}
 use Rattle.inform_meaning.specs.Frames.{Normal}
 use Rattle.inform_logic.specs.Stages.{Stage}
-use Rattle.inform_logic.specs.Leading.{Loops}
+use Rattle.inform_logic.specs.Leading.{Loops, by_return}
 use Rattle.inform_logic.specs.Worked.{clear_loop, set_flags, FirstClearIsFound}
 use Rattle.inform_logic.proofs.Lists.{map_at_rest, after_rest}
 use Rattle.inform_logic.proofs.Words.{small_sum, eq_is}
@@ -48,4 +48,4 @@ module _ (p : Program) (d r : ℕ) (w : Stage) (flags : List ℕ) (small : lengt
 pub first_clear_is_found : FirstClearIsFound
 first_clear_is_found p d w flags small some has there = does_within (omega arith) (routine has
     (next (while (loop p d has.at w flags small there flags 0 (set_flags flags) refl (omega arith) some
-    (omega arith))) (returns (return (local refl)))) refl)
+    (omega arith))) (returns (return (local refl)))) by_return)

@@ -28,8 +28,10 @@ module _ {p : Program} {d : ℕ} where
       → Evaluates p d x s w a w' n → not (int_eq a (pos 0)) ≡ t → Tests p d (Nonzero x) s w t w' n
   unfolding opened
   nonzero {s = s} {w' = w'} x is =
-      record { takes = finally _ (λ j h. tt) x.takes (λ k.
-      ap (λ t. (Truth t, in_scope k s w')) is) }
+      record {
+        takes = finally _ (λ j h. tt) x.takes (λ k.
+            ap (λ t. (Truth t, in_scope k s w')) is);
+      }
 
   -- a negated condition
   pub negated : {x : Condition} {s : Scope} {w w' : Stage} {t : Bool} {n : ℕ}

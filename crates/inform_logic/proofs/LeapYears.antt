@@ -5,7 +5,7 @@ use Rattle.inform_tree.specs.Values.{Number}
 use Rattle.inform_tree.specs.Conditions as c
 use Rattle.inform_meaning.specs.Worlds.{Program, scope_of}
 use Rattle.inform_logic.specs.Stages.{Stage}
-use Rattle.inform_logic.specs.Leading.{Tests, Does}
+use Rattle.inform_logic.specs.Leading.{Tests, Does, by_return}
 use Rattle.inform_logic.specs.Holding.{routine_at, Has}
 use Rattle.inform_logic.specs.Worked.{year_rest, leap_test, is_leap, LeapYearsAreKnown}
 use Rattle.inform_logic.proofs.Words.{small_number, small_remainder, eq_is, ne_is}
@@ -35,10 +35,10 @@ module _ (p : Program) (d : ℕ) (w : Stage) (y : ℕ) (has : Has p is_leap) whe
       (ne_is (y % n) 0 ∙ ap not h)
 
   leap : Holds leap_test true → Gives 1
-  leap test = routine has (returns (if_true test (returns return_true))) refl
+  leap test = routine has (returns (if_true test (returns return_true))) by_return
 
   common : Holds leap_test false → Gives 0
-  common test = routine has (next (if_false test end) (returns return_false)) refl
+  common test = routine has (next (if_false test end) (returns return_false)) by_return
 
   by : (a b c : Bool) → nat_eq (y % 4) 0 ≡ a → nat_eq (y % 100) 0 ≡ b → nat_eq (y % 400) 0 ≡ c
       → Gives (if (a && not b) || c then 1 else 0)

@@ -3,7 +3,7 @@ use Rattle.std.proofs.Common.{◌≡◌, ◌∙◌, arith, ℕ, zero, suc, ◌+�
 use Rattle.inform_meaning.specs.Worlds.{Program, Scope}
 use Rattle.inform_meaning.specs.Frames.{Normal}
 use Rattle.inform_logic.specs.Stages.{Stage, said}
-use Rattle.inform_logic.specs.Leading.{Loops}
+use Rattle.inform_logic.specs.Leading.{Loops, at_end}
 use Rattle.inform_logic.specs.Worked.{numbers_loop, numbers_text, NumbersAreSaid}
 use Rattle.inform_logic.proofs.Words.{small_sum}
 use Rattle.inform_logic.proofs.Values.{within, number, local}
@@ -42,4 +42,4 @@ module _ (p : Program) (d r n : ℕ) (small : n < 32768) where
 
 pub numbers_are_said : NumbersAreSaid
 numbers_are_said p d w n small has = does_within (omega arith) (routine has
-    (next (for (set_variable number refl) (loop p d has.at n small n 0 w (omega arith))) end) refl)
+    (next (for (set_variable number refl) (loop p d has.at n small n 0 w (omega arith))) end) at_end)

@@ -1,7 +1,6 @@
 -- The rules of statements: what they execute, each with a step of its own.
-use Rattle.std.proofs.Common.{◌≡◌, ◌∙◌, ℕ, ◌+◌, ℤ, pos, true, false, List, [], ◌∷◌, ◌++◌, Some, None, refl, ap}
+use Rattle.std.proofs.Common.{◌≡◌, ◌∙◌, ℕ, ◌+◌, ℤ, pos, true, false, List, [], ◌∷◌, Some, None, refl, ap}
 use Rattle.std.specs.Prelude.{unwrap_or}
-use Rattle.adv_io.specs.Steps.{Took}
 use Rattle.inform_tree.specs.Values.{Expression, Arguments}
 use Rattle.inform_tree.specs.Conditions.{Condition}
 use Rattle.inform_tree.specs.Statements.{Statement, Empty, Block, Assign, Call, If, Switch, Break, Continue, Rtrue, Rfalse, Return, NewLine, Print, Read, Statements, NoStatements, MoreStatements, Cases, NoCases, MoreCases, Default, NoDefault, SomeDefault, Assignment, PrintItem, Choice}
@@ -178,5 +177,9 @@ module _ {p : Program} {d : ℕ} where
       ap (λ b. when b (take_line a) (trap t.Line) (in_scope k s w))
       (ap (λ o. has_room (unwrap_or o [])) there ∙ room)
       ∙ ap (λ ls. line_at ls a (in_scope k s w)) left
-      ∙ ap (λ o. (Normal, in_scope k s (record (line_taken a xs line lines w) {
-      arrays = put_by o w.arrays a (filled (unwrap_or o []) line) }))) there)
+      ∙ ap (λ o. (
+        Normal,
+        in_scope k s (record (line_taken a xs line lines w) {
+          arrays = put_by o w.arrays a (filled (unwrap_or o []) line);
+        }),
+      )) there)

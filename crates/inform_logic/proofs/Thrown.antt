@@ -5,7 +5,7 @@ use Rattle.inform_meaning.specs.Worlds.{Program, Scope}
 use Rattle.inform_meaning.specs.Frames.{Normal}
 use Rattle.inform_meaning.specs.Statements.{do_loop}
 use Rattle.inform_logic.specs.Stages.{Stage}
-use Rattle.inform_logic.specs.Leading.{Runs, Loops, Does}
+use Rattle.inform_logic.specs.Leading.{Runs, Loops, Does, by_return}
 use Rattle.inform_logic.specs.Worked.{throw, all_thrown, thrown, after_draws, DiceAreAdded}
 use Rattle.inform_logic.proofs.Words.{small_sum, counted_down, eq_is}
 use Rattle.inform_logic.proofs.Values.{within, number, local, sum_of_two, random}
@@ -58,4 +58,4 @@ dice_are_added p d w draw draws rest small has there =
     (does_within (omega arith) (routine has (next (do_until
     (one p d has.at w (length draws) 0 draw (draws ++ rest) (omega arith) (omega (arith, small)) there)
     (loop p d has.at draws rest (after_draws (draw ∷ []) (draws ++ rest) w) (0 + ((draw - 1) % 6 + 1))
-    (omega (arith, small, mod-lt)) refl)) (returns (return (local refl)))) refl))
+    (omega (arith, small, mod-lt)) refl)) (returns (return (local refl)))) by_return))

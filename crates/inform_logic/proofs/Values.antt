@@ -1,5 +1,5 @@
 -- The rules of values: what they evaluate to.
-use Rattle.std.proofs.Common.{◌≡◌, ◌∙◌, arith, ℕ, ◌+◌, ◌≤◌, ℤ, pos, int_lt, Bool, false, List, [], ◌∷◌, ◌++◌, Some, None, refl, sym, ap, subst}
+use Rattle.std.proofs.Common.{◌≡◌, ◌∙◌, arith, ℕ, ◌+◌, ◌≤◌, ℤ, pos, int_lt, Bool, false, List, [], ◌∷◌, Some, None, refl, sym, ap, subst}
 use Rattle.std.specs.Prelude.{unwrap_or}
 use Rattle.inform_tree.specs.declared.values.SumOp.{SumOp}
 use Rattle.inform_tree.specs.declared.values.ProdOp.{ProdOp}
@@ -42,8 +42,10 @@ module _ {p : Program} {d : ℕ} where
       → first_of_two (found x s.locals) (first_of_two (w.globals x) (p.constants x)) ≡ Some v
       → Evaluates p d (Name x) s w v w 0
   name {s = s} {w} h =
-      record { takes = nothing_taken (λ k.
-      ap (λ o. (Value (unwrap_or o (pos 0)), in_scope k s w)) h) }
+      record {
+        takes = nothing_taken (λ k.
+            ap (λ o. (Value (unwrap_or o (pos 0)), in_scope k s w)) h);
+      }
 
   -- a name is that of a local, or of a global, or of a constant
   pub local : {x : List ℕ} {s : Scope} {w : Stage} {v : ℤ} → found x s.locals ≡ Some v
@@ -79,8 +81,10 @@ module _ {p : Program} {d : ℕ} where
       → Evaluates p d x s w a w' n → word_negation p.width a ≡ v → Evaluates p d (Neg x) s w v w' n
   unfolding opened
   negation {s = s} {w' = w'} x is =
-      record { takes = finally _ (λ j h. tt) x.takes (λ k.
-      ap (λ a. (Value a, in_scope k s w')) is) }
+      record {
+        takes = finally _ (λ j h. tt) x.takes (λ k.
+            ap (λ a. (Value a, in_scope k s w')) is);
+      }
 
   -- ---- sums
 

@@ -2,12 +2,11 @@
 use Rattle.std.proofs.Common.{◌≡◌, arith, ℕ, ◌-◌, ◌≤◌, ℤ, [], ◌∷◌, refl, sym, ap, subst}
 use Rattle.inform_tree.specs.Statements.{Statements}
 use Rattle.inform_meaning.specs.Worlds.{Program, Scope, Config}
-use Rattle.inform_meaning.specs.Frames.{Main, Quits, Outcome, Value, Truth, Normal, Returns, Breaks, Continues, Halts, Waits, Meaning, bind, on_main}
+use Rattle.inform_meaning.specs.Frames.{Main, Quits, Outcome, Halts, Meaning, bind, on_main}
 use Rattle.inform_meaning.specs.Runs.{CALL_LIMIT, Stop, Halted, Lacking, resume_at, resume, main_begun}
-use Rattle.inform_meaning.specs.Frames.{returned}
 use Rattle.inform_meaning.specs.Programs.{program_in}
 use Rattle.inform_logic.specs.Stages.{plus, Stage, in_scope, stage_of}
-use Rattle.inform_logic.specs.Leading.{Leaves, Runs, TheBlock}
+use Rattle.inform_logic.specs.Leading.{Leaves, Gives, at_end, by_return, Runs, TheBlock}
 use Rattle.inform_logic.specs.Stopping.{IsStop, Ends, Stops, stop_leaves, Stopped}
 use Rattle.inform_logic.specs.Laws.{RunStops}
 use Rattle.inform_logic.proofs.Opened.{opened}
@@ -15,17 +14,11 @@ use Rattle.inform_logic.proofs.Steps.{plus_is, finally}
 use Rattle.inform_logic.proofs.Stopping.{Passes, passes, ends_first}
 use Rattle.inform_logic.proofs.Routines.{leaves_any}
 
--- `Main` has an end too
-over : (e : Outcome) (v : ℤ) → returned e ≡ Value v → (c : Config) → on_main e c ≡ (Halts Quits, c)
+-- at the end of `Main` the run is over
+over : {e : Outcome} {v : ℤ} → Gives e v → (c : Config) → on_main e c ≡ (Halts Quits, c)
 unfolding on_main
-over (Value a) v h c = refl
-over (Truth b) v h c = refl
-over Normal v h c = refl
-over (Returns a) v h c = refl
-over Breaks v h c = refl
-over Continues v h c = refl
-over (Halts halt) v h c = cc
-over (Waits lack fs) v h c = cc
+over at_end c = refl
+over by_return c = refl
 
 module _ (p : Program) where
   passes_main : Passes (resume_at p CALL_LIMIT (Main ∷ []))
@@ -41,14 +34,15 @@ module _ (p : Program) where
 
   -- where it comes to its end, the run is over
   pub main_ends : {body : Statements} {s s' : Scope} {w w' : Stage} {e : Outcome} {v : ℤ} {n : ℕ}
-      → Runs p CALL_LIMIT body s w e s' w' n → returned e ≡ Value v
+      → Runs p CALL_LIMIT body s w e s' w' n → Gives e v
       → Ends (resume p (main_begun body)) s w (Halted Quits) w' n
   unfolding resume_at bind opened
-  main_ends {s' = s'} {e = e} {v} body is = record {
+  main_ends {s' = s'} body gives = record {
     ending = Halts Quits;
     scope = s';
     is = refl;
-    takes = finally (resume_at p CALL_LIMIT (Main ∷ [])) (λ j h. leaves_any e v is j) body.takes (λ j. over e v is _);
+    takes = finally (resume_at p CALL_LIMIT (Main ∷ [])) (λ j h. leaves_any gives j) body.takes
+        (λ j. over gives _);
   }
 
 -- ---- with steps enough

@@ -1,10 +1,10 @@
 -- What a part of a program does, by its syntax: where it leads, and in how many steps at most.
-use Rattle.std.specs.Prelude.{◌≡◌, ℕ, ◌≤◌, ℤ, Bool, List, Option, Some}
+use Rattle.std.specs.Prelude.{◌≡◌, ℕ, ◌≤◌, ℤ, pos, Bool, List, Option, Some}
 use Rattle.inform_tree.specs.Values.{Expression, Arguments, Terms, Factors}
 use Rattle.inform_tree.specs.Conditions.{Condition, Conditions}
 use Rattle.inform_tree.specs.Statements.{Statement, Statements, Cases, Default, Assignment, PrintItem, Choice}
 use Rattle.inform_meaning.specs.Worlds.{Program, Scope}
-use Rattle.inform_meaning.specs.Frames.{Loop, Lack, Spent, Outcome, Value, Truth, Normal, Waits, Meaning}
+use Rattle.inform_meaning.specs.Frames.{Loop, Lack, Spent, Outcome, Value, Truth, Normal, Returns, Waits, Meaning}
 use Rattle.inform_meaning.specs.Meaning.{eval, eval_call, eval_sum, eval_product, test_all, test_any, test_if_any, alter_if_any, print_items}
 use Rattle.inform_meaning.specs.Statements.{fits_any, act, exec, exec_all, exec_cases, exec_default, turns_of, test_done, body_done}
 use Rattle.inform_meaning.specs.Runs.{call_at}
@@ -125,6 +125,11 @@ pub record Fits (p : Program) (a : ℤ) (choices : List Choice) (b : Bool) : Typ
   pub fits : fits_any p a choices ≡ b
 
 -- ---- routines
+
+-- what the body of a routine gives: 1 at its end, and what it returns
+pub data Gives : Outcome → ℤ → Type 0 where
+  at_end : Gives Normal (pos 1)
+  by_return : {v : ℤ} → Gives (Returns v) v
 
 -- a call of a routine with these arguments gives this value, whatever the caller's scope, which
 -- comes back

@@ -1,6 +1,5 @@
 -- A worked program, and what its runs come to.
 use Rattle.std.specs.Prelude.{ℕ, ◌≤◌, false, List, [], ◌∷◌, codes}
-use Rattle.adv_io.specs.Steps.{Took}
 use Rattle.inform_tree.specs.declared.widths.Width.{Width}
 use Rattle.inform_tree.specs.declared.values.Const.{Const}
 use Rattle.inform_tree.specs.declared.values.Const.TheVariants.{Number}
@@ -8,7 +7,6 @@ use Rattle.inform_tree.specs.Values.{NoArguments}
 use Rattle.inform_tree.specs.Statements.{Call, statements}
 use Rattle.inform_tree.specs.Programs.{RoutineTree, DirectiveTree, Array, Routine}
 use Rattle.inform_names.specs.Meanings.{meanings}
-use Rattle.inform_meaning.specs.Worlds.{filled}
 use Rattle.inform_meaning.specs.Frames.{Quits, NeedsLine}
 use Rattle.inform_meaning.specs.Runs.{Halted, Lacking}
 use Rattle.inform_meaning.specs.Programs.{no_notes, entries_in, run_of}
