@@ -3,10 +3,10 @@ use Rattle.std.proofs.Common.{◌≡◌, ◌∙◌, arith, ℕ, ◌+◌, ◌*◌
 use Rattle.inform_meaning.specs.Worlds.{Program, Scope}
 use Rattle.inform_meaning.specs.Frames.{Normal}
 use Rattle.inform_logic.specs.Stages.{Stage}
-use Rattle.inform_logic.specs.Leading.{Loops, by_return}
-use Rattle.inform_logic.specs.Worked.{carried_loop, CarriedIsCounted}
+use Rattle.inform_logic.specs.Leading.{Tests, Loops, by_return}
+use Rattle.inform_logic.specs.Worked.{item_is_held, item_below, carried_loop, CarriedIsCounted}
 use Rattle.inform_logic.proofs.Lists.{map_at_rest, after_rest}
-use Rattle.inform_logic.proofs.Words.{small_number, small_sum, eq_is}
+use Rattle.inform_logic.proofs.Words.{small_number, counted_up, eq_is}
 use Rattle.inform_logic.proofs.Values.{within, valued, number, local, entry}
 use Rattle.inform_logic.proofs.Conditions.{compare}
 use Rattle.inform_logic.proofs.Changes.{set_variable, increment}
@@ -42,21 +42,25 @@ module _ (p : Program) (d r : ℕ) (w : Stage) (places : List ℕ) (small : leng
         under : nat_lt i (length places) ≡ true
         under = grind (arith, all)
 
+        on : Tests p d (item_below (length places)) (counting r i n) w true w 0
+        on = compare (local refl) (valued (small_number p.width small) number) under
+
+        held : {b : Bool} → nat_eq x 255 ≡ b → Tests p d item_is_held (counting r i n) w b w 0
+        held is = compare (entry (local refl) there (map_at_rest pos places i left)) number
+            (eq_is x 255 ∙ is)
+
         from : (b : Bool) → nat_eq x 255 ≡ b
             → ((m : ℕ) → m ≤ i + 1 → Counts (i + 1) m (more m rest) (3 * length rest + 1))
             → Counts i n (more (n + cond b 1 0) rest) (3 * length (x ∷ rest) + 1)
-        from true is after = within (omega arith) (for_once_more
-            (compare (local refl) (valued (small_number p.width small) number) under)
-            (next (if_true (compare (entry (local refl) there (map_at_rest pos places i left)) number
-            (eq_is x 255 ∙ is)) (next (assign (increment refl
-            (small_sum p.width n 1 (omega (arith, few, all, small))))) end)) end)
-            (increment refl (small_sum p.width i 1 (omega (arith, all, small))))
+        from true is after = within (omega arith) (for_once_more on
+            (next (if_true (held is)
+            (next (assign (increment refl (counted_up p.width n (omega (arith, few, all, small)))))
+            end)) end)
+            (increment refl (counted_up p.width i (omega (arith, all, small))))
             (after (n + 1) (omega (arith, few))))
-        from false is after = within (omega arith) (for_once_more
-            (compare (local refl) (valued (small_number p.width small) number) under)
-            (next (if_false (compare (entry (local refl) there (map_at_rest pos places i left)) number
-            (eq_is x 255 ∙ is)) end) end)
-            (increment refl (small_sum p.width i 1 (omega (arith, all, small))))
+        from false is after = within (omega arith) (for_once_more on
+            (next (if_false (held is) end) end)
+            (increment refl (counted_up p.width i (omega (arith, all, small))))
             (subst (λ m. Counts (i + 1) n (more m rest) (3 * length rest + 1)) (sym (add-zero n))
             (after n (omega (arith, few)))))
 

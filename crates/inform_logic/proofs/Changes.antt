@@ -90,7 +90,8 @@ module _ {p : Program} {d : ℕ} where
     written : (k : ℕ) → store a words i v (in_scope k s w')
         ≡ (Normal, in_scope k s (with_array a (set xs (unsigned_abs i) (kept words v)) w'))
     written k =
-        ap (λ o. store_by (entry_at (unwrap_or o []) i) (stored a words i v) (in_scope k s w')) there
+        ap (λ o. store_by (entry_at (unwrap_or o []) i) (stored a words i v) (in_scope k s w'))
+        there
         ∙ go (entry_at xs i) is where
           go : (o : Option ℤ) → is_some o ≡ true
               → store_by o (stored a words i v) (in_scope k s w')
@@ -98,8 +99,10 @@ module _ {p : Program} {d : ℕ} where
           go (Some old) h = ap (λ o. (
             Normal,
             record (in_scope k s w') {
-              world = record (world_in s w')
-                  { arrays = put_by o w'.arrays a (set (unwrap_or o []) (unsigned_abs i) (kept words v)) };
+              world = record (world_in s w') {
+                arrays = put_by o w'.arrays a
+                    (set (unwrap_or o []) (unsigned_abs i) (kept words v));
+              };
             },
           )) there
           go None h = cc

@@ -70,21 +70,27 @@ not_true : (b : Bool) → ¬ (b ≡ true) → b ≡ false
 not_true true h = absurd (h refl)
 not_true false h = refl
 
+-- whether a directive has the name of another
+abbrev same_as : DirectiveTree → DirectiveTree → Bool
+same_as x y = bytes_eq (name_of x) (name_of y)
+
 -- the first directive of a name is the one that has it, where no two have one
 first_is : (ds : List DirectiveTree) (i at : ℕ) (x : DirectiveTree) → Distinct ds
-    → slice_get ds at ≡ Some x
-    → position_from (λ y. bytes_eq (name_of x) (name_of y)) i ds ≡ Some (i + at)
+    → slice_get ds at ≡ Some x → position_from (same_as x) i ds ≡ Some (i + at)
 first_is [] i at x distinct is = cc
-first_is (y ∷ ys) i zero x distinct is = ap (λ b. cond b (Some i) (position_from (λ y. bytes_eq (name_of x) (name_of y)) (i + 1) ys))
+first_is (y ∷ ys) i zero x distinct is =
+    ap (λ b. cond b (Some i) (position_from (same_as x) (i + 1) ys))
     ((bytes_eq-Decides (name_of x) (name_of y)).1 (sym same)) ∙ ap Some (omega arith) where
       same : name_of y ≡ name_of x
       same = ap (λ o. unwrap_or (option_map name_of o) []) is
-first_is (y ∷ ys) i (suc at) x distinct is = ap (λ b. cond b (Some i) (position_from (λ y. bytes_eq (name_of x) (name_of y)) (i + 1) ys))
-    other ∙ first_is ys (i + 1) at x distinct.1 is ∙ ap Some (omega arith) where
-      other : bytes_eq (name_of x) (name_of y) ≡ false
-      other = not_true (bytes_eq (name_of x) (name_of y)) (λ h. all_at (λ z. name_of y ≢ name_of z) ys at
-          distinct.0 is (sym ((bytes_eq-Decides (name_of x) (name_of y)).0 h)))
+first_is (y ∷ ys) i (suc at) x distinct is =
+    ap (λ b. cond b (Some i) (position_from (same_as x) (i + 1) ys)) other
+    ∙ first_is ys (i + 1) at x distinct.1 is ∙ ap Some (omega arith) where
+      other : same_as x y ≡ false
+      other = not_true (same_as x y) (λ h. all_at (λ z. name_of y ≢ name_of z) ys at distinct.0 is
+          (sym ((bytes_eq-Decides (name_of x) (name_of y)).0 h)))
 
+-- what a name means, by the directive of this name at this place
 module _ (law : MeaningsAreFirst) (width : Width) (ds : List DirectiveTree) (distinct : Distinct ds)
     (at : ℕ) (x : DirectiveTree) (there : slice_get ds at ≡ Some x) where
   meant : option_map (λ m. m.at) (meanings width ds (name_of x)) ≡ Some at
@@ -113,7 +119,8 @@ held_by law width ds notes distinct at (t.Routine r) there = (
   at,
   ap (λ n. option_and_then (routine_in n) (first_directive width ds r.name))
       (number_is law width ds distinct at (t.Routine r) there)
-      ∙ ap (option_and_then (routine_in at)) (directive_is law width ds distinct at (t.Routine r) there),
+      ∙ ap (option_and_then (routine_in at))
+      (directive_is law width ds distinct at (t.Routine r) there),
 )
 
 pub program_holds : MeaningsAreFirst → ProgramHolds
@@ -122,7 +129,8 @@ program_holds law width ds notes distinct = all_from (Held (program_in width ds 
 
 opened_by : (law : MeaningsAreFirst) (width : Width) (ds : List DirectiveTree)
     (lines : List (List ℕ)) (draws : List ℕ) → Distinct ds → (at : ℕ) (x : DirectiveTree)
-    → slice_get ds at ≡ Some x → Opened width (meanings width ds) (opening_stage width ds lines draws) x
+    → slice_get ds at ≡ Some x
+    → Opened width (meanings width ds) (opening_stage width ds lines draws) x
 opened_by law width ds lines draws distinct at (t.Constant name x) there = tt
 opened_by law width ds lines draws distinct at (t.Global name x) there =
     ap (option_and_then (global_in width (meanings width ds)))

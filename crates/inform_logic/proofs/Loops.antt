@@ -20,8 +20,9 @@ use Rattle.inform_logic.proofs.Changes.{no_change}
 use Rattle.inform_logic.proofs.Statements.{step}
 
 -- a loop is its next turn
-once : (p : Program) (d : ℕ) (l : Loop) (c : Config) → turns_of p (call_at p d) l c ≡ tick (Begins (TurnDue l))
-    (bind (test_if_any p (call_at p d) l.test) (test_done p (call_at p d) l)) c
+once : (p : Program) (d : ℕ) (l : Loop) (c : Config) → turns_of p (call_at p d) l c
+    ≡ tick (Begins (TurnDue l)) (bind (test_if_any p (call_at p d) l.test)
+    (test_done p (call_at p d) l)) c
 once p d l c = loop_once l (test_if_any p (call_at p d) l.test) (exec_all p (call_at p d) l.body)
     (alter_if_any p (call_at p d) l.change)
     (test_if_any-going p (call_at p d) (call_at-going p d) l.test)
@@ -102,18 +103,21 @@ module _ {p : Program} {d : ℕ} where
   loop_continues x goes body change more = within (omega arith)
       (turn x (turn_goes_on goes (λ j. tt) body (turn_continues change more)))
 
+  -- `break` ends the loop
   pub loop_breaks : {l : Loop} {b : Bool} {s s' : Scope} {w w1 w' : Stage} {n m : ℕ}
       → TestsIfAny p d l.test s w b w1 n → loop_goes_on l b ≡ true
       → Runs p d l.body s w1 Breaks s' w' m → Loops p d l s w Normal s' w' (n + m + 1)
   loop_breaks x goes body =
       within (omega arith) (turn x (turn_goes_on goes (λ j. tt) body turn_breaks))
 
+  -- `return` leaves the routine
   pub loop_returns : {l : Loop} {b : Bool} {s s' : Scope} {w w1 w' : Stage} {v : ℤ} {n m : ℕ}
       → TestsIfAny p d l.test s w b w1 n → loop_goes_on l b ≡ true
       → Runs p d l.body s w1 (Returns v) s' w' m → Loops p d l s w (Returns v) s' w' (n + m + 1)
   loop_returns x goes body =
       within (omega arith) (turn x (turn_goes_on goes (λ j. tt) body turn_returns))
 
+  -- no turn is left
   pub loop_is_over : {l : Loop} {b : Bool} {s : Scope} {w w' : Stage} {n : ℕ}
       → TestsIfAny p d l.test s w b w' n → loop_goes_on l b ≡ false
       → Loops p d l s w Normal s w' (n + 1)
@@ -121,6 +125,7 @@ module _ {p : Program} {d : ℕ} where
 
   -- ---- the three kinds of loops
 
+  -- `while`: a turn and those after it, and the end
   pub while_once_more : {x : Condition} {body : Statements} {s s1 s' : Scope} {w w1 w2 w' : Stage}
       {e : Outcome} {n m t : ℕ} → Tests p d x s w true w1 n → Runs p d body s w1 Normal s1 w2 m
       → Loops p d (while_loop x body) s1 w2 e s' w' t
@@ -131,7 +136,7 @@ module _ {p : Program} {d : ℕ} where
       → Tests p d x s w false w' n → Loops p d (while_loop x body) s w Normal s w' (n + 1)
   while_ends x = loop_is_over x refl
 
-  -- the test comes after the body, and the loop ends where it holds
+  -- `do`: the loop ends where its test holds
   pub do_once_more : {x : Condition} {body : Statements} {s s1 s' : Scope} {w w1 w2 w' : Stage}
       {e : Outcome} {n m t : ℕ} → Tests p d x s w false w1 n → Runs p d body s w1 Normal s1 w2 m
       → Loops p d (do_loop body x) s1 w2 e s' w' t
@@ -142,6 +147,7 @@ module _ {p : Program} {d : ℕ} where
       → Tests p d x s w true w' n → Loops p d (do_loop body x) s w Normal s w' (n + 1)
   do_ends x = loop_is_over x refl
 
+  -- `for`: the change comes after the body
   pub for_once_more : {x : Option Condition} {change : Option Assignment} {body : Statements}
       {s s1 s2 s' : Scope} {w w1 w2 w3 w' : Stage} {e : Outcome} {n m q t : ℕ}
       → TestsIfAny p d x s w true w1 n → Runs p d body s w1 Normal s1 w2 m
@@ -156,11 +162,13 @@ module _ {p : Program} {d : ℕ} where
 
   -- ---- the statements
 
+  -- `while`
   pub while : {x : Condition} {body : Statements} {s s' : Scope} {w w' : Stage} {e : Outcome}
       {n : ℕ} → Loops p d (while_loop x body) s w e s' w' n
       → Executes p d (While x body) s w e s' w' (n + 1)
   while turns = step (record { takes = turns.takes })
 
+  -- `for`: what is done first, and the turns
   pub for : {first change : Option Assignment} {x : Option Condition} {body : Statements}
       {s s1 s' : Scope} {w w1 w' : Stage} {e : Outcome} {n m : ℕ}
       → ChangesIfAny p d first s w s1 w1 n → Loops p d (for_loop x change body) s1 w1 e s' w' m
@@ -169,14 +177,16 @@ module _ {p : Program} {d : ℕ} where
   for first turns = step (record { takes = normal_then _ first.takes turns.takes })
 
   -- the body before the first test, and what comes after it
-  pub do_first : {x : Condition} {body : Statements} {s s1 s' : Scope} {w w1 w' : Stage} {e1 e : Outcome}
-      {n m : ℕ} → ((j : ℕ) → Leaves e1 j) → Runs p d body s w e1 s1 w1 n
+  pub do_first : {x : Condition} {body : Statements} {s s1 s' : Scope} {w w1 w' : Stage}
+      {e1 e : Outcome} {n m : ℕ} → ((j : ℕ) → Leaves e1 j) → Runs p d body s w e1 s1 w1 n
       → Leads p d (AfterBody (do_loop body x) e1) s1 w1 e s' w' m
       → Executes p d (Do body x) s w e s' w' (n + m + 1)
   unfolding opened
   do_first any body rest = step (record { takes = and_then _ any body.takes rest.takes })
 
+  -- `do`, where the body comes to its end
   pub do_until : {x : Condition} {body : Statements} {s s1 s' : Scope} {w w1 w' : Stage}
       {e : Outcome} {n m : ℕ} → Runs p d body s w Normal s1 w1 n
-      → Loops p d (do_loop body x) s1 w1 e s' w' m → Executes p d (Do body x) s w e s' w' (n + m + 1)
+      → Loops p d (do_loop body x) s1 w1 e s' w' m
+      → Executes p d (Do body x) s w e s' w' (n + m + 1)
   do_until body more = within (omega arith) (do_first (λ j. tt) body (turn_ends no_change more))

@@ -5,7 +5,7 @@ use Rattle.inform_meaning.specs.Frames.{Normal}
 use Rattle.inform_logic.specs.Stages.{Stage, said}
 use Rattle.inform_logic.specs.Leading.{Loops, at_end}
 use Rattle.inform_logic.specs.Worked.{numbers_loop, numbers_text, NumbersAreSaid}
-use Rattle.inform_logic.proofs.Words.{small_sum}
+use Rattle.inform_logic.proofs.Words.{counted_up}
 use Rattle.inform_logic.proofs.Values.{within, number, local}
 use Rattle.inform_logic.proofs.Conditions.{compare}
 use Rattle.inform_logic.proofs.Changes.{set_variable, increment}
@@ -37,7 +37,7 @@ module _ (p : Program) (d r n : ℕ) (small : n < 32768) where
       ∙ said_twice (decimal i ++ codes " ") (numbers_text (i + 1) count) w)
       (within (omega arith) (for_once_more (compare (local refl) (local refl) under)
       (next (print (print_number (local refl) (print_text print_nothing))) end)
-      (increment refl (small_sum p.width i 1 (omega (arith, all, small))))
+      (increment refl (counted_up p.width i (omega (arith, all, small))))
       (loop count (i + 1) _ (omega (arith, all)))))
 
 pub numbers_are_said : NumbersAreSaid

@@ -16,7 +16,8 @@ place_is_said p d w n has = by (nat_eq n 0) (nat_le n 9) refl refl where
 
   by : (zero few : Bool) → nat_eq n 0 ≡ zero → nat_le n 9 ≡ few → Does p (suc d) (codes "say_place")
       (pos n ∷ []) w (pos 1)
-      (said (if zero then codes "nowhere" else if few then codes "room " ++ decimal n else codes "held") w) 2
+      (said (if zero then codes "nowhere" else
+      if few then codes "room " ++ decimal n else codes "held") w) 2
   by true few is h = routine has (next (switch (local refl)
       (this_case (one_number (omega arith) is)
       (next (print (print_text print_nothing)) end))) end) at_end

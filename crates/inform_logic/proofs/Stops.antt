@@ -18,9 +18,9 @@ use Rattle.inform_logic.specs.Stages.{Stage, in_scope, with_past}
 use Rattle.inform_logic.specs.Leading.{Leads, Part, TheValue, TheCall, TheTest, TheChange, TheAct, TheStatement, TheBlock, TheTurns, Evaluates}
 use Rattle.inform_logic.specs.Stopping.{IsStop, Stops, CallStops, First, in_entry, in_random, in_negation, in_sum, in_term, in_product, in_factor, in_call, in_argument, in_comparison, in_nonzero, in_negated, in_all, in_one_of_all, in_any, in_one_of_any, in_set, in_index, in_number, in_character, in_statements, in_assignment, in_print, in_call_alone, in_return, in_if, in_switch, in_while, in_do, in_for, in_block, in_body, in_change}
 use Rattle.inform_logic.proofs.Opened.{opened}
-use Rattle.inform_logic.proofs.Steps.{nothing_taken, finally, one_step}
+use Rattle.inform_logic.proofs.Steps.{finally, one_step}
 use Rattle.inform_logic.proofs.Stopping.{with_takes, passes_value, passes_truth, passes_normal, passes_body, passes_return, ends_first, ends_after, ends_chosen}
-use Rattle.inform_logic.proofs.Statements.{step}
+use Rattle.inform_logic.proofs.Statements.{step, plain}
 use Rattle.inform_logic.proofs.Routines.{entering}
 
 module _ {p : Program} {d : ℕ} where
@@ -32,8 +32,9 @@ module _ {p : Program} {d : ℕ} where
   stopped {s' = s'} {e = e} is x =
       record { ends = record { ending = e; scope = s'; is = is; takes = x.takes } }
 
+  -- `quit;`
   pub quit : {s : Scope} {w : Stage} → Stops p d (TheStatement Quit) s w (Halted Quits) w 1
-  quit = stopped refl (step (record { takes = nothing_taken (λ k. refl) }))
+  quit = stopped refl (plain (λ k. refl))
 
   -- no line is left
   pub read_waits : {a words : List ℕ} {s : Scope} {w : Stage} {xs : List ℤ} → w.arrays a ≡ Some xs
@@ -41,12 +42,10 @@ module _ {p : Program} {d : ℕ} where
       → Stops p d (TheStatement (Read a words)) s w (Lacking NeedsLine) w 1
   unfolding when
   read_waits {a} {s = s} {w} there room left =
-      stopped (Begins (LineDue a) ∷ [], refl) (step (record {
-        takes = nothing_taken (λ k.
-            ap (λ b. when b (take_line a) (trap t.Line) (in_scope k s w))
-            (ap (λ o. has_room (unwrap_or o [])) there ∙ room)
-            ∙ ap (λ ls. line_at ls a (in_scope k s w)) left);
-      }))
+      stopped (Begins (LineDue a) ∷ [], refl) (plain (λ k.
+      ap (λ b. when b (take_line a) (trap t.Line) (in_scope k s w))
+      (ap (λ o. has_room (unwrap_or o [])) there ∙ room)
+      ∙ ap (λ ls. line_at ls a (in_scope k s w)) left))
 
   -- no draw is left
   pub random_waits : {x : Expression} {s : Scope} {w w' : Stage} {limit : ℤ} {n : ℕ}
@@ -71,11 +70,13 @@ module _ {p : Program} {d : ℕ} where
   pub call_waits : {f : List ℕ} {values : List ℤ} {s : Scope} {w : Stage}
       → Stops p d (TheCall f values NoArguments) s w (Lacking Spent) w 0
   unfolding tick
-  call_waits {f} {values} {s} {w} = stopped {s' = s} (Begins (CallDue f values) ∷ [], refl) (record {
-    takes = record { steps = 0; few = omega arith; by = λ k none. rw none };
-  })
+  call_waits {f} {values} {s} {w} =
+      stopped {s' = s} (Begins (CallDue f values) ∷ [], refl) (record {
+        takes = record { steps = 0; few = omega arith; by = λ k none. rw none };
+      })
 
-  pub turn_waits : {l : Loop} {s : Scope} {w : Stage} → Stops p d (TheTurns l) s w (Lacking Spent) w 0
+  pub turn_waits : {l : Loop} {s : Scope} {w : Stage}
+      → Stops p d (TheTurns l) s w (Lacking Spent) w 0
   unfolding turns
   turn_waits {l} {s} {w} = stopped {s' = s} (Begins (TurnDue l) ∷ [], refl) (record {
     takes = record { steps = 0; few = omega arith; by = λ k none. rw none };
@@ -88,8 +89,10 @@ module _ {p : Program} {d : ℕ} where
       → ((e : Outcome) (s' : Scope) → Leads p d part s1 w1 e s' w' n
       → Leads p d whole s w e s' w' m) → Stops p d part s1 w1 stop w' n
       → Stops p d whole s w stop w' m
-  later rule x = stopped x.ends.is (rule x.ends.ending x.ends.scope (record { takes = x.ends.takes }))
+  later rule x =
+      stopped x.ends.is (rule x.ends.ending x.ends.scope (record { takes = x.ends.takes }))
 
+  -- what stops the first part of a whole stops the whole
   pub handed_up : {part whole : Part} → First part whole → {s : Scope} {w w' : Stage} {stop : Stop}
       {n : ℕ} → Stops p d part s w stop w' n → Stops p d whole s w stop w' n
   unfolding opened
@@ -148,7 +151,8 @@ module _ {p : Program} {d : ℕ} where
   step_stops x = later (λ e s'. step) x
 
   pub called_stops : {f : List ℕ} {values : List ℤ} {s : Scope} {w w' : Stage} {stop : Stop} {n : ℕ}
-      → CallStops p d f values w stop w' n → Stops p d (TheCall f values NoArguments) s w stop w' (n + 1)
+      → CallStops p d f values w stop w' n
+      → Stops p d (TheCall f values NoArguments) s w stop w' (n + 1)
   called_stops {s = s} x =
       record { ends = with_takes (x.ends s) (one_step _ (x.ends s).takes) }
 

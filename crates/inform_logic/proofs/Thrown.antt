@@ -29,23 +29,25 @@ module _ (p : Program) (d r : ℕ) where
       (small_sum p.width t ((draw - 1) % 6 + 1) (omega (arith, few, mod-lt)))) refl))
       (next (assign (decrement refl (counted_down p.width n small))) end)
 
+  -- as many dice as are left
+  abbrev Throws : List ℕ → ℕ → Stage → Stage → ℕ → Type 0
+  Throws draws t w w' most = Loops p d (do_loop throw all_thrown) (throwing r (length draws) t) w
+      Normal (throwing r 0 (thrown t draws)) w' most
+
   loop : (draws rest : List ℕ) (w : Stage) (t : ℕ) → t + 6 * length draws < 32768
       → w.draws ≡ draws ++ rest
-      → Loops p d (do_loop throw all_thrown) (throwing r (length draws) t) w Normal
-      (throwing r 0 (thrown t draws)) (after_draws draws rest w) (3 * length draws + 1)
-  loop [] rest w t small there = subst (λ w'. Loops p d (do_loop throw all_thrown) (throwing r 0 t) w
-      Normal (throwing r 0 t) w' 1)
+      → Throws draws t w (after_draws draws rest w) (3 * length draws + 1)
+  loop [] rest w t small there = subst (λ w'. Throws [] t w w' 1)
       (ap₂ (λ draws past. record w { draws = draws; past = past }) there (sym (append-nil w.past)))
       (do_ends (compare (local refl) number refl))
   loop (draw ∷ draws) rest w t small there =
       let some : nat_eq (suc (length draws)) 0 ≡ false = grind arith in
-      subst (λ past. Loops p d (do_loop throw all_thrown) (throwing r (suc (length draws)) t) w Normal
-      (throwing r 0 (thrown (t + ((draw - 1) % 6 + 1)) draws)) (record w { draws = rest; past = past })
-      (3 * length (draw ∷ draws) + 1))
-      (append_assoc w.past (Drew draw ∷ []) (map Drew draws))
+      subst (λ past. Throws (draw ∷ draws) t w (record w { draws = rest; past = past })
+      (3 * length (draw ∷ draws) + 1)) (append_assoc w.past (Drew draw ∷ []) (map Drew draws))
       (within (omega arith) (do_once_more
       (compare (local refl) number (eq_is (suc (length draws)) 0 ∙ some))
-      (one w (length draws) t draw (draws ++ rest) (omega (arith, small)) (omega (arith, small)) there)
+      (one w (length draws) t draw (draws ++ rest) (omega (arith, small)) (omega (arith, small))
+      there)
       (loop draws rest (after_draws (draw ∷ []) (draws ++ rest) w) (t + ((draw - 1) % 6 + 1))
       (omega (arith, small, mod-lt)) refl)))
 
@@ -53,9 +55,10 @@ pub dice_are_added : DiceAreAdded
 dice_are_added p d w draw draws rest small has there =
     subst (λ past. Does p (suc d) (codes "throws") (pos (length (draw ∷ draws)) ∷ []) w
     (pos (thrown 0 (draw ∷ draws))) (record w { draws = rest; past = past })
-    (3 * length (draw ∷ draws) + 2))
-    (append_assoc w.past (Drew draw ∷ []) (map Drew draws))
+    (3 * length (draw ∷ draws) + 2)) (append_assoc w.past (Drew draw ∷ []) (map Drew draws))
     (does_within (omega arith) (routine has (next (do_until
-    (one p d has.at w (length draws) 0 draw (draws ++ rest) (omega arith) (omega (arith, small)) there)
-    (loop p d has.at draws rest (after_draws (draw ∷ []) (draws ++ rest) w) (0 + ((draw - 1) % 6 + 1))
-    (omega (arith, small, mod-lt)) refl)) (returns (return (local refl)))) by_return))
+    (one p d has.at w (length draws) 0 draw (draws ++ rest) (omega arith) (omega (arith, small))
+    there)
+    (loop p d has.at draws rest (after_draws (draw ∷ []) (draws ++ rest) w)
+    (0 + ((draw - 1) % 6 + 1)) (omega (arith, small, mod-lt)) refl))
+    (returns (return (local refl)))) by_return))

@@ -75,7 +75,8 @@ module _ (width : Width) where
   small_quotient a b small h =
       quotient_is (pos a) (pos b) (not_zero b h) (small_word (omega (arith, small)))
 
-  pub small_remainder : (a b : ℕ) → 0 < b → multiplied width Rem (pos a) (pos b) ≡ Some (pos (a % b))
+  pub small_remainder : (a b : ℕ) → 0 < b
+      → multiplied width Rem (pos a) (pos b) ≡ Some (pos (a % b))
   small_remainder a b h = remainder_is (pos a) (pos b) (not_zero b h)
 
   pub counted_up : (a : ℕ) → a + 1 < 32768 → word_sum width (pos a) (pos 1) ≡ pos (a + 1)
@@ -92,7 +93,8 @@ pub small_byte : (a : ℕ) → a < 256 → low_byte (pos a) ≡ a
 small_byte a small = mod-eq_of_lt small
 
 -- a draw that is no greater than the limit is itself
-pub small_draw : (limit draw : ℕ) → 1 ≤ draw → draw ≤ limit → draw_within (pos limit) draw ≡ pos draw
+pub small_draw : (limit draw : ℕ) → 1 ≤ draw → draw ≤ limit
+    → draw_within (pos limit) draw ≡ pos draw
 small_draw limit draw some few =
     let within : draw - 1 < limit = omega (arith, some, few) in
     ap (λ n. pos (n + 1)) (mod-eq_of_lt within) ∙ ap pos (omega (arith, some))

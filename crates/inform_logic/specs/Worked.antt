@@ -55,11 +55,15 @@ text bytes = t.Print (t.Text bytes ∷ [])
 
 -- ---- `[ carried i n; for (i = 0 : i < ITEMS : i++) { if (item-->i == 255) n++; } return n; ];`
 
+abbrev pub item_is_held : c.Condition
+item_is_held = c.Compare Eq (entry (codes "item") (codes "i")) (v.Number 255)
+
+abbrev pub item_below : ℕ → c.Condition
+item_below items = c.Compare Lt (name (codes "i")) (v.Number items)
+
 abbrev pub carried_loop : ℕ → Loop
-carried_loop items = for_loop (Some (c.Compare Lt (name (codes "i")) (v.Number items)))
-    (Some (t.Inc (codes "i")))
-    (statements (if_only (c.Compare Eq (entry (codes "item") (codes "i")) (v.Number 255))
-    (increment (codes "n") ∷ []) ∷ []))
+carried_loop items = for_loop (Some (item_below items)) (Some (t.Inc (codes "i")))
+    (statements (if_only item_is_held (increment (codes "n") ∷ []) ∷ []))
 
 abbrev pub carried : ℕ → RoutineTree
 carried items = routine (codes "carried") (codes "i" ∷ codes "n" ∷ [])
@@ -113,10 +117,12 @@ PlaceIsSaid = (p : Program) (d : ℕ) (w : Stage) (n : ℕ) → Has p say_place
 
 -- ---- `[ first_clear i; while (1 == 1) { if (flag-->i == 0) break; i++; } return i; ];`
 
+abbrev pub flag_is_clear : c.Condition
+flag_is_clear = c.Compare Eq (entry (codes "flag") (codes "i")) (v.Number 0)
+
 abbrev pub clear_loop : Loop
 clear_loop = while_loop (c.Compare Eq (v.Number 1) (v.Number 1))
-    (statements (if_only (c.Compare Eq (entry (codes "flag") (codes "i")) (v.Number 0))
-    (t.Break ∷ []) ∷ increment (codes "i") ∷ []))
+    (statements (if_only flag_is_clear (t.Break ∷ []) ∷ increment (codes "i") ∷ []))
 
 abbrev pub first_clear : RoutineTree
 first_clear = routine (codes "first_clear") (codes "i" ∷ [])
@@ -186,7 +192,8 @@ numbers_text first (suc count) = (decimal first ++ codes " ") ++ numbers_text (f
 -- It says the numbers below n.
 abbrev pub NumbersAreSaid : Type 0
 NumbersAreSaid = (p : Program) (d : ℕ) (w : Stage) (n : ℕ) → n < 32768 → Has p numbers
-    → Does p (suc d) (codes "numbers") (pos n ∷ []) w (pos 1) (said (numbers_text 0 n) w) (2 * n + 2)
+    → Does p (suc d) (codes "numbers") (pos n ∷ []) w (pos 1) (said (numbers_text 0 n) w)
+    (2 * n + 2)
 
 -- ---- `[ is_leap y; if ((y % 4 == 0 && y % 100 ~= 0) || y % 400 == 0) rtrue; rfalse; ];`
 
