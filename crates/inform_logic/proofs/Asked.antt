@@ -5,9 +5,9 @@ use Rattle.inform_logic.proofs.Statements.{next, read}
 use Rattle.inform_logic.proofs.Stops.{quit, read_waits, later, handed_up, routine_stops}
 
 pub line_is_taken : LineIsTaken
-line_is_taken p d w entries line lines has there room left = routine_stops has
+line_is_taken p d values w entries line lines has there room left = routine_stops has
     (later (λ e s'. next (read there room left)) (handed_up in_block quit))
 
 pub line_is_awaited : LineIsAwaited
-line_is_awaited p d w entries has there room left =
+line_is_awaited p d values w entries has there room left =
     routine_stops has (handed_up in_block (read_waits there room left))

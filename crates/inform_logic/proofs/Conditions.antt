@@ -6,9 +6,9 @@ use Rattle.inform_tree.specs.Values.{Expression}
 use Rattle.inform_tree.specs.Conditions.{Condition, Compare, Nonzero, All, Any, Not, Conditions, NoConditions, MoreConditions}
 use Rattle.inform_meaning.specs.Words.{compares}
 use Rattle.inform_meaning.specs.Worlds.{Program, Scope}
-use Rattle.inform_meaning.specs.Frames.{Truth, when}
+use Rattle.inform_meaning.specs.Frames.{Outcome, Truth, when}
 use Rattle.inform_logic.specs.Stages.{Stage, in_scope}
-use Rattle.inform_logic.specs.Leading.{Evaluates, Tests, TestsIfAny, TestsAll, TestsAny}
+use Rattle.inform_logic.specs.Leading.{Leads, TheAll, TheAny, Evaluates, Tests, TestsIfAny, TestsAll, TestsAny}
 use Rattle.inform_logic.proofs.Opened.{opened}
 use Rattle.inform_logic.proofs.Steps.{nothing_taken, value_then, truth_then, finally}
 
@@ -54,9 +54,9 @@ module _ {p : Program} {d : ℕ} where
   all_hold = record { takes = nothing_taken (λ k. refl) }
 
   -- this one holds, and it is on the others
-  pub one_holds : {x : Condition} {xs : Conditions} {s : Scope} {w w1 w' : Stage} {t : Bool}
-      {n m : ℕ} → Tests p d x s w true w1 n → TestsAll p d xs s w1 t w' m
-      → TestsAll p d (MoreConditions x xs) s w t w' (n + m)
+  pub one_holds : {x : Condition} {xs : Conditions} {s s' : Scope} {w w1 w' : Stage} {e : Outcome}
+      {n m : ℕ} → Tests p d x s w true w1 n → Leads p d (TheAll xs) s w1 e s' w' m
+      → Leads p d (TheAll (MoreConditions x xs)) s w e s' w' (n + m)
   unfolding opened when
   one_holds x xs = record { takes = truth_then _ x.takes xs.takes }
 
@@ -83,8 +83,8 @@ module _ {p : Program} {d : ℕ} where
   this_holds x = record { takes = finally _ (λ j h. tt) x.takes (λ k. refl) }
 
   -- this one doesn't, and it is on the others
-  pub this_fails : {x : Condition} {xs : Conditions} {s : Scope} {w w1 w' : Stage} {t : Bool}
-      {n m : ℕ} → Tests p d x s w false w1 n → TestsAny p d xs s w1 t w' m
-      → TestsAny p d (MoreConditions x xs) s w t w' (n + m)
+  pub this_fails : {x : Condition} {xs : Conditions} {s s' : Scope} {w w1 w' : Stage} {e : Outcome}
+      {n m : ℕ} → Tests p d x s w false w1 n → Leads p d (TheAny xs) s w1 e s' w' m
+      → Leads p d (TheAny (MoreConditions x xs)) s w e s' w' (n + m)
   unfolding opened when
   this_fails x xs = record { takes = truth_then _ x.takes xs.takes }

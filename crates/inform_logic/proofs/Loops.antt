@@ -20,7 +20,7 @@ use Rattle.inform_logic.proofs.Changes.{no_change}
 use Rattle.inform_logic.proofs.Statements.{step}
 
 -- a loop is its next turn
-once : (p : Program) (d : ℕ) (l : Loop) (c : Config) → turns_of p (call_at p d) l c
+pub once : (p : Program) (d : ℕ) (l : Loop) (c : Config) → turns_of p (call_at p d) l c
     ≡ tick (Begins (TurnDue l)) (bind (test_if_any p (call_at p d) l.test)
     (test_done p (call_at p d) l)) c
 once p d l c = loop_once l (test_if_any p (call_at p d) l.test) (exec_all p (call_at p d) l.body)

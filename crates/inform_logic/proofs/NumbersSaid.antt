@@ -42,4 +42,5 @@ module _ (p : Program) (d r n : ℕ) (small : n < 32768) where
 
 pub numbers_are_said : NumbersAreSaid
 numbers_are_said p d w n small has = does_within (omega arith) (routine has
-    (next (for (set_variable number refl) (loop p d has.at n small n 0 w (omega arith))) end) at_end)
+    (next (for (set_variable number refl) (loop p d has.at n small n 0 w (omega arith))) end)
+    at_end)

@@ -7,8 +7,9 @@ use Rattle.inform_tree.specs.Values.{Expression}
 use Rattle.inform_tree.specs.Statements.{PrintItem, Text, Value, Char}
 use Rattle.inform_meaning.specs.Words.{low_byte}
 use Rattle.inform_meaning.specs.Worlds.{Program, Scope}
+use Rattle.inform_meaning.specs.Frames.{Outcome}
 use Rattle.inform_logic.specs.Stages.{Stage, with_past, said}
-use Rattle.inform_logic.specs.Leading.{Evaluates, Prints}
+use Rattle.inform_logic.specs.Leading.{Leads, TheItems, Evaluates, Prints}
 use Rattle.inform_logic.proofs.Opened.{opened}
 use Rattle.inform_logic.proofs.Steps.{nothing_taken, value_then, with_said}
 
@@ -33,20 +34,23 @@ module _ {p : Program} {d : ℕ} where
   print_nothing = record { takes = nothing_taken (λ k. refl) }
 
   -- a text, and the items after it
-  pub print_text : {bytes : List ℕ} {xs : List PrintItem} {s : Scope} {w w' : Stage} {n : ℕ}
-      → Prints p d xs s (said bytes w) w' n → Prints p d (Text bytes ∷ xs) s w w' n
+  pub print_text : {bytes : List ℕ} {xs : List PrintItem} {s s' : Scope} {w w' : Stage}
+      {e : Outcome} {n : ℕ} → Leads p d (TheItems xs) s (said bytes w) e s' w' n
+      → Leads p d (TheItems (Text bytes ∷ xs)) s w e s' w' n
   print_text xs = record { takes = with_said _ xs.takes }
 
   -- a value in decimal, and the items after it
-  pub print_number : {x : Expression} {xs : List PrintItem} {s : Scope} {w w1 w' : Stage} {v : ℤ}
-      {n m : ℕ} → Evaluates p d x s w v w1 n → Prints p d xs s (said (signed_decimal v) w1) w' m
-      → Prints p d (Value x ∷ xs) s w w' (n + m)
+  pub print_number : {x : Expression} {xs : List PrintItem} {s s' : Scope} {w w1 w' : Stage}
+      {v : ℤ} {e : Outcome} {n m : ℕ} → Evaluates p d x s w v w1 n
+      → Leads p d (TheItems xs) s (said (signed_decimal v) w1) e s' w' m
+      → Leads p d (TheItems (Value x ∷ xs)) s w e s' w' (n + m)
   unfolding opened
   print_number x xs = record { takes = value_then _ x.takes (with_said _ xs.takes) }
 
   -- a value as a character, and the items after it
-  pub print_character : {x : Expression} {xs : List PrintItem} {s : Scope} {w w1 w' : Stage} {v : ℤ}
-      {n m : ℕ} → Evaluates p d x s w v w1 n → Prints p d xs s (said (low_byte v ∷ []) w1) w' m
-      → Prints p d (Char x ∷ xs) s w w' (n + m)
+  pub print_character : {x : Expression} {xs : List PrintItem} {s s' : Scope} {w w1 w' : Stage}
+      {v : ℤ} {e : Outcome} {n m : ℕ} → Evaluates p d x s w v w1 n
+      → Leads p d (TheItems xs) s (said (low_byte v ∷ []) w1) e s' w' m
+      → Leads p d (TheItems (Char x ∷ xs)) s w e s' w' (n + m)
   unfolding opened
   print_character x xs = record { takes = value_then _ x.takes (with_said _ xs.takes) }

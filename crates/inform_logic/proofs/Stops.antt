@@ -16,11 +16,12 @@ use Rattle.inform_meaning.specs.Statements.{turns}
 use Rattle.inform_meaning.specs.Runs.{Stop, Halted, Lacking, noted_body}
 use Rattle.inform_logic.specs.Stages.{Stage, in_scope, with_past}
 use Rattle.inform_logic.specs.Leading.{Leads, Part, TheValue, TheCall, TheTest, TheChange, TheAct, TheStatement, TheBlock, TheTurns, Evaluates}
-use Rattle.inform_logic.specs.Stopping.{IsStop, Stops, CallStops, First, in_entry, in_random, in_negation, in_sum, in_term, in_product, in_factor, in_call, in_argument, in_comparison, in_nonzero, in_negated, in_all, in_one_of_all, in_any, in_one_of_any, in_set, in_index, in_number, in_character, in_statements, in_assignment, in_print, in_call_alone, in_return, in_if, in_switch, in_while, in_do, in_for, in_block, in_body, in_change}
+use Rattle.inform_logic.specs.Stopping.{IsStop, Stops, CallStops, First, in_entry, in_random, in_negation, in_sum, in_term, in_product, in_factor, in_call, in_argument, in_comparison, in_nonzero, in_negated, in_all, in_one_of_all, in_any, in_one_of_any, in_set, in_index, in_number, in_character, in_statements, in_assignment, in_print, in_call_alone, in_return, in_if, in_switch, in_while, in_do, in_for, in_block, in_body, in_change, in_change_again}
 use Rattle.inform_logic.proofs.Opened.{opened}
-use Rattle.inform_logic.proofs.Steps.{finally, one_step}
+use Rattle.inform_logic.proofs.Steps.{finally, one_step, takes_same}
 use Rattle.inform_logic.proofs.Stopping.{with_takes, passes_value, passes_truth, passes_normal, passes_body, passes_return, ends_first, ends_after, ends_chosen}
 use Rattle.inform_logic.proofs.Statements.{step, plain}
+use Rattle.inform_logic.proofs.Loops.{once}
 use Rattle.inform_logic.proofs.Routines.{entering}
 
 module _ {p : Program} {d : ℕ} where
@@ -129,6 +130,7 @@ module _ {p : Program} {d : ℕ} where
   handed_up in_block x = record { ends = ends_first _ (passes_normal _ _) x.ends }
   handed_up (in_body goes) x =
       record { ends = ends_chosen _ goes (ends_first _ (passes_body _ _) x.ends) }
+  handed_up in_change_again x = record { ends = ends_first _ (passes_normal _ _) x.ends }
   handed_up in_change x = record { ends = ends_first _ (passes_normal _ _) x.ends }
 
   -- the second part of a comparison and of a change of an entry
@@ -144,6 +146,13 @@ module _ {p : Program} {d : ℕ} where
       → Stops p d (TheChange (Some (SetEntry a words x y))) s w stop w' (n + m)
   unfolding opened
   stored_stops x y = record { ends = ends_after _ x.takes (ends_first _ (passes_value _ _) y.ends) }
+
+  -- the test of a turn
+  pub test_stops : {l : Loop} {s : Scope} {w w' : Stage} {stop : Stop} {n : ℕ}
+      → Stops p d (TheTest l.test) s w stop w' n → Stops p d (TheTurns l) s w stop w' (n + 1)
+  test_stops {l} x =
+      let tested = ends_first _ (passes_truth _ _) x.ends in
+      record { ends = with_takes tested (takes_same (once p d l) (one_step _ tested.takes)) }
 
   -- a statement, by what it does after its step; and a call, by its routine
   pub step_stops : {x : Statement} {s : Scope} {w w' : Stage} {stop : Stop} {n : ℕ}

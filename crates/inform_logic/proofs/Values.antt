@@ -13,7 +13,7 @@ use Rattle.inform_meaning.specs.Parts.{trap, entry_by, draw_at, take_draw}
 use Rattle.inform_meaning.specs.Meaning.{on_product, eval_product}
 use Rattle.inform_meaning.specs.Runs.{call_at}
 use Rattle.inform_logic.specs.Stages.{Stage, in_scope, draw_taken}
-use Rattle.inform_logic.specs.Leading.{Takes, Leads, Part, Evaluates, Calls, Sums, Multiplies, Does}
+use Rattle.inform_logic.specs.Leading.{Takes, Leads, Part, TheValue, TheCall, TheSum, TheProduct, Evaluates, Calls, Sums, Multiplies, Does}
 use Rattle.inform_logic.proofs.Opened.{opened}
 use Rattle.inform_logic.proofs.Steps.{nothing_taken, value_then, finally, one_step, takes_within}
 
@@ -93,19 +93,20 @@ module _ {p : Program} {d : ℕ} where
   no_terms = record { takes = nothing_taken (λ k. refl) }
 
   -- one term, and those to come
-  pub more_terms : {op : SumOp} {x : Expression} {xs : Terms} {s : Scope} {w w1 w' : Stage}
-      {a b c v : ℤ} {n m : ℕ} → Evaluates p d x s w b w1 n → summed p.width op a b ≡ c
-      → Sums p d c xs s w1 v w' m → Sums p d a (MoreTerms op x xs) s w v w' (n + m)
+  pub more_terms : {op : SumOp} {x : Expression} {xs : Terms} {s s' : Scope} {w w1 w' : Stage}
+      {a b c : ℤ} {e : Outcome} {n m : ℕ} → Evaluates p d x s w b w1 n → summed p.width op a b ≡ c
+      → Leads p d (TheSum c xs) s w1 e s' w' m
+      → Leads p d (TheSum a (MoreTerms op x xs)) s w e s' w' (n + m)
   unfolding opened
-  more_terms {op} {x} {xs} {s} {w} {w1} {w'} {a} {b} {v = v} {m = m} y is rest =
-      let rest' : Sums p d (summed p.width op a b) xs s w1 v w' m =
-      subst (λ c. Sums p d c xs s w1 v w' m) (sym is) rest in
+  more_terms {op} {x} {xs} {s} {s'} {w} {w1} {w'} {a} {b} {e = e} {m = m} y is rest =
+      let rest' : Leads p d (TheSum (summed p.width op a b) xs) s w1 e s' w' m =
+      subst (λ c. Leads p d (TheSum c xs) s w1 e s' w' m) (sym is) rest in
       record { takes = value_then _ y.takes rest'.takes }
 
   -- a sum of its first part and its terms
-  pub sum : {x : Expression} {xs : Terms} {s : Scope} {w w1 w' : Stage} {a v : ℤ} {n m : ℕ}
-      → Evaluates p d x s w a w1 n → Sums p d a xs s w1 v w' m
-      → Evaluates p d (Sum x xs) s w v w' (n + m)
+  pub sum : {x : Expression} {xs : Terms} {s s' : Scope} {w w1 w' : Stage} {a : ℤ} {e : Outcome}
+      {n m : ℕ} → Evaluates p d x s w a w1 n → Leads p d (TheSum a xs) s w1 e s' w' m
+      → Leads p d (TheValue (Sum x xs)) s w e s' w' (n + m)
   unfolding opened
   sum x xs = record { takes = value_then _ x.takes xs.takes }
 
@@ -122,19 +123,20 @@ module _ {p : Program} {d : ℕ} where
   no_factors = record { takes = nothing_taken (λ k. refl) }
 
   -- one factor that isn't a division by 0, and those to come
-  pub more_factors : {op : ProdOp} {x : Expression} {xs : Factors} {s : Scope} {w w1 w' : Stage}
-      {a b c v : ℤ} {n m : ℕ} → Evaluates p d x s w b w1 n → multiplied p.width op a b ≡ Some c
-      → Multiplies p d c xs s w1 v w' m → Multiplies p d a (MoreFactors op x xs) s w v w' (n + m)
+  pub more_factors : {op : ProdOp} {x : Expression} {xs : Factors} {s s' : Scope} {w w1 w' : Stage}
+      {a b c : ℤ} {e : Outcome} {n m : ℕ} → Evaluates p d x s w b w1 n
+      → multiplied p.width op a b ≡ Some c → Leads p d (TheProduct c xs) s w1 e s' w' m
+      → Leads p d (TheProduct a (MoreFactors op x xs)) s w e s' w' (n + m)
   unfolding opened
-  more_factors {xs = xs} {s} {w1 = w1} {w'} {v = v} {m = m} y is rest = record {
+  more_factors {xs = xs} {s} {s'} {w1 = w1} {w'} {e = e} {m = m} y is rest = record {
     takes = value_then _ y.takes (subst (λ o. Takes (on_product o (λ c.
-        eval_product p (call_at p d) c xs)) s w1 (Value v) s w' m) (sym is) rest.takes);
+        eval_product p (call_at p d) c xs)) s w1 e s' w' m) (sym is) rest.takes);
   }
 
   -- a product of its first part and its factors
-  pub product : {x : Expression} {xs : Factors} {s : Scope} {w w1 w' : Stage} {a v : ℤ} {n m : ℕ}
-      → Evaluates p d x s w a w1 n → Multiplies p d a xs s w1 v w' m
-      → Evaluates p d (Product x xs) s w v w' (n + m)
+  pub product : {x : Expression} {xs : Factors} {s s' : Scope} {w w1 w' : Stage} {a : ℤ}
+      {e : Outcome} {n m : ℕ} → Evaluates p d x s w a w1 n → Leads p d (TheProduct a xs) s w1 e s' w' m
+      → Leads p d (TheValue (Product x xs)) s w e s' w' (n + m)
   unfolding opened
   product x xs = record { takes = value_then _ x.takes xs.takes }
 
@@ -153,10 +155,10 @@ module _ {p : Program} {d : ℕ} where
   called {s = s} does = record { takes = one_step _ (does.takes s) }
 
   -- one argument, and those to come
-  pub argument : {f : List ℕ} {values : List ℤ} {x : Expression} {xs : Arguments} {s : Scope}
-      {w w1 w' : Stage} {a v : ℤ} {n m : ℕ} → Evaluates p d x s w a w1 n
-      → Calls p d f (with_argument values a) xs s w1 v w' m
-      → Calls p d f values (MoreArguments x xs) s w v w' (n + m)
+  pub argument : {f : List ℕ} {values : List ℤ} {x : Expression} {xs : Arguments} {s s' : Scope}
+      {w w1 w' : Stage} {a : ℤ} {e : Outcome} {n m : ℕ} → Evaluates p d x s w a w1 n
+      → Leads p d (TheCall f (with_argument values a) xs) s w1 e s' w' m
+      → Leads p d (TheCall f values (MoreArguments x xs)) s w e s' w' (n + m)
   unfolding opened
   argument x xs = record { takes = value_then _ x.takes xs.takes }
 

@@ -10,7 +10,7 @@ use Rattle.inform_tree.specs.Conditions.{Condition, Conditions}
 use Rattle.inform_tree.specs.Statements as t
 use Rattle.inform_tree.specs.Statements.{Statement, Statements, Cases, Default, Assignment, PrintItem}
 use Rattle.inform_meaning.specs.Worlds.{Program, Scope, Config}
-use Rattle.inform_meaning.specs.Frames.{Loop, Frame, Outcome, Normal, Halts, Waits, Meaning}
+use Rattle.inform_meaning.specs.Frames.{Loop, Frame, Outcome, Normal, Continues, Halts, Waits, Meaning}
 use Rattle.inform_meaning.specs.Statements.{while_loop, loop_goes_on}
 use Rattle.inform_meaning.specs.Runs.{call_at, Stop, Halted, Lacking}
 use Rattle.inform_logic.specs.Stages.{Stage, stage_of}
@@ -110,3 +110,4 @@ pub data First : Part → Part → Type 0 where
   in_body : {l : Loop} {b : Bool} → loop_goes_on l b ≡ true
       → First (TheBlock l.body) (AfterTest l b)
   in_change : {l : Loop} → First (TheChange l.change) (AfterBody l Normal)
+  in_change_again : {l : Loop} → First (TheChange l.change) (AfterBody l Continues)

@@ -140,24 +140,25 @@ FirstClearIsFound = (p : Program) (d : ℕ) (w : Stage) (flags : List ℕ) → l
     → w.arrays (codes "flag") ≡ Some (map pos flags)
     → Does p (suc d) (codes "first_clear") [] w (pos (set_flags flags)) w (3 * set_flags flags + 5)
 
--- ---- `[ ask; read buf pbuf; quit; ];`
+-- ---- `[ ask n; read buf pbuf; quit; ];`
 
 abbrev pub ask : RoutineTree
-ask = routine (codes "ask") [] (t.Read (codes "buf") (codes "pbuf") ∷ t.Quit ∷ [])
+ask = routine (codes "ask") (codes "n" ∷ []) (t.Read (codes "buf") (codes "pbuf") ∷ t.Quit ∷ [])
 
 -- With a line it takes it into the buffer, and the run is over.
 abbrev pub LineIsTaken : Type 0
-LineIsTaken = (p : Program) (d : ℕ) (w : Stage) (entries : List ℤ) (line : List ℕ)
-    (lines : List (List ℕ)) → Has p ask → w.arrays (codes "buf") ≡ Some entries
+LineIsTaken = (p : Program) (d : ℕ) (values : List ℤ) (w : Stage) (entries : List ℤ)
+    (line : List ℕ) (lines : List (List ℕ)) → Has p ask → w.arrays (codes "buf") ≡ Some entries
     → has_room entries ≡ true → w.lines ≡ line ∷ lines
-    → CallStops p (suc d) (codes "ask") [] w (Halted Quits)
+    → CallStops p (suc d) (codes "ask") values w (Halted Quits)
     (line_taken (codes "buf") entries line lines w) 2
 
 -- Without one the run waits for it, and nothing has happened.
 abbrev pub LineIsAwaited : Type 0
-LineIsAwaited = (p : Program) (d : ℕ) (w : Stage) (entries : List ℤ) → Has p ask
+LineIsAwaited = (p : Program) (d : ℕ) (values : List ℤ) (w : Stage) (entries : List ℤ)
+    → Has p ask
     → w.arrays (codes "buf") ≡ Some entries → has_room entries ≡ true → w.lines ≡ []
-    → CallStops p (suc d) (codes "ask") [] w (Lacking NeedsLine) w 1
+    → CallStops p (suc d) (codes "ask") values w (Lacking NeedsLine) w 1
 
 -- ---- `[ line_1; carried(); return 2; ];`, which is noted
 

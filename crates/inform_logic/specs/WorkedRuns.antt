@@ -3,7 +3,8 @@ use Rattle.std.specs.Prelude.{ℕ, ◌≤◌, false, List, [], ◌∷◌, codes}
 use Rattle.inform_tree.specs.declared.widths.Width.{Width}
 use Rattle.inform_tree.specs.declared.values.Const.{Const}
 use Rattle.inform_tree.specs.declared.values.Const.TheVariants.{Number}
-use Rattle.inform_tree.specs.Values.{NoArguments}
+use Rattle.inform_tree.specs.Values as v
+use Rattle.inform_tree.specs.Values.{arguments}
 use Rattle.inform_tree.specs.Statements.{Call, statements}
 use Rattle.inform_tree.specs.Programs.{RoutineTree, DirectiveTree, Array, Routine}
 use Rattle.inform_names.specs.Meanings.{meanings}
@@ -15,7 +16,8 @@ use Rattle.inform_logic.specs.Holding.{opening_stage}
 use Rattle.inform_logic.specs.Stopping.{Stopped}
 use Rattle.inform_logic.specs.Worked.{ask}
 
--- ---- `Array buf -> 3 0 0 0 0; Array pbuf -> 1; [ ask; read buf pbuf; quit; ]; [ Main; ask(); ];`
+-- ---- `Array buf -> 3 0 0 0 0; Array pbuf -> 1; [ ask n; read buf pbuf; quit; ];
+-- [ Main; ask(7); ];`
 
 abbrev pub buffer : List Const
 buffer = Number 3 ∷ Number 0 ∷ Number 0 ∷ Number 0 ∷ Number 0 ∷ []
@@ -24,7 +26,7 @@ abbrev pub main : RoutineTree
 main = record {
   name = codes "main";
   locals = [];
-  body = statements (Call (codes "ask") NoArguments ∷ []);
+  body = statements (Call (codes "ask") (arguments (v.Number 7 ∷ [])) ∷ []);
 }
 
 abbrev pub asking : List DirectiveTree
