@@ -36,7 +36,8 @@ by_ask p s w w' stop n ask = later (λ e s'. within (omega arith)) (handed_up in
 
 pub run_is_over : RunIsOver
 run_is_over width line lines draws = run_stops width asking no_notes (line ∷ lines) draws _ _ 4
-    (by_ask _ _ _ _ _ 2 (line_is_taken _ 199 _ _ _ line lines (has_ask width) refl (room width) refl))
+    (by_ask _ _ _ _ _ 2
+    (line_is_taken _ 199 _ _ _ line lines (has_ask width) refl (room width) refl))
     (λ k. tt)
 
 pub run_waits : RunWaits

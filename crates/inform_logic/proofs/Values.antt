@@ -135,7 +135,8 @@ module _ {p : Program} {d : ℕ} where
 
   -- a product of its first part and its factors
   pub product : {x : Expression} {xs : Factors} {s s' : Scope} {w w1 w' : Stage} {a : ℤ}
-      {e : Outcome} {n m : ℕ} → Evaluates p d x s w a w1 n → Leads p d (TheProduct a xs) s w1 e s' w' m
+      {e : Outcome} {n m : ℕ} → Evaluates p d x s w a w1 n
+      → Leads p d (TheProduct a xs) s w1 e s' w' m
       → Leads p d (TheValue (Product x xs)) s w e s' w' (n + m)
   unfolding opened
   product x xs = record { takes = value_then _ x.takes xs.takes }
