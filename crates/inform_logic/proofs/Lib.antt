@@ -13,6 +13,7 @@ pub mod Routines
 pub mod Carried
 pub mod Stopping
 pub mod Stops
+pub mod Traps
 pub mod Whole
 pub mod Holding
 pub mod Swapped
@@ -24,3 +25,4 @@ pub mod AskedRuns
 pub mod NumbersSaid
 pub mod LeapYears
 pub mod Thrown
+pub mod Shared

@@ -1,10 +1,10 @@
 -- Worked routines, as trees, and what they do in every program that has them.
-use Rattle.std.specs.Prelude.{◌≡◌, ℕ, zero, suc, ◌+◌, ◌-◌, ◌*◌, ◌%◌, ◌<◌, ℤ, pos, nat_eq, nat_le, Bool, true, not, ◌&&◌, ◌||◌, decimal, if◌then◌else◌, List, [], ◌∷◌, ◌++◌, map, length, count_by, codes, Some, None}
+use Rattle.std.specs.Prelude.{◌≡◌, ℕ, zero, suc, ◌+◌, ◌-◌, ◌*◌, ◌/◌, ◌%◌, ◌<◌, ℤ, pos, nat_eq, nat_le, Bool, true, not, ◌&&◌, ◌||◌, decimal, if◌then◌else◌, List, [], ◌∷◌, ◌++◌, map, length, count_by, codes, Some, None}
 use Rattle.std.specs.List.{prefix_len}
 use Rattle.adv_io.specs.Steps.{Drew, Noted}
 use Rattle.inform_tree.specs.declared.values.Const.TheVariants as k
 use Rattle.inform_tree.specs.declared.values.SumOp.TheVariants.{Add}
-use Rattle.inform_tree.specs.declared.values.ProdOp.TheVariants.{Rem}
+use Rattle.inform_tree.specs.declared.values.ProdOp.TheVariants.{Div, Rem}
 use Rattle.inform_tree.specs.declared.conditions.Relation.TheVariants.{Eq, Ne, Lt}
 use Rattle.inform_tree.specs.Values as v
 use Rattle.inform_tree.specs.Values.{Expression}
@@ -13,7 +13,8 @@ use Rattle.inform_tree.specs.Statements as t
 use Rattle.inform_tree.specs.Statements.{Statement, Statements, statements}
 use Rattle.inform_tree.specs.Programs.{RoutineTree}
 use Rattle.inform_meaning.specs.Worlds.{Program, has_room}
-use Rattle.inform_meaning.specs.Frames.{Loop, Quits, NeedsLine}
+use Rattle.inform_meaning.specs.Frames.{Loop, Quits, Trapped, NeedsLine}
+use Rattle.inform_meaning.specs.declared.traps.Trap.TheVariants.{Division}
 use Rattle.inform_meaning.specs.Statements.{while_loop, for_loop}
 use Rattle.inform_meaning.specs.Runs.{Halted, Lacking}
 use Rattle.inform_logic.specs.Stages.{Stage, with_past, with_global, line_taken, said}
@@ -159,6 +160,21 @@ LineIsAwaited = (p : Program) (d : ℕ) (values : List ℤ) (w : Stage) (entries
     → Has p ask
     → w.arrays (codes "buf") ≡ Some entries → has_room entries ≡ true → w.lines ≡ []
     → CallStops p (suc d) (codes "ask") values w (Lacking NeedsLine) w 1
+
+-- ---- `[ share n; return 100 / n; ];`
+
+abbrev pub share : RoutineTree
+share = routine (codes "share") (codes "n" ∷ [])
+    (return (v.Product (v.Number 100) (v.factors ((Div, name (codes "n")) ∷ []))) ∷ [])
+
+-- It gives the quotient, and traps where there is none.
+abbrev pub SharesAreGiven : Type 0
+SharesAreGiven = (p : Program) (d : ℕ) (w : Stage) (n : ℕ) → 0 < n → Has p share
+    → Does p (suc d) (codes "share") (pos n ∷ []) w (pos (100 / n)) w 1
+
+abbrev pub NoShareTraps : Type 0
+NoShareTraps = (p : Program) (d : ℕ) (w : Stage) (has : Has p share)
+    → CallStops p (suc d) (codes "share") (pos 0 ∷ []) w (Halted (Trapped Division has.at)) w 1
 
 -- ---- `[ line_1; carried(); return 2; ];`, which is noted
 

@@ -1,5 +1,5 @@
 //! Worked routines, each proved by the rules. Each is the contract of a function that does nothing.
-ghost use Rattle.inform_logic.specs.Worked.{CarriedIsCounted, GlobalsAreSwapped, PlaceIsSaid, NumbersAreSaid, FirstClearIsFound, LeapYearsAreKnown, DiceAreAdded, LineIsTaken, LineIsAwaited, LineIsNoted};
+ghost use Rattle.inform_logic.specs.Worked.{CarriedIsCounted, GlobalsAreSwapped, PlaceIsSaid, NumbersAreSaid, FirstClearIsFound, LeapYearsAreKnown, DiceAreAdded, SharesAreGiven, NoShareTraps, LineIsTaken, LineIsAwaited, LineIsNoted};
 ghost use Rattle.inform_logic.specs.WorkedRuns.{RunIsOver, RunWaits};
 
 /// Items are counted by a loop over their places.
@@ -35,6 +35,16 @@ pub fn leap_years_are_known()
 /// Dice are added by a loop whose test comes after its body.
 pub fn dice_are_added()
     ensures { DiceAreAdded }
+{}
+
+/// A quotient is given.
+pub fn shares_are_given()
+    ensures { SharesAreGiven }
+{}
+
+/// Where there is none, the routine traps.
+pub fn no_share_traps()
+    ensures { NoShareTraps }
 {}
 
 /// A line is read, and the run is over.
