@@ -10,12 +10,12 @@ pub mod Choices
 pub mod Statements
 pub mod Loops
 pub mod Routines
-pub mod Carried
 pub mod Stopping
 pub mod Stops
 pub mod Traps
 pub mod Whole
 pub mod Holding
+pub mod Carried
 pub mod Swapped
 pub mod Said
 pub mod Cleared

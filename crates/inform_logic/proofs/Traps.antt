@@ -40,7 +40,8 @@ module _ {p : Program} {d : ℕ} where
   unfolding opened
   stored_traps {a} {words} {s = s} {w' = w'} {i} {v} x y there none = stopped refl (record {
     takes = value_then _ x.takes (finally _ (λ j h. tt) y.takes (λ k.
-        ap (λ o. store_by (entry_at (unwrap_or o []) i) (stored a words i v) (in_scope k s w')) there
+        ap (λ o. store_by (entry_at (unwrap_or o []) i) (stored a words i v) (in_scope k s w'))
+        there
         ∙ ap (λ o. store_by o (stored a words i v) (in_scope k s w')) none));
   })
 
