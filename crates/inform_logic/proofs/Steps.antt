@@ -8,18 +8,21 @@ use Rattle.inform_logic.specs.Leading.{Leaves, Takes}
 
 -- ---- counting steps
 
+-- three numbers of steps
 pub plus-assoc : (a b k : ℕ) → plus (plus a b) k ≡ plus a (plus b k)
 plus-assoc zero b k = refl
 plus-assoc (suc a) b k = ap suc (plus-assoc a b k)
 
+-- the sum that computes is the sum
 pub plus_is : (a b : ℕ) → plus a b ≡ a + b
 plus_is zero b = omega arith
 plus_is (suc a) b = omega (arith, plus_is a b)
 
+-- the bounds of two parts
 pub few_of_two : {a b n m : ℕ} → a ≤ n → b ≤ m → plus a b ≤ n + m
 few_of_two {a} {b} few less = omega (arith, few, less, plus_is a b)
 
--- what holds under so many calls holds wherever no more of them may be open
+-- what holds where so many calls and any more may be open holds where at least so many may
 pub with_room : (calls : ℕ) (P : ℕ → Type 0) → ((d : ℕ) → P (plus calls d)) → (n : ℕ) → calls ≤ n
     → P n
 with_room calls P h n enough =

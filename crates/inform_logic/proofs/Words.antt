@@ -14,25 +14,30 @@ use Rattle.inform_meaning.specs.Words.{wrapped, number_word, word_sum, word_nega
 abbrev pub IsWord : ℤ → Type 0
 IsWord = FitsSigned i.w16
 
+-- a number below 32,768, and the negative ones down to -32,768
 pub small_word : {n : ℕ} → n < 32768 → IsWord (pos n)
 small_word small = record { sfits = small }
 
 pub negative_word : {n : ℕ} → n < 32768 → IsWord (negsuc n)
 negative_word small = record { sfits = small }
 
+-- a positive number isn't 0
 pub not_zero : (b : ℕ) → 0 < b → int_eq (pos b) (pos 0) ≡ false
 not_zero b h = grind (arith, ints)
 
 module _ (width : Width) where
+  -- a word is kept as it is
   pub word_stays : {z : ℤ} → IsWord z → wrapped width z ≡ z
   word_stays {z} = by width where
     by : (width : Width) → IsWord z → wrapped width z ≡ z
     by W16 h = int_wrap_fits i.w16 z h
     by W32 h = int_wrap_fits i.w32 z (record { sfits = omega (arith, h.sfits) })
 
+  -- a number of the program below 32,768 is itself
   pub small_number : {n : ℕ} → n < 32768 → number_word width n ≡ pos n
   small_number small = grind arith
 
+  -- a sum, a difference, a negation and a product that are words are themselves
   pub sum_is : (a b : ℤ) → IsWord (a +ℤ b) → summed width Add a b ≡ a +ℤ b
   sum_is a b h = word_stays h
 
@@ -45,7 +50,7 @@ module _ (width : Width) where
   pub product_is : (a b : ℤ) → IsWord (a *ℤ b) → multiplied width Mul a b ≡ Some (a *ℤ b)
   product_is a b h = ap Some (word_stays h)
 
-  -- where the divisor isn't 0
+  -- a quotient that is a word, and a remainder, where the divisor isn't 0
   pub quotient_is : (a b : ℤ) → int_eq b (pos 0) ≡ false → IsWord (int_div a b)
       → multiplied width Div a b ≡ Some (int_div a b)
   quotient_is a b h word = ap (λ t. if t then None else Some (wrapped width (int_div a b))) h
@@ -57,6 +62,7 @@ module _ (width : Width) where
 
   -- ---- of numbers that aren't negative
 
+  -- a sum, a difference and a product below 32,768
   pub small_sum : (a b : ℕ) → a + b < 32768 → summed width Add (pos a) (pos b) ≡ pos (a + b)
   small_sum a b small = word_stays (small_word small)
 
@@ -70,6 +76,7 @@ module _ (width : Width) where
       → multiplied width Mul (pos a) (pos b) ≡ Some (pos (a * b))
   small_product a b small = ap Some (word_stays (small_word small))
 
+  -- a quotient and a remainder by a positive number
   pub small_quotient : (a b : ℕ) → a < 32768 → 0 < b
       → multiplied width Div (pos a) (pos b) ≡ Some (pos (a / b))
   small_quotient a b small h =
@@ -79,6 +86,7 @@ module _ (width : Width) where
       → multiplied width Rem (pos a) (pos b) ≡ Some (pos (a % b))
   small_remainder a b h = remainder_is (pos a) (pos b) (not_zero b h)
 
+  -- one more, and one less
   pub counted_up : (a : ℕ) → a + 1 < 32768 → word_sum width (pos a) (pos 1) ≡ pos (a + 1)
   counted_up a small = small_sum a 1 small
 
@@ -89,6 +97,7 @@ module _ (width : Width) where
 
 -- ---- bytes and draws
 
+-- a byte is its own low 8 bits
 pub small_byte : (a : ℕ) → a < 256 → low_byte (pos a) ≡ a
 small_byte a small = mod-eq_of_lt small
 
@@ -99,7 +108,7 @@ small_draw limit draw some few =
     let within : draw - 1 < limit = omega (arith, some, few) in
     ap (λ n. pos (n + 1)) (mod-eq_of_lt within) ∙ ap pos (omega (arith, some))
 
--- ---- comparing numbers that aren't negative
+-- ---- comparing numbers that aren't negative: as they compare without words
 
 pub equal_is : (a b : ℕ) → int_eq (pos a) (pos b) ≡ nat_eq a b
 equal_is a b = grind (arith, ints)

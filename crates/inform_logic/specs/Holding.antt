@@ -9,6 +9,7 @@ use Rattle.inform_meaning.specs.Worlds.{Routine, Program}
 use Rattle.inform_meaning.specs.Programs.{global_in, entries_in, opening}
 use Rattle.inform_logic.specs.Stages.{Stage, stage_of}
 
+-- the routine of a directive of this number
 abbrev pub routine_at : ℕ → RoutineTree → Routine
 routine_at at r = record { directive = at; locals = r.locals; body = r.body }
 
@@ -19,6 +20,7 @@ Held p (t.Global name x) = Unit {0}
 Held p (t.Array name words xs) = Unit {0}
 Held p (t.Routine r) = (at : ℕ) × (p.routines r.name ≡ Some (routine_at at r))
 
+-- each of these is held
 abbrev pub Holds : Program → List DirectiveTree → Type 0
 Holds p ds = AllByRecursion (Held p) ds
 
@@ -42,6 +44,7 @@ Opened width known w (t.Array name words xs) =
     w.arrays name ≡ Some (entries_in width known words xs)
 Opened width known w (t.Routine r) = Unit {0}
 
+-- each of these is opened
 abbrev pub Opens : Width → Known → Stage → List DirectiveTree → Type 0
 Opens width known w ds = AllByRecursion (Opened width known w) ds
 

@@ -73,33 +73,39 @@ pub record Leads (p : Program) (d : ℕ) (part : Part) (s : Scope) (w : Stage) (
     (s' : Scope) (w' : Stage) (most : ℕ) : Type 0 where
   pub takes : Takes (meaning_of p d part) s w e s' w' most
 
--- ---- the parts by their kinds: with the value, truth value or outcome, and the stage after them
+-- ---- the parts by their kinds; the stage after them comes last, before the bound
 
+-- an expression has this value
 abbrev pub Evaluates : Program → ℕ → Expression → Scope → Stage → ℤ → Stage → ℕ → Type 0
 Evaluates p d x s w v w' most = Leads p d (TheValue x) s w (Value v) s w' most
 
+-- a call, with the arguments that are known and those to come, has this value
 abbrev pub Calls : Program → ℕ → List ℕ → List ℤ → Arguments → Scope → Stage → ℤ → Stage → ℕ
     → Type 0
 Calls p d name values xs s w v w' most = Leads p d (TheCall name values xs) s w (Value v) s w' most
 
+-- a sum and a product, with what is known and what is to come, have this value
 abbrev pub Sums : Program → ℕ → ℤ → Terms → Scope → Stage → ℤ → Stage → ℕ → Type 0
 Sums p d a xs s w v w' most = Leads p d (TheSum a xs) s w (Value v) s w' most
 
 abbrev pub Multiplies : Program → ℕ → ℤ → Factors → Scope → Stage → ℤ → Stage → ℕ → Type 0
 Multiplies p d a xs s w v w' most = Leads p d (TheProduct a xs) s w (Value v) s w' most
 
+-- a condition, which may be absent, has this truth value
 abbrev pub TestsIfAny : Program → ℕ → Option Condition → Scope → Stage → Bool → Stage → ℕ → Type 0
 TestsIfAny p d x s w b w' most = Leads p d (TheTest x) s w (Truth b) s w' most
 
 abbrev pub Tests : Program → ℕ → Condition → Scope → Stage → Bool → Stage → ℕ → Type 0
 Tests p d x = TestsIfAny p d (Some x)
 
+-- all of these conditions hold or not, and one of these does or not
 abbrev pub TestsAll : Program → ℕ → Conditions → Scope → Stage → Bool → Stage → ℕ → Type 0
 TestsAll p d xs s w b w' most = Leads p d (TheAll xs) s w (Truth b) s w' most
 
 abbrev pub TestsAny : Program → ℕ → Conditions → Scope → Stage → Bool → Stage → ℕ → Type 0
 TestsAny p d xs s w b w' most = Leads p d (TheAny xs) s w (Truth b) s w' most
 
+-- a change, which may be absent, leads to this scope and stage
 abbrev pub ChangesIfAny : Program → ℕ → Option Assignment → Scope → Stage → Scope → Stage → ℕ
     → Type 0
 ChangesIfAny p d x s w s' w' most = Leads p d (TheChange x) s w Normal s' w' most
@@ -107,9 +113,11 @@ ChangesIfAny p d x s w s' w' most = Leads p d (TheChange x) s w Normal s' w' mos
 abbrev pub Changes : Program → ℕ → Assignment → Scope → Stage → Scope → Stage → ℕ → Type 0
 Changes p d x = ChangesIfAny p d (Some x)
 
+-- the items of a `print` lead to this stage
 abbrev pub Prints : Program → ℕ → List PrintItem → Scope → Stage → Stage → ℕ → Type 0
 Prints p d xs s w w' most = Leads p d (TheItems xs) s w Normal s w' most
 
+-- a statement, a block and the turns of a loop lead to this outcome, scope and stage
 abbrev pub Executes : Program → ℕ → Statement → Scope → Stage → Outcome → Scope → Stage → ℕ
     → Type 0
 Executes p d x = Leads p d (TheStatement x)

@@ -9,6 +9,7 @@ abbrev pub plus : ℕ → ℕ → ℕ
 plus zero k = k
 plus (suc n) k = suc (plus n k)
 
+-- the variables and arrays, what is left to take, and what happened so far
 pub record Stage : Type 0 where
   pub globals : List ℕ → Option ℤ
   pub arrays : List ℕ → Option (List ℤ)
@@ -69,6 +70,7 @@ draw_taken draw draws w = record w { draws = draws; past = w.past ++ Drew draw �
 
 -- ---- a variable that has another value: the local where there is one, else the global
 
+-- the scope and the stage, by the local of this name, if there is one
 abbrev pub scope_after : Option ℤ → List ℕ → ℤ → Scope → Scope
 scope_after None name v s = s
 scope_after (Some old) name v s = record s { locals = updated name v s.locals }
