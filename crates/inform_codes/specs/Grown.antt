@@ -17,3 +17,8 @@ body_of names given codes = block_in (parts_of names given codes none).blocks
 -- the same where the codes are those of statements before the ones of another block
 unfoldable pub before_of : List (List ℕ) → List ℕ → List Code → Statements → Statements
 before_of names given codes after = block_in (parts_of names given codes (with_block after none)).blocks
+
+-- and where the last statement of the codes has its two blocks handed in
+unfoldable pub fork_of : List (List ℕ) → List ℕ → List Code → Statements → Statements → Statements → Statements
+fork_of names given codes body other after =
+    block_in (parts_of names given codes (with_block body (with_block other (with_block after none)))).blocks

@@ -3,4 +3,5 @@ pub mod Growths
 pub mod Codes
 pub mod Grown
 pub mod Routines
+pub mod Laws
 pub mod Worked

@@ -8,7 +8,6 @@ ghost use Rattle.inform_codes.specs.Growths.{waiting};
 use crate::growths::Growth;
 use adv_io::Memory;
 use inform_tree::{Cond, Relation};
-use std::alloc::Global;
 
 impl Growth {
     pub fn take_compare(&mut self, relation: Relation) -> Result<(), Memory>
@@ -26,29 +25,29 @@ impl Growth {
         self.push_test(Cond::Nonzero(value))
     }
 
-    pub fn take_not(&mut self, alloc: Global) -> Result<(), Memory>
+    pub fn take_not(&mut self) -> Result<(), Memory>
         ensures { IfOk result (λ _. waiting self.new ≡ with_not (waiting self.old)) }
     {
-        let operand = Box::new(alloc, self.pop_test())?;
+        let operand = Box::new(self.alloc, self.pop_test())?;
         self.push_test(Cond::Not(operand))
     }
 
-    pub fn take_both(&mut self, alloc: Global) -> Result<(), Memory>
+    pub fn take_both(&mut self) -> Result<(), Memory>
         ensures { IfOk result (λ _. waiting self.new ≡ with_both (waiting self.old)) }
     {
-        let members = self.two_tests(alloc)?;
+        let members = self.two_tests()?;
         self.push_test(Cond::All(members))
     }
 
-    pub fn take_either(&mut self, alloc: Global) -> Result<(), Memory>
+    pub fn take_either(&mut self) -> Result<(), Memory>
         ensures { IfOk result (λ _. waiting self.new ≡ with_either (waiting self.old)) }
     {
-        let members = self.two_tests(alloc)?;
+        let members = self.two_tests()?;
         self.push_test(Cond::Any(members))
     }
 
     // The two nearest conditions.
-    fn two_tests(&mut self, alloc: Global) -> Result<Vec<Cond>, Memory>
+    fn two_tests(&mut self) -> Result<Vec<Cond>, Memory>
         ensures tests { IfOk result (λ tests. conditions_of tests.items
             ≡ two_in (waiting self.old).tests) }
         ensures rest { IfOk result (λ _. waiting self.new
@@ -56,7 +55,7 @@ impl Growth {
     {
         let first = self.pop_test();
         let second = self.pop_test();
-        let tests = vec![in alloc; first, second]?;
+        let tests = vec![in self.alloc; first, second]?;
         Ok(tests)
     }
 }

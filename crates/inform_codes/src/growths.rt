@@ -22,7 +22,7 @@ pub struct Branches {
 /// The trees that wait, the nearest first in each queue.
 #[derive(Drop)]
 pub struct Growth {
-    alloc: Global,
+    pub alloc: Global,
     values: VecDeque<Expr>,
     /// The arguments of calls.
     rows: VecDeque<VecDeque<Expr>>,

@@ -10,6 +10,7 @@ mod conditions;
 mod growths;
 mod statements;
 mod switches;
+mod taking;
 mod values;
 
 // Bodies, and tables of routines.
@@ -17,12 +18,13 @@ mod growing;
 mod numbering;
 mod tables;
 
-// A worked routine.
+// Laws and worked routines.
 pub mod examples;
+pub mod laws;
 #[cfg(test)]
 mod tests;
 
 pub use codes::Code;
-pub use growing::{before, body};
+pub use growing::{before, body, fork};
 pub use numbering::numbered;
 pub use tables::{Row, routines};

@@ -8,7 +8,6 @@ ghost use Rattle.inform_codes.specs.Growths.{waiting};
 use crate::growths::Growth;
 use adv_io::Memory;
 use inform_tree::{Change, Item, Name, Stmt, Text};
-use std::alloc::Global;
 
 impl Growth {
     pub fn take_set(&mut self, name: Name) -> Result<(), Memory>
@@ -92,24 +91,24 @@ impl Growth {
         self.push_statement(Stmt::Return(Some(value)))
     }
 
-    pub fn take_print(&mut self, alloc: Global, text: Text) -> Result<(), Memory>
+    pub fn take_print(&mut self, text: Text) -> Result<(), Memory>
         ensures { IfOk result (λ _. waiting self.new ≡ with_print text (waiting self.old)) }
     {
-        let items = vec![in alloc; Item::Text(text)]?;
+        let items = vec![in self.alloc; Item::Text(text)]?;
         self.push_statement(Stmt::Print(items))
     }
 
-    pub fn take_print_value(&mut self, alloc: Global) -> Result<(), Memory>
+    pub fn take_print_value(&mut self) -> Result<(), Memory>
         ensures { IfOk result (λ _. waiting self.new ≡ with_print_value (waiting self.old)) }
     {
-        let items = vec![in alloc; Item::Value(self.pop_value())]?;
+        let items = vec![in self.alloc; Item::Value(self.pop_value())]?;
         self.push_statement(Stmt::Print(items))
     }
 
-    pub fn take_print_char(&mut self, alloc: Global) -> Result<(), Memory>
+    pub fn take_print_char(&mut self) -> Result<(), Memory>
         ensures { IfOk result (λ _. waiting self.new ≡ with_print_char (waiting self.old)) }
     {
-        let items = vec![in alloc; Item::Char(self.pop_value())]?;
+        let items = vec![in self.alloc; Item::Char(self.pop_value())]?;
         self.push_statement(Stmt::Print(items))
     }
 }

@@ -7,7 +7,6 @@ ghost use Rattle.inform_codes.specs.Growths.{waiting};
 use crate::growths::{Branches, Growth};
 use adv_io::Memory;
 use inform_tree::{Case, Stmt};
-use std::alloc::Global;
 use std::collections::VecDeque;
 
 impl Growth {
@@ -21,22 +20,22 @@ impl Growth {
         self.push_branches(branches)
     }
 
-    pub fn take_default(&mut self, alloc: Global) -> Result<(), Memory>
+    pub fn take_default(&mut self) -> Result<(), Memory>
         ensures { IfOk result (λ _. waiting self.new ≡ with_default (waiting self.old)) }
     {
         let body = self.pop_block().into_vec();
         self.push_branches(Branches {
-            cases: VecDeque::new(alloc),
+            cases: VecDeque::new(self.alloc),
             otherwise: Some(body),
         })
     }
 
-    pub fn take_no_default(&mut self, alloc: Global) -> Result<(), Memory>
+    pub fn take_no_default(&mut self) -> Result<(), Memory>
         ensures { IfOk result (λ _. waiting self.new
             ≡ with_branches no_branches (waiting self.old)) }
     {
         self.push_branches(Branches {
-            cases: VecDeque::new(alloc),
+            cases: VecDeque::new(self.alloc),
             otherwise: None,
         })
     }

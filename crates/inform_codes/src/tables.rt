@@ -5,7 +5,8 @@ ghost use Rattle.inform_codes.specs.Codes.{name_in};
 ghost use Rattle.inform_codes.specs.Routines.{row_routine, rows_directives};
 
 use crate::codes::Code;
-use crate::growing::{body, name_at};
+use crate::growing::body;
+use crate::taking::name_at;
 use adv_io::Memory;
 use inform_tree::{Directive, Name, Routine};
 use std::alloc::Global;

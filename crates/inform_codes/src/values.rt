@@ -6,13 +6,12 @@ ghost use Rattle.inform_codes.specs.Growths.{waiting};
 use crate::growths::Growth;
 use adv_io::Memory;
 use inform_tree::{Expr, Name, ProdOp, SumOp};
-use std::alloc::Global;
 
 impl Growth {
-    pub fn take_entry(&mut self, alloc: Global, name: Name, words: bool) -> Result<(), Memory>
+    pub fn take_entry(&mut self, name: Name, words: bool) -> Result<(), Memory>
         ensures { IfOk result (λ _. waiting self.new ≡ with_entry name words (waiting self.old)) }
     {
-        let index = Box::new(alloc, self.pop_value())?;
+        let index = Box::new(self.alloc, self.pop_value())?;
         self.push_value(Expr::Entry(name, words, index))
     }
 
@@ -23,35 +22,35 @@ impl Growth {
         self.push_value(Expr::Call(name, arguments))
     }
 
-    pub fn take_random(&mut self, alloc: Global) -> Result<(), Memory>
+    pub fn take_random(&mut self) -> Result<(), Memory>
         ensures { IfOk result (λ _. waiting self.new ≡ with_random (waiting self.old)) }
     {
-        let limit = Box::new(alloc, self.pop_value())?;
+        let limit = Box::new(self.alloc, self.pop_value())?;
         self.push_value(Expr::Random(limit))
     }
 
-    pub fn take_neg(&mut self, alloc: Global) -> Result<(), Memory>
+    pub fn take_neg(&mut self) -> Result<(), Memory>
         ensures { IfOk result (λ _. waiting self.new ≡ with_neg (waiting self.old)) }
     {
-        let operand = Box::new(alloc, self.pop_value())?;
+        let operand = Box::new(self.alloc, self.pop_value())?;
         self.push_value(Expr::Neg(operand))
     }
 
     #[tactic(auto, using(inform_tree::proofs::Views::expression_of_sum))]
-    pub fn take_sum(&mut self, alloc: Global, op: SumOp) -> Result<(), Memory>
+    pub fn take_sum(&mut self, op: SumOp) -> Result<(), Memory>
         ensures { IfOk result (λ _. waiting self.new ≡ with_sum op (waiting self.old)) }
     {
-        let first = Box::new(alloc, self.pop_value())?;
-        let terms = vec![in alloc; (op, self.pop_value())]?;
+        let first = Box::new(self.alloc, self.pop_value())?;
+        let terms = vec![in self.alloc; (op, self.pop_value())]?;
         self.push_value(Expr::Sum(first, terms))
     }
 
     #[tactic(auto, using(inform_tree::proofs::Views::expression_of_product))]
-    pub fn take_product(&mut self, alloc: Global, op: ProdOp) -> Result<(), Memory>
+    pub fn take_product(&mut self, op: ProdOp) -> Result<(), Memory>
         ensures { IfOk result (λ _. waiting self.new ≡ with_product op (waiting self.old)) }
     {
-        let first = Box::new(alloc, self.pop_value())?;
-        let factors = vec![in alloc; (op, self.pop_value())]?;
+        let first = Box::new(self.alloc, self.pop_value())?;
+        let factors = vec![in self.alloc; (op, self.pop_value())]?;
         self.push_value(Expr::Product(first, factors))
     }
 
