@@ -1,44 +1,65 @@
-//! With ample memory each call succeeds, and a grown routine is the tree that was written.
-use crate::examples::{CARRIED, NAMES, ROUTINES};
-use crate::{Code, before, body, numbered, routines};
-use inform_tree::{Change, Cond, Directive, Expr, Relation, Stmt};
+//! With ample memory each call succeeds, and what it gives is the tree that was written.
+use crate::examples::{CALL, CARRIED, FORK, MESSAGE, NAMES, ROUTINES};
+use crate::{before, body, fork, numbered, routines};
+use inform_tree::{Change, Cond, Directive, Expr, Name, Relation, Stmt};
+use std::alloc::{AllocError, Global};
 use std::test::Fail;
 
-// Whether this is the `for` of the routine that counts what is carried, up to 9, and what its body is.
-fn counts_to_nine(statement: &Stmt) -> Option<&[Stmt]> {
+fn is(name: &Name, text: &str) -> bool {
+    name.bytes() == text.as_bytes()
+}
+
+fn is_variable(value: &Expr, text: &str) -> bool {
+    match value {
+        Expr::Name(name) => is(name, text),
+        _ => false,
+    }
+}
+
+// Whether this is `i = 0`, `i <= 9` and `i++`.
+fn is_head(first: &Change, test: &Cond, next: &Change) -> bool {
+    match (first, test, next) {
+        (
+            Change::Set(first, Expr::Number(0)),
+            Cond::Compare(Relation::Le, left, Expr::Number(9)),
+            Change::Inc(next),
+        ) => is(first, "i") && is_variable(left, "i") && is(next, "i"),
+        _ => false,
+    }
+}
+
+// What is done in each turn, if this is such a loop.
+fn turn_of(statement: &Stmt) -> Option<&Vec<Stmt>> {
     match statement {
-        Stmt::For(
-            Some(Change::Set(first, Expr::Number(0))),
-            Some(Cond::Compare(Relation::Le, Expr::Name(left), Expr::Number(9))),
-            Some(Change::Inc(next)),
-            body,
-        ) if first.bytes() == b"i" && left.bytes() == b"i" && next.bytes() == b"i" => Some(body),
+        Stmt::For(Some(first), Some(test), Some(next), turn) if is_head(first, test, next) => {
+            Some(turn)
+        }
         _ => None,
     }
 }
 
-// What is done where an item is carried, if this is the test of it, with no `else`.
-fn is_test(statement: &Stmt) -> Option<&[Stmt]> {
+// What is done where `item-->i` is 255, if this says so, and what is done where it isn't.
+fn branches_of(statement: &Stmt) -> Option<(&Vec<Stmt>, &Vec<Stmt>)> {
     match statement {
         Stmt::If(
-            Cond::Compare(Relation::Eq, Expr::Entry(array, true, _), Expr::Number(255)),
+            Cond::Compare(Relation::Eq, Expr::Entry(array, true, index), Expr::Number(255)),
             body,
             other,
-        ) if array.bytes() == b"item" && other.is_empty() => Some(body),
+        ) if is(array, "item") && is_variable(index, "i") => Some((body, other)),
         _ => None,
     }
 }
 
 fn counts_up(statement: &Stmt) -> bool {
     match statement {
-        Stmt::Change(Change::Inc(name)) => name.bytes() == b"n",
+        Stmt::Change(Change::Inc(name)) => is(name, "n"),
         _ => false,
     }
 }
 
 fn returns_count(statement: &Stmt) -> bool {
     match statement {
-        Stmt::Return(Some(Expr::Name(name))) => name.bytes() == b"n",
+        Stmt::Return(Some(value)) => is_variable(value, "n"),
         _ => false,
     }
 }
@@ -47,37 +68,41 @@ fn returns_count(statement: &Stmt) -> bool {
 fn carried_is_grown(rt: HostRuntime) -> Result<(), Fail> {
     let grown = body(rt.alloc(), &NAMES, &[9], &CARRIED)?;
     assert_eq!(rt; grown.len(), 2);
-    let turn = counts_to_nine(&grown[0]).ok_or("no loop")?;
-    assert!(rt; returns_count(&grown[1]));
+    let turn = turn_of(&grown[0]).ok_or("no such loop")?;
     assert_eq!(rt; turn.len(), 1);
-    let inner = is_test(&turn[0]).ok_or("no test")?;
-    assert_eq!(rt; inner.len(), 1);
-    assert!(rt; counts_up(&inner[0]));
+    let (body, other) = branches_of(&turn[0]).ok_or("no such test")?;
+    assert_eq!(rt; body.len(), 1);
+    assert!(rt; counts_up(&body[0]) && other.is_empty());
+    assert!(rt; returns_count(&grown[1]));
     Ok(())
+}
+
+// How many statements each routine of a table has.
+fn sizes(alloc: Global, table: &[Directive]) -> Result<Vec<usize>, AllocError> {
+    let mut sizes = Vec::new(alloc);
+    for directive in table {
+        match directive {
+            Directive::Routine(routine) => sizes.push(routine.body.len())?,
+            _ => {}
+        }
+    }
+    Ok(sizes)
 }
 
 #[test]
 fn calls_succeed(rt: HostRuntime) -> Result<(), Fail> {
-    let table = routines(rt.alloc(), &NAMES, &[9], &ROUTINES)?;
-    assert_eq!(rt; table.len(), 2);
-    match &table[0] {
-        Directive::Routine(routine) => {
-            assert!(rt; routine.name.bytes() == b"carried".as_slice());
-            assert_eq!(rt; routine.locals.len(), 2);
-            assert_eq!(rt; routine.body.len(), 2);
-        }
-        _ => assert!(rt; false, "no routine"),
-    }
-    let name = numbered(rt.alloc(), b"msg_", 12)?;
+    let alloc = rt.alloc();
+    let table = routines(alloc, &NAMES, &[9], &ROUTINES)?;
+    assert!(rt; sizes(alloc, &table)?.as_slice() == [2, 3].as_slice());
+    let name = numbered(alloc, b"msg_", 12)?;
     assert!(rt; name.as_slice() == b"msg_12".as_slice());
-    let end = body(rt.alloc(), &[], &[], &[Code::Quit, Code::End])?;
-    let both = before(
-        rt.alloc(),
-        &[name.as_slice()],
-        &[],
-        &[Code::Call(0), Code::NoMore],
-        end,
-    )?;
-    assert_eq!(rt; both.len(), 2);
+    let names = [name.as_slice()];
+    let message = body(alloc, &names, &[], &MESSAGE)?;
+    assert_eq!(rt; message.len(), 2);
+    let called = before(alloc, &names, &[], &CALL, message)?;
+    assert_eq!(rt; called.len(), 3);
+    let branches = (called, Vec::new(alloc));
+    let forked = fork(alloc, &names, &[7], &FORK, branches, Vec::new(alloc))?;
+    assert_eq!(rt; forked.len(), 1);
     Ok(())
 }
