@@ -2,7 +2,7 @@
 use Rattle.std.specs.Prelude.{ℕ, List, [], ◌∷◌}
 use Rattle.inform_tree.specs.Statements.{Statements}
 use Rattle.inform_codes.specs.declared.codes.Code.{Code}
-use Rattle.inform_codes.specs.Parts.{Parts, none, block_in, with_block}
+use Rattle.inform_codes.specs.Parts.{Parts, none, nearest_block, with_block}
 use Rattle.inform_codes.specs.Codes.{taken}
 
 -- what waits before these codes, where this waits after them: the last code is taken first
@@ -12,13 +12,16 @@ parts_of names given (x ∷ xs) after = taken names given x (parts_of names give
 
 -- the block that codes are: the nearest one that waits in the end
 unfoldable pub body_of : List (List ℕ) → List ℕ → List Code → Statements
-body_of names given codes = block_in (parts_of names given codes none).blocks
+body_of names given codes = nearest_block (parts_of names given codes none)
 
 -- the same where the codes are those of statements before the ones of another block
 unfoldable pub before_of : List (List ℕ) → List ℕ → List Code → Statements → Statements
-before_of names given codes after = block_in (parts_of names given codes (with_block after none)).blocks
+before_of names given codes after =
+    nearest_block (parts_of names given codes (with_block after none))
 
 -- and where the last statement of the codes has its two blocks handed in
-unfoldable pub fork_of : List (List ℕ) → List ℕ → List Code → Statements → Statements → Statements → Statements
+unfoldable pub fork_of : List (List ℕ) → List ℕ → List Code
+    → Statements → Statements → Statements → Statements
 fork_of names given codes body other after =
-    block_in (parts_of names given codes (with_block body (with_block other (with_block after none)))).blocks
+    let blocks = with_block body (with_block other (with_block after none)) in
+    nearest_block (parts_of names given codes blocks)

@@ -1,4 +1,5 @@
--- The trees that wait for the codes before them, the nearest first, and what is added to them and taken away.
+-- The trees that wait for the codes before them, the nearest first; what is added to them and taken
+-- away.
 use Rattle.std.specs.Prelude.{List, [], ◌∷◌}
 use Rattle.inform_tree.specs.Values as v
 use Rattle.inform_tree.specs.Values.{Expression, Arguments}
@@ -24,35 +25,50 @@ pub record Parts : Type 0 where
 abbrev pub none : Parts
 none = record { values = []; rows = []; tests = []; blocks = []; choices = []; switches = [] }
 
+-- all but the nearest
+abbrev rest : {X : Type 0} → List X → List X
+rest [] = []
+rest (x ∷ xs) = xs
+
 -- ---- the nearest, or what stands for it where none waits
 
-abbrev pub value_in : List Expression → Expression
+abbrev value_in : List Expression → Expression
 value_in [] = v.Number 0
 value_in (x ∷ xs) = x
 
-abbrev pub row_in : List Arguments → Arguments
+abbrev row_in : List Arguments → Arguments
 row_in [] = v.NoArguments
 row_in (x ∷ xs) = x
 
-abbrev pub test_in : List Condition → Condition
+abbrev test_in : List Condition → Condition
 test_in [] = c.Nonzero (v.Number 0)
 test_in (x ∷ xs) = x
 
-abbrev pub block_in : List Statements → Statements
+abbrev block_in : List Statements → Statements
 block_in [] = s.NoStatements
 block_in (x ∷ xs) = x
 
 abbrev pub no_branches : Branches
 no_branches = record { cases = s.NoCases; otherwise = s.NoDefault }
 
-abbrev pub branches_in : List Branches → Branches
+abbrev branches_in : List Branches → Branches
 branches_in [] = no_branches
 branches_in (x ∷ xs) = x
 
--- all but the nearest
-abbrev pub rest : {X : Type 0} → List X → List X
-rest [] = []
-rest (x ∷ xs) = xs
+abbrev pub nearest_value : Parts → Expression
+nearest_value p = value_in p.values
+
+abbrev pub nearest_row : Parts → Arguments
+nearest_row p = row_in p.rows
+
+abbrev pub nearest_test : Parts → Condition
+nearest_test p = test_in p.tests
+
+abbrev pub nearest_block : Parts → Statements
+nearest_block p = block_in p.blocks
+
+abbrev pub nearest_branches : Parts → Branches
+nearest_branches p = branches_in p.switches
 
 -- ---- with one more, and with the nearest taken away
 
@@ -95,4 +111,4 @@ less_choices p = record p { choices = [] }
 
 -- a statement before the others of its block
 abbrev pub with_statement : Statement → Parts → Parts
-with_statement x p = with_block (s.MoreStatements x (block_in p.blocks)) (less_block p)
+with_statement x p = with_block (s.MoreStatements x (nearest_block p)) (less_block p)

@@ -1,11 +1,11 @@
 //! The codes of a routine.
 use inform_tree::{ProdOp, Relation, SumOp};
 
-/// A code: one node of a tree. The codes of a tree stand in the order in which one reads it, each node
-/// before its parts.
+/// A code: one node of a tree. The codes of a tree stand in the order in which one reads it, each
+/// node before its parts.
 ///
-/// A name is a place in the list of names that is handed in with the codes. What isn't there is the number 0,
-/// an empty name, an empty block or no case.
+/// A name is a place in the list of names that is handed in with the codes. What isn't there is the
+/// number 0, an empty name, an empty block or no case.
 #[derive(Clone, Copy)]
 pub enum Code {
     Number(u32),
@@ -54,8 +54,8 @@ pub enum Code {
     If,
     /// Its condition follows, and then a block.
     While,
-    /// The variable of this name counts up by 1: its first value follows, the condition of each turn, and a
-    /// block.
+    /// The variable of this name counts up by 1: its first value follows, the condition of each
+    /// turn, and a block.
     For(usize),
     /// Its value follows, and then its cases.
     Switch,

@@ -2,7 +2,7 @@
 ghost use Rattle.std.specs.Prelude.{◌≡◌, IfOk};
 ghost use Rattle.inform_tree.specs.Conditions.{conditions_of};
 ghost use Rattle.inform_codes.specs.Parts.{less_test};
-ghost use Rattle.inform_codes.specs.Codes.{with_compare, with_nonzero, with_not, two_in, with_both, with_either};
+ghost use Rattle.inform_codes.specs.Codes.{with_compare, with_nonzero, with_not, two_tests, with_both, with_either};
 ghost use Rattle.inform_codes.specs.Growths.{waiting};
 
 use crate::growths::Growth;
@@ -49,7 +49,7 @@ impl Growth {
     // The two nearest conditions.
     fn two_tests(&mut self) -> Result<Vec<Cond>, Memory>
         ensures tests { IfOk result (λ tests. conditions_of tests.items
-            ≡ two_in (waiting self.old).tests) }
+            ≡ two_tests (waiting self.old)) }
         ensures rest { IfOk result (λ _. waiting self.new
             ≡ less_test (less_test (waiting self.old))) }
     {

@@ -1,6 +1,6 @@
-//! Worked routines, written as codes and spelled out as trees. Each law is the contract of a function that
-//! does nothing, and is proved by computing.
-ghost use Rattle.inform_codes.specs.Worked.{CarriedGrown, CarriedDepth, CarriedIsBody, AnswerGrown, MessageGrown, CallGrown, ForkGrown};
+//! Worked routines, written as codes and spelled out as trees. Each law is the contract of a
+//! function that does nothing, and is proved by computing.
+ghost use Rattle.inform_codes.specs.Worked.{CarriedGrown, CarriedDepth, CarriedIsBody, AnswerGrown, RoutinesFormed, MessageGrown, CallGrown, ForkGrown};
 
 use crate::codes::Code;
 use crate::tables::Row;
@@ -55,7 +55,8 @@ pub const CARRIED: [Code; 17] = [
 
 /// A switch within a switch:
 ///
-/// `switch (x) { 1, 3 to 5: switch (n) { 2: rtrue; } default: say(x - 1, n); } flag->n = x; print "Well?";`
+/// `switch (x) { 1, 3 to 5: switch (n) { 2: rtrue; } default: say(x - 1, n); }`
+/// `flag->n = x; print "Well?";`
 pub const ANSWER: [Code; 28] = [
     Code::Switch,
     Code::Variable(X),
@@ -131,6 +132,12 @@ pub fn carried_is_body()
 #[tactic(auto, unfolding(crate::specs::Grown::body_of))]
 pub fn answer_grown()
     ensures { AnswerGrown }
+{}
+
+/// A table is well formed where the numbers that are handed in may stand in a program.
+#[tactic(auto, using(crate::proofs::Computed::routines_formed))]
+pub fn routines_formed()
+    ensures { RoutinesFormed }
 {}
 
 /// A text of a game is a name that is handed in.

@@ -24,8 +24,8 @@ impl Growth {
     }
 }
 
-/// The body that these codes are. Names are places in the list of names, and numbers that are handed in places in
-/// the other list.
+/// The body that these codes are. Names are places in the list of names, and numbers that are
+/// handed in places in the other list.
 #[tactic(auto, unfolding(crate::specs::Grown::body_of))]
 pub fn body(
     alloc: Global,
@@ -41,7 +41,8 @@ pub fn body(
     Ok(growth.pop_block().into_vec())
 }
 
-/// The statements that these codes are, and then the ones of a body. The codes have no end of the block.
+/// The statements that these codes are, and then the ones of a body. The codes have no end of the
+/// block.
 #[tactic(auto, unfolding(crate::specs::Grown::before_of))]
 pub fn before(
     alloc: Global,
@@ -51,7 +52,8 @@ pub fn before(
     after: Vec<Stmt>,
 ) -> Result<Vec<Stmt>, Memory>
     ensures { IfOk result (λ body. statements_of body.items
-        ≡ before_of (map (λ n. n.now) names.now) given.now codes.now (statements_of after.items)) }
+        ≡ before_of (map (λ n. n.now) names.now) given.now codes.now
+        (statements_of after.items)) }
 {
     let mut growth = Growth::new(alloc);
     growth.push_block(VecDeque::from_vec(after))?;
@@ -59,8 +61,8 @@ pub fn before(
     Ok(growth.pop_block().into_vec())
 }
 
-/// The statements that these codes are, the last of which has the two blocks, and then the ones of a body. The
-/// codes have no end of a block.
+/// The statements that these codes are, the last of which has the two blocks, and then the ones of
+/// a body. The codes have no end of a block.
 #[tactic(auto, unfolding(crate::specs::Grown::fork_of))]
 pub fn fork(
     alloc: Global,

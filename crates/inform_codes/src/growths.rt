@@ -3,7 +3,7 @@ ghost use Rattle.std.specs.Prelude.{◌≡◌, IfOk};
 ghost use Rattle.inform_tree.specs.Values.{expression_of, arguments_of};
 ghost use Rattle.inform_tree.specs.Conditions.{condition_of};
 ghost use Rattle.inform_tree.specs.Statements.{statement_of, statements_of};
-ghost use Rattle.inform_codes.specs.Parts.{none, value_in, row_in, test_in, block_in, branches_in, with_value, less_value, with_row, less_row, with_test, less_test, with_block, less_block, with_branches, less_branches, with_choice, less_choices, with_statement};
+ghost use Rattle.inform_codes.specs.Parts.{none, nearest_value, nearest_row, nearest_test, nearest_block, nearest_branches, with_value, less_value, with_row, less_row, with_test, less_test, with_block, less_block, with_branches, less_branches, with_choice, less_choices, with_statement};
 ghost use Rattle.inform_codes.specs.Growths.{branches_of, waiting};
 
 use adv_io::Memory;
@@ -52,7 +52,7 @@ impl Growth {
     // ---- the nearest is taken away, or what stands for it where none waits
 
     pub fn pop_value(&mut self) -> Expr
-        ensures value { expression_of result ≡ value_in (waiting self.old).values }
+        ensures value { expression_of result ≡ nearest_value (waiting self.old) }
         ensures rest { waiting self.new ≡ less_value (waiting self.old) }
     {
         match self.values.pop_front() {
@@ -62,7 +62,7 @@ impl Growth {
     }
 
     pub fn pop_row(&mut self) -> VecDeque<Expr>
-        ensures row { arguments_of result.items ≡ row_in (waiting self.old).rows }
+        ensures row { arguments_of result.items ≡ nearest_row (waiting self.old) }
         ensures rest { waiting self.new ≡ less_row (waiting self.old) }
     {
         match self.rows.pop_front() {
@@ -72,7 +72,7 @@ impl Growth {
     }
 
     pub fn pop_test(&mut self) -> Cond
-        ensures test { condition_of result ≡ test_in (waiting self.old).tests }
+        ensures test { condition_of result ≡ nearest_test (waiting self.old) }
         ensures rest { waiting self.new ≡ less_test (waiting self.old) }
     {
         match self.tests.pop_front() {
@@ -82,7 +82,7 @@ impl Growth {
     }
 
     pub fn pop_block(&mut self) -> VecDeque<Stmt>
-        ensures block { statements_of result.items ≡ block_in (waiting self.old).blocks }
+        ensures block { statements_of result.items ≡ nearest_block (waiting self.old) }
         ensures rest { waiting self.new ≡ less_block (waiting self.old) }
     {
         match self.blocks.pop_front() {
@@ -92,7 +92,7 @@ impl Growth {
     }
 
     pub fn pop_branches(&mut self) -> Branches
-        ensures branches { branches_of result ≡ branches_in (waiting self.old).switches }
+        ensures branches { branches_of result ≡ nearest_branches (waiting self.old) }
         ensures rest { waiting self.new ≡ less_branches (waiting self.old) }
     {
         match self.switches.pop_front() {

@@ -1,5 +1,5 @@
-//! Routines of a generated program: written as flat codes in the order in which one reads a tree, and
-//! grown into trees by one function.
+//! Routines of a generated program: written as flat codes in the order in which one reads a tree,
+//! and grown into trees by one function.
 #![tactic(auto)]
 
 // What a routine is written in.

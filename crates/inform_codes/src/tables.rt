@@ -27,7 +27,8 @@ fn names_at(alloc: Global, names: &[&[u8]], places: &[usize]) -> Result<Vec<Name
 
 fn routine(alloc: Global, names: &[&[u8]], given: &[u32], row: &Row<'_>) -> Result<Routine, Memory>
     ensures { IfOk result (λ routine. routine_of routine
-        ≡ row_routine (map (λ n. n.now) names.now) given.now (row.now.0, row.now.1.now, row.now.2.now)) }
+        ≡ row_routine (map (λ n. n.now) names.now) given.now
+        (row.now.0, row.now.1.now, row.now.2.now)) }
 {
     let (name, locals, codes) = *row;
     Ok(Routine {
