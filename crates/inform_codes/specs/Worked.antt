@@ -9,6 +9,7 @@ use Rattle.inform_tree.specs.Conditions as c
 use Rattle.inform_tree.specs.Conditions.{Condition}
 use Rattle.inform_tree.specs.Statements as s
 use Rattle.inform_tree.specs.Statements.{Statement, Statements, statements}
+use Rattle.inform_tree.specs.Programs as d
 use Rattle.inform_tree.specs.Programs.{DirectiveTree}
 use Rattle.inform_tree.specs.Depths.{statements_depth}
 use Rattle.inform_tree.specs.Words.{is_number}
@@ -86,6 +87,17 @@ AnswerGrown = body_of names [] ANSWER ≡ answer
 abbrev table : ℕ → List DirectiveTree
 table highest =
     rows_directives names (highest ∷ []) (map (λ row. (row.0, row.1.now, row.2.now)) ROUTINES)
+
+abbrev routine : List ℕ → List (List ℕ) → Statements → DirectiveTree
+routine name locals body = d.Routine (record { name = name; locals = locals; body = body })
+
+-- each routine is its name, its locals and its codes, which need not be grown for that
+abbrev pub RoutinesListed : Type 0
+RoutinesListed = (highest : ℕ)
+    → table highest
+    ≡ routine (codes "carried") (codes "i" ∷ codes "n" ∷ []) (body_of names (highest ∷ []) CARRIED)
+    ∷ routine (codes "answer") (codes "x" ∷ codes "n" ∷ []) (body_of names (highest ∷ []) ANSWER)
+    ∷ []
 
 -- it is well formed where the number that is handed in may stand in a program
 abbrev pub RoutinesFormed : Type 0

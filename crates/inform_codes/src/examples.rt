@@ -1,6 +1,6 @@
 //! Worked routines, written as codes and spelled out as trees. Each law is the contract of a
 //! function that does nothing, and is proved by computing.
-ghost use Rattle.inform_codes.specs.Worked.{CarriedGrown, CarriedDepth, CarriedIsBody, AnswerGrown, RoutinesFormed, MessageGrown, CallGrown, ForkGrown};
+ghost use Rattle.inform_codes.specs.Worked.{CarriedGrown, CarriedDepth, CarriedIsBody, AnswerGrown, RoutinesListed, RoutinesFormed, MessageGrown, CallGrown, ForkGrown};
 
 use crate::codes::Code;
 use crate::tables::Row;
@@ -132,6 +132,11 @@ pub fn carried_is_body()
 #[tactic(auto, unfolding(crate::specs::Grown::body_of))]
 pub fn answer_grown()
     ensures { AnswerGrown }
+{}
+
+/// A routine is taken out of a table with its codes, which aren't grown for that.
+pub fn routines_listed()
+    ensures { RoutinesListed }
 {}
 
 /// A table is well formed where the numbers that are handed in may stand in a program.
