@@ -1,0 +1,30 @@
+//! Routines of a generated program: written as flat codes in the order in which one reads a tree,
+//! and grown into trees by one function.
+#![tactic(auto)]
+
+// What a routine is written in.
+mod codes;
+
+// What waits while it grows, and what each code makes of it.
+mod conditions;
+mod growths;
+mod statements;
+mod switches;
+mod taking;
+mod values;
+
+// Bodies, and tables of routines.
+mod growing;
+mod numbering;
+mod tables;
+
+// Laws and worked routines.
+pub mod examples;
+pub mod laws;
+#[cfg(test)]
+mod tests;
+
+pub use codes::Code;
+pub use growing::{before, body, fork};
+pub use numbering::numbered;
+pub use tables::{Row, routines};

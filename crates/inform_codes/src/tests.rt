@@ -1,0 +1,108 @@
+//! With ample memory each call succeeds, and what it gives is the tree that was written.
+use crate::examples::{CALL, CARRIED, FORK, MESSAGE, NAMES, ROUTINES};
+use crate::{before, body, fork, numbered, routines};
+use inform_tree::{Change, Cond, Directive, Expr, Name, Relation, Stmt};
+use std::alloc::{AllocError, Global};
+use std::test::Fail;
+
+fn is(name: &Name, text: &str) -> bool {
+    name.bytes() == text.as_bytes()
+}
+
+fn is_variable(value: &Expr, text: &str) -> bool {
+    match value {
+        Expr::Name(name) => is(name, text),
+        _ => false,
+    }
+}
+
+// Whether this is `i = 0`, `i <= 9` and `i++`.
+fn is_head(first: &Change, test: &Cond, next: &Change) -> bool {
+    match (first, test, next) {
+        (
+            Change::Set(first, Expr::Number(0)),
+            Cond::Compare(Relation::Le, left, Expr::Number(9)),
+            Change::Inc(next),
+        ) => is(first, "i") && is_variable(left, "i") && is(next, "i"),
+        _ => false,
+    }
+}
+
+// What is done in each turn, if this is such a loop.
+fn turn_of(statement: &Stmt) -> Option<&Vec<Stmt>> {
+    match statement {
+        Stmt::For(Some(first), Some(test), Some(next), turn) if is_head(first, test, next) => {
+            Some(turn)
+        }
+        _ => None,
+    }
+}
+
+// What is done where `item-->i` is 255, if this says so, and what is done where it isn't.
+fn branches_of(statement: &Stmt) -> Option<(&Vec<Stmt>, &Vec<Stmt>)> {
+    match statement {
+        Stmt::If(
+            Cond::Compare(Relation::Eq, Expr::Entry(array, true, index), Expr::Number(255)),
+            body,
+            other,
+        ) if is(array, "item") && is_variable(index, "i") => Some((body, other)),
+        _ => None,
+    }
+}
+
+fn counts_up(statement: &Stmt) -> bool {
+    match statement {
+        Stmt::Change(Change::Inc(name)) => is(name, "n"),
+        _ => false,
+    }
+}
+
+fn returns_count(statement: &Stmt) -> bool {
+    match statement {
+        Stmt::Return(Some(value)) => is_variable(value, "n"),
+        _ => false,
+    }
+}
+
+#[test]
+fn carried_is_grown(rt: HostRuntime) -> Result<(), Fail> {
+    let grown = body(rt.alloc(), &NAMES, &[9], &CARRIED)?;
+    assert_eq!(rt; grown.len(), 2);
+    let turn = turn_of(&grown[0]).ok_or("no such loop")?;
+    assert_eq!(rt; turn.len(), 1);
+    let (body, other) = branches_of(&turn[0]).ok_or("no such test")?;
+    assert_eq!(rt; body.len(), 1);
+    assert!(rt; counts_up(&body[0]) && other.is_empty());
+    assert!(rt; returns_count(&grown[1]));
+    Ok(())
+}
+
+// How many statements each routine of a table has.
+fn sizes(alloc: Global, table: &[Directive]) -> Result<Vec<usize>, AllocError> {
+    let mut sizes = Vec::new(alloc);
+    for directive in table {
+        match directive {
+            Directive::Routine(routine) => sizes.push(routine.body.len())?,
+            _ => {}
+        }
+    }
+    Ok(sizes)
+}
+
+#[test]
+fn calls_succeed(rt: HostRuntime) -> Result<(), Fail> {
+    let alloc = rt.alloc();
+    let table = routines(alloc, &NAMES, &[9], &ROUTINES)?;
+    assert!(rt; sizes(alloc, &table)?.as_slice() == [2, 3].as_slice());
+    let name = numbered(alloc, b"msg_", 12)?;
+    assert!(rt; name.as_slice() == b"msg_12".as_slice());
+    let names = [name.as_slice()];
+    let message = body(alloc, &names, &[], &MESSAGE)?;
+    assert_eq!(rt; message.len(), 2);
+    let called = before(alloc, &names, &[], &CALL, message)?;
+    assert_eq!(rt; called.len(), 3);
+    let branches = (called, Vec::new(alloc));
+    let forked = fork(alloc, &names, &[7], &FORK, branches, Vec::new(alloc))?;
+    assert_eq!(rt; forked.len(), 1);
+    Ok(())
+}
