@@ -17,6 +17,7 @@ pub mod Whole
 pub mod Holding
 pub mod Carried
 pub mod Swapped
+pub mod Moved
 pub mod Said
 pub mod Cleared
 pub mod Asked

@@ -1,5 +1,5 @@
 -- Lists by what is left of them from a place on.
-use Rattle.std.proofs.Common.{◌≡◌, ◌∙◌, ℕ, zero, suc, ◌+◌, List, [], ◌∷◌, map, drop, slice_get, Some, option_map, ap, add-one}
+use Rattle.std.proofs.Common.{◌≡◌, ◌∙◌, arith, ℕ, zero, suc, ◌+◌, ◌<◌, true, is_some, length, refl, List, [], ◌∷◌, map, drop, slice_get, Some, option_map, ap, add-one}
 use Rattle.std.proofs.lemmas.Option.{slice_get-map}
 
 -- the element at which the rest begins
@@ -26,3 +26,9 @@ by_suc (y ∷ ys) (suc i) h = by_suc ys i h
 pub after_rest : {X : Type 0} (xs : List X) (i : ℕ) {x : X} {rest : List X} → drop i xs ≡ x ∷ rest
     → drop (i + 1) xs ≡ rest
 after_rest xs i h = rw add-one (by_suc xs i h)
+
+-- an element before the end is there
+pub is_there : {X : Type 0} (xs : List X) (i : ℕ) → i < length xs → is_some (slice_get xs i) ≡ true
+is_there [] i few = absurd (omega (arith, few))
+is_there (x ∷ xs) zero few = refl
+is_there (x ∷ xs) (suc i) few = is_there xs i (omega (arith, few))

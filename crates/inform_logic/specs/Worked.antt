@@ -1,5 +1,5 @@
 -- Worked routines, as trees, and what they do in every program that has them.
-use Rattle.std.specs.Prelude.{◌≡◌, ℕ, zero, suc, ◌+◌, ◌-◌, ◌*◌, ◌/◌, ◌%◌, ◌<◌, ℤ, pos, nat_eq, nat_le, Bool, true, not, ◌&&◌, ◌||◌, decimal, if◌then◌else◌, List, [], ◌∷◌, ◌++◌, map, length, count_by, codes, Some, None}
+use Rattle.std.specs.Prelude.{◌≡◌, ℕ, zero, suc, ◌+◌, ◌-◌, ◌*◌, ◌/◌, ◌%◌, ◌<◌, ℤ, pos, nat_eq, nat_le, Bool, true, false, not, ◌&&◌, ◌||◌, decimal, if◌then◌else◌, List, [], ◌∷◌, ◌++◌, map, set, length, count_by, codes, Some, None}
 use Rattle.std.specs.List.{prefix_len}
 use Rattle.adv_io.specs.Steps.{Drew, Noted}
 use Rattle.inform_tree.specs.declared.values.Const.TheVariants as k
@@ -17,7 +17,7 @@ use Rattle.inform_meaning.specs.Frames.{Loop, Quits, Trapped, NeedsLine}
 use Rattle.inform_meaning.specs.declared.traps.Trap.TheVariants.{Division}
 use Rattle.inform_meaning.specs.Statements.{while_loop, for_loop}
 use Rattle.inform_meaning.specs.Runs.{Halted, Lacking}
-use Rattle.inform_logic.specs.Stages.{Stage, with_past, with_global, line_taken, said}
+use Rattle.inform_logic.specs.Stages.{Stage, with_past, with_global, with_array, line_taken, said}
 use Rattle.inform_logic.specs.Leading.{Does}
 use Rattle.inform_logic.specs.Holding.{Has, Notes}
 use Rattle.inform_logic.specs.Stopping.{CallStops}
@@ -30,8 +30,8 @@ routine name locals body = record { name = name; locals = locals; body = stateme
 abbrev name : List ℕ → Expression
 name x = v.Name x
 
-abbrev set : List ℕ → Expression → Statement
-set x y = t.Assign (t.Set x y)
+abbrev assign : List ℕ → Expression → Statement
+assign x y = t.Assign (t.Set x y)
 
 abbrev increment : List ℕ → Statement
 increment x = t.Assign (t.Inc x)
@@ -82,12 +82,12 @@ CarriedIsCounted = (p : Program) (d : ℕ) (w : Stage) (places : List ℕ) → l
 
 abbrev pub move_to : RoutineTree
 move_to = routine (codes "move_to") (codes "r" ∷ codes "old" ∷ [])
-    (set (codes "old") (name (codes "here")) ∷ set (codes "here") (name (codes "r"))
+    (assign (codes "old") (name (codes "here")) ∷ assign (codes "here") (name (codes "r"))
     ∷ return (name (codes "old")) ∷ [])
 
 abbrev pub swap : RoutineTree
 swap = routine (codes "swap") []
-    (set (codes "saved") (call (codes "move_to") (name (codes "saved") ∷ [])) ∷ [])
+    (assign (codes "saved") (call (codes "move_to") (name (codes "saved") ∷ [])) ∷ [])
 
 -- The two globals have each other's value.
 abbrev pub GlobalsAreSwapped : Type 0
@@ -95,6 +95,23 @@ GlobalsAreSwapped = (p : Program) (d : ℕ) (w : Stage) (here saved : ℤ) → H
     → w.globals (codes "here") ≡ Some here → w.globals (codes "saved") ≡ Some saved
     → Does p (suc (suc d)) (codes "swap") [] w (pos 1)
     (with_global (codes "saved") here (with_global (codes "here") saved w)) 5
+
+-- ---- `[ move_item i r; item-->i = r; moved->i = 1; new_line; ];`, where `moved` has bytes
+
+abbrev pub move_item : RoutineTree
+move_item = routine (codes "move_item") (codes "i" ∷ codes "r" ∷ [])
+    (t.Assign (t.SetEntry (codes "item") true (name (codes "i")) (name (codes "r")))
+    ∷ t.Assign (t.SetEntry (codes "moved") false (name (codes "i")) (v.Number 1))
+    ∷ t.NewLine ∷ [])
+
+-- The item has the place and is marked, and a new line is said.
+abbrev pub ItemIsMoved : Type 0
+ItemIsMoved = (p : Program) (d : ℕ) (w : Stage) (items marks : List ℤ) (i r : ℕ)
+    → Has p move_item → w.arrays (codes "item") ≡ Some items
+    → w.arrays (codes "moved") ≡ Some marks → i < length items → i < length marks
+    → Does p (suc d) (codes "move_item") (pos i ∷ pos r ∷ []) w (pos 1) (said (10 ∷ [])
+    (with_array (codes "moved") (set marks i (pos 1))
+    (with_array (codes "item") (set items i (pos r)) w))) 3
 
 -- ---- `[ say_place n; switch (n) { 0: print "nowhere"; 1 to 9: print "room ", n;
 -- default: print "held"; } ];`
@@ -238,7 +255,7 @@ LeapYearsAreKnown = (p : Program) (d : ℕ) (w : Stage) (y : ℕ) → Has p is_l
 
 abbrev pub throw : Statements
 throw = statements
-    (set (codes "t") (v.Sum (name (codes "t")) (v.terms ((Add, v.Random (v.Number 6)) ∷ [])))
+    (assign (codes "t") (v.Sum (name (codes "t")) (v.terms ((Add, v.Random (v.Number 6)) ∷ [])))
     ∷ t.Assign (t.Dec (codes "n")) ∷ [])
 
 abbrev pub all_thrown : c.Condition

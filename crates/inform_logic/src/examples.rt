@@ -1,5 +1,5 @@
 //! Worked routines, each proved by the rules. Each is the contract of a function that does nothing.
-ghost use Rattle.inform_logic.specs.Worked.{CarriedIsCounted, GlobalsAreSwapped, PlaceIsSaid, NumbersAreSaid, FirstClearIsFound, LeapYearsAreKnown, DiceAreAdded, SharesAreGiven, NoShareTraps, LineIsTaken, LineIsAwaited, LineIsNoted};
+ghost use Rattle.inform_logic.specs.Worked.{CarriedIsCounted, GlobalsAreSwapped, ItemIsMoved, PlaceIsSaid, NumbersAreSaid, FirstClearIsFound, LeapYearsAreKnown, DiceAreAdded, SharesAreGiven, NoShareTraps, LineIsTaken, LineIsAwaited, LineIsNoted};
 ghost use Rattle.inform_logic.specs.WorkedRuns.{RunIsOver, RunWaits};
 
 /// Items are counted by a loop over their places.
@@ -10,6 +10,11 @@ pub fn carried_is_counted()
 /// Two globals are swapped by a routine that is called with an argument.
 pub fn globals_are_swapped()
     ensures { GlobalsAreSwapped }
+{}
+
+/// Entries of words and of bytes are set.
+pub fn item_is_moved()
+    ensures { ItemIsMoved }
 {}
 
 /// A `switch` says where a place is.
