@@ -1,0 +1,51 @@
+-- The laws of views, names and rounds, and of the stage with which a translated game opens.
+use Rattle.std.specs.Prelude.{◌≡◌, ℕ, ◌<◌, ◌^◌, ℤ, List, [], ◌++◌, codes, Some, None}
+use Rattle.inform_tree.specs.declared.widths.Width.{Width}
+use Rattle.inform_tree.specs.declared.widths.Width.TheVariants.{W32}
+use Rattle.inform_tree.specs.Programs.{DirectiveTree}
+use Rattle.inform_logic.specs.Stages.{Stage, with_global}
+use Rattle.inform_logic.specs.Holding.{opening_stage, Distinct}
+use Rattle.scott_types.specs.declared.states.State.{State}
+use Rattle.scott_types.specs.declared.endings.Position.{Position}
+use Rattle.scott_types.specs.Database.{Database}
+use Rattle.scott_types.specs.Limits.{KeepsLimits}
+use Rattle.scott_types.specs.State.{Fits}
+use Rattle.scott_types.specs.Style.{Game}
+use Rattle.scott_rules.specs.Play.{go}
+use Rattle.trans_rows.specs.Wide.{wide_at}
+use Rattle.trans_rows.specs.Names.{line_name, line_number}
+use Rattle.trans_rows.specs.Views.{Shows}
+use Rattle.trans_rows.specs.Standing.{StandsFor}
+use Rattle.trans_rows.specs.Directives.{data_directives}
+use Rattle.trans_rows.specs.Rounds.{round, then_rounds}
+
+-- A stage shows one state at most.
+abbrev pub OneStateAStage : Type 0
+OneStateAStage = (s t : State) (w : Stage) → Shows s w → Shows t w → s ≡ t
+
+-- A global that shows no state may be written, and the stage shows what it showed.
+abbrev pub OverShowsNothing : Type 0
+OverShowsNothing = (s : State) (w : Stage) (z : ℤ) → Shows s w
+    → Shows s (with_global (codes "over") z w)
+
+-- The number of a line is read from the name of its routine.
+abbrev pub LinesAreNumbered : Type 0
+LinesAreNumbered = (k : ℕ) → k < 2 ^ 64 → line_number (line_name k) ≡ Some k
+
+-- A play is one round, and then the others.
+abbrev pub PlaysAreRounds : Type 0
+PlaysAreRounds = (game : Game) (position : Position) (s : State) (lines : List (List ℕ))
+    (draws : List ℕ)
+    → go game position s lines draws ≡ then_rounds game (round game position s lines draws)
+
+-- No number of a database is too wide for words of 32 bits.
+abbrev pub NoneWideAt32 : Type 0
+NoneWideAt32 = (db : Database) → KeepsLimits db → wide_at W32 db ≡ None
+
+-- A program that begins with these directives opens with a stage that stands for the state and the
+-- empty noun text, where no number is too wide.
+abbrev pub OpeningStands : Type 0
+OpeningStands = (width : Width) (db : Database) (s : State) (others : List DirectiveTree)
+    (lines : List (List ℕ)) (draws : List ℕ) → KeepsLimits db → Fits db s
+    → wide_at width db ≡ None → Distinct (data_directives db s ++ others)
+    → StandsFor db s [] (opening_stage width (data_directives db s ++ others) lines draws)

@@ -1,0 +1,22 @@
+//! The laws of views, names and rounds. Each is the contract of a function that does nothing else.
+ghost use Rattle.trans_rows.specs.Laws.{OneStateAStage, OverShowsNothing, LinesAreNumbered, PlaysAreRounds};
+
+/// A stage shows one state at most.
+pub fn one_state_a_stage()
+    ensures { OneStateAStage }
+{}
+
+/// What is written to a global that shows no state leaves the state that is shown.
+pub fn over_shows_nothing()
+    ensures { OverShowsNothing }
+{}
+
+/// The number of a line is read from the name of its routine.
+pub fn lines_are_numbered()
+    ensures { LinesAreNumbered }
+{}
+
+/// A play is one round, and then the others.
+pub fn plays_are_rounds()
+    ensures { PlaysAreRounds }
+{}
