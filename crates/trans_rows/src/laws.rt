@@ -1,6 +1,8 @@
 //! The laws of views, names and rounds. Each is the contract of a function that does nothing else.
 ghost use Rattle.trans_rows.specs.Laws.{OneStateAStage, OverShowsNothing, LinesAreNumbered, PlaysAreRounds};
 
+use scott_rules::laws::play_stops;
+
 /// A stage shows one state at most.
 pub fn one_state_a_stage()
     ensures { OneStateAStage }
@@ -19,4 +21,6 @@ pub fn lines_are_numbered()
 /// A play is one round, and then the others.
 pub fn plays_are_rounds()
     ensures { PlaysAreRounds }
-{}
+{
+    play_stops();
+}
