@@ -52,41 +52,41 @@ one_state s t w h k = λ i. record {
   places = record { items = places i };
   redraw = redraw i;
 } where
-    room : s.room ≡ t.room
-    room = ap number (sym h.room_is ∙ k.room_is)
+  room : s.room ≡ t.room
+  room = ap number (sym h.room_is ∙ k.room_is)
 
-    saved : s.saved ≡ t.saved
-    saved = ap number (sym h.saved_is ∙ k.saved_is)
+  saved : s.saved ≡ t.saved
+  saved = ap number (sym h.saved_is ∙ k.saved_is)
 
-    rooms : s.rooms ≡ t.rooms
-    rooms = sym (back s.rooms)
-        ∙ ap (λ o. map unsigned_abs (unwrap_or o [])) (sym h.rooms_are ∙ k.rooms_are)
-        ∙ back t.rooms
+  rooms : s.rooms ≡ t.rooms
+  rooms = sym (back s.rooms)
+      ∙ ap (λ o. map unsigned_abs (unwrap_or o [])) (sym h.rooms_are ∙ k.rooms_are)
+      ∙ back t.rooms
 
-    counter : s.counter ≡ t.counter
-    counter = ap (λ o. unwrap_or o (pos 0)) (sym h.counter_is ∙ k.counter_is)
+  counter : s.counter ≡ t.counter
+  counter = ap (λ o. unwrap_or o (pos 0)) (sym h.counter_is ∙ k.counter_is)
 
-    counters : s.counters ≡ t.counters
-    counters = ap (λ o. unwrap_or o []) (sym h.counters_are ∙ k.counters_are)
+  counters : s.counters ≡ t.counters
+  counters = ap (λ o. unwrap_or o []) (sym h.counters_are ∙ k.counters_are)
 
-    flags : s.flags ≡ t.flags
-    flags = sym (truths_back s.flags)
-        ∙ ap (λ o. map (λ z. truth (unsigned_abs z)) (unwrap_or o []))
-        (sym h.flags_are ∙ k.flags_are)
-        ∙ truths_back t.flags
+  flags : s.flags ≡ t.flags
+  flags = sym (truths_back s.flags)
+      ∙ ap (λ o. map (λ z. truth (unsigned_abs z)) (unwrap_or o []))
+      (sym h.flags_are ∙ k.flags_are)
+      ∙ truths_back t.flags
 
-    light : s.light ≡ t.light
-    light = ap (λ o. unwrap_or o (pos 0)) (sym h.light_is ∙ k.light_is)
+  light : s.light ≡ t.light
+  light = ap (λ o. unwrap_or o (pos 0)) (sym h.light_is ∙ k.light_is)
 
-    places : s.places.items ≡ t.places.items
-    places = sym (without_guard s.places.items h.guard)
-        ∙ ap (λ o. unguarded (unwrap_or o [])) (sym h.places_are ∙ k.places_are)
-        ∙ without_guard t.places.items k.guard
+  places : s.places.items ≡ t.places.items
+  places = sym (without_guard s.places.items h.guard)
+      ∙ ap (λ o. unguarded (unwrap_or o [])) (sym h.places_are ∙ k.places_are)
+      ∙ without_guard t.places.items k.guard
 
-    redraw : s.redraw ≡ t.redraw
-    redraw = sym (truth_of_bit s.redraw)
-        ∙ ap (λ o. truth (number o)) (sym h.mark_is ∙ k.mark_is)
-        ∙ truth_of_bit t.redraw
+  redraw : s.redraw ≡ t.redraw
+  redraw = sym (truth_of_bit s.redraw)
+      ∙ ap (λ o. truth (number o)) (sym h.mark_is ∙ k.mark_is)
+      ∙ truth_of_bit t.redraw
 
 pub one_state_a_stage : OneStateAStage
 one_state_a_stage = one_state
