@@ -1,6 +1,7 @@
 //! The laws of views, names and rounds. Each is the contract of a function that does nothing else.
-ghost use Rattle.trans_rows.specs.Laws.{OneStateAStage, OverShowsNothing, LinesAreNumbered, PlaysAreRounds};
+ghost use Rattle.trans_rows.specs.Laws.{OneStateAStage, OverShowsNothing, LinesAreNumbered, PlaysAreRounds, OpeningStands};
 
+use inform_logic::laws::opening_opens;
 use scott_rules::laws::play_stops;
 
 /// A stage shows one state at most.
@@ -23,4 +24,12 @@ pub fn plays_are_rounds()
     ensures { PlaysAreRounds }
 {
     play_stops();
+}
+
+/// A program that begins with the directives of a database and a state opens with a stage that
+/// stands for the state, where no number is too wide.
+pub fn opening_stands()
+    ensures { OpeningStands }
+{
+    opening_opens();
 }
