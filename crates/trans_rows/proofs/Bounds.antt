@@ -87,11 +87,11 @@ module _ (m : ℕ) (some : 2 ≤ m) where
       → or_zero (position_from t i xs) < m
   below_position t i [] fits = omega (arith, some)
   below_position t i (x ∷ xs) fits = from (t x) (below_position t (i + 1) xs (omega (arith, fits)))
-      where
-        from : (b : Bool) → or_zero (position_from t (i + 1) xs) < m
-            → or_zero (if b then Some i else position_from t (i + 1) xs) < m
-        from true more = omega (arith, fits)
-        from false more = more
+    where
+      from : (b : Bool) → or_zero (position_from t (i + 1) xs) < m
+          → or_zero (if b then Some i else position_from t (i + 1) xs) < m
+      from true more = omega (arith, fits)
+      from false more = more
 
   pub below_entry : (size : ℕ) (word : List ℕ) (base : Option ℕ) (k : ℕ)
       (entries : List (List ℕ)) → k + length entries ≤ m → or_zero base < m

@@ -39,15 +39,22 @@ there_exits db (room ∷ rooms) h all = there_first (exits_of_room db room)
     (flat_map (exits_of_room db) rooms)
     (there_map (room_beyond (length db.rooms)) room.exits (omega (arith, six))) where
       six : length room.exits ≡ 6
-      six = grind (arith, (and_parts (length room.exits == 6)
-          (list_all is_number room.exits && is_file_text room.text)
-          (and_parts (is_room room) (list_all is_room rooms) all).0).0)
+      six = grind (
+        arith,
+        (and_parts (length room.exits == 6)
+            (list_all is_number room.exits && is_file_text room.text)
+            (and_parts (is_room room) (list_all is_room rooms) all).0).0,
+      )
 
 there_letters : (size : ℕ) (word : List ℕ) → 1 ≤ size → IsThere (printed_letters size word)
 there_letters size word h = from (list_all is_ascii_graphic word) where
   from : (b : Bool) → IsThere (if b then filled_up size word else replicate size 0)
-  from true = omega (arith, h, length-append word (replicate (size - length word) 0),
-      length-replicate {A = ℕ} (size - length word) 0)
+  from true = omega (
+    arith,
+    h,
+    length-append word (replicate (size - length word) 0),
+    length-replicate {A = ℕ} (size - length word) 0,
+  )
   from false = omega (arith, h, length-replicate {A = ℕ} size 0)
 
 pub there_words : (size : ℕ) (entries : List (List ℕ)) → 1 ≤ size → IsThere entries

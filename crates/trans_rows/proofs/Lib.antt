@@ -5,3 +5,5 @@ pub mod Bounds
 pub mod Written
 pub mod Lengths
 pub mod Opening
+pub mod Wide
+pub mod Distinct

@@ -88,8 +88,11 @@ below_places : (items : List Item) → list_all is_item items ≡ true
     → Below 32768 (map place_of_item items)
 below_places [] h = tt
 below_places (item ∷ items) h = (
-  grind (arith, (and_parts (is_file_text item.text) (nat_le item.place 255)
-      (and_parts (is_item item) (list_all is_item items) h).0).1),
+  grind (
+    arith,
+    (and_parts (is_file_text item.text) (nat_le item.place 255)
+        (and_parts (is_item item) (list_all is_item items) h).0).1,
+  ),
   below_places items (and_parts (is_item item) (list_all is_item items) h).1,
 )
 
@@ -107,8 +110,11 @@ module _ (db : Database) (limits : KeepsLimits db) where
   items_there = there 255 db.items limits.sizes.items
 
   words_few : (column : Column) → length (entries_of db column) ≤ 1000
-  words_few column = omega (arith, few 1000 db.words limits.sizes.words,
-      length-map db.words (column_of column))
+  words_few column = omega (
+    arith,
+    few 1000 db.words limits.sizes.words,
+    length-map db.words (column_of column),
+  )
 
   words_there : (column : Column) → IsThere (entries_of db column)
   words_there column = there_map (column_of column) db.words (there 1000 db.words limits.sizes.words)
@@ -119,8 +125,12 @@ module _ (db : Database) (limits : KeepsLimits db) where
       (λ z. below_beyond (length db.rooms) z rooms_few) room.exits) db.rooms)
 
   rest_few : (column : Column) → 1 + length (drop 1 (entries_of db column)) ≤ 32768
-  rest_few column = omega (arith, words_few column, words_there column,
-      length-drop 1 (entries_of db column))
+  rest_few column = omega (
+    arith,
+    words_few column,
+    words_there column,
+    length-drop 1 (entries_of db column),
+  )
 
   below_class : (word : List ℕ) → class_of db word < 32768
   below_class word = below_position 32768 small

@@ -42,6 +42,10 @@ PlaysAreRounds = (game : Game) (position : Position) (s : State) (lines : List (
 abbrev pub NoneWideAt32 : Type 0
 NoneWideAt32 = (db : Database) → KeepsLimits db → wide_at W32 db ≡ None
 
+-- No two of the directives of the globals and arrays have one name.
+abbrev pub DataDistinct : Type 0
+DataDistinct = (db : Database) (s : State) → Distinct (data_directives db s)
+
 -- A program that begins with these directives opens with a stage that stands for the state and the
 -- empty noun text, where no number is too wide.
 abbrev pub OpeningStands : Type 0

@@ -13,6 +13,7 @@ pub mod ActionRows
 pub mod Rounds
 pub mod Same
 pub mod TurnRows
+pub mod Owed
 pub mod Lines
 pub mod Shaped
 pub mod Faithful

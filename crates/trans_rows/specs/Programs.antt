@@ -1,20 +1,18 @@
 -- The programs of which the rows speak.
-use Rattle.std.specs.Prelude.{◌≡◌, ℕ, false, List, Some, None}
+use Rattle.std.specs.Prelude.{◌≡◌, ℕ, false, List, Some}
 use Rattle.std.specs.List.{AllByRecursion}
+use Rattle.inform_tree.specs.declared.widths.Width.{Width}
 use Rattle.inform_tree.specs.Programs.{DirectiveTree}
 use Rattle.inform_meaning.specs.Tables.{same_name}
 use Rattle.inform_meaning.specs.Worlds.{Routine, Program}
 use Rattle.inform_logic.specs.Holding.{Holds}
-use Rattle.scott_types.specs.Database.{Database}
 use Rattle.trans_rows.specs.Names.{line_number}
-use Rattle.trans_rows.specs.Wide.{wide_at}
 
--- A program has these directives among others, and notes its lines alone. No number of the database
--- is too wide for its words.
-pub record Serves (db : Database) (ds : List DirectiveTree) (p : Program) : Type 0 where
+-- A program has words of this width and these directives among others, and notes its lines alone.
+pub record Serves (width : Width) (ds : List DirectiveTree) (p : Program) : Type 0 where
+  pub width_is : p.width ≡ width
   pub holds : Holds p ds
   pub notes_lines : (name : List ℕ) (at : ℕ) → p.notes name at ≡ line_number name
-  pub none_wide : wide_at p.width db ≡ None
 
 -- a program has a routine of this name
 abbrev pub HasRoutine : Program → List ℕ → Type 0

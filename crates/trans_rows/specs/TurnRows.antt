@@ -4,10 +4,10 @@ use Rattle.std.specs.List.{AllByRecursion}
 use Rattle.adv_io.specs.Steps.{Step, Traced}
 use Rattle.adv_io.specs.TypedLine.{IsTyped}
 use Rattle.adv_draws.specs.Run.{AllDraws}
-use Rattle.inform_tree.specs.Statements.{Statements}
-use Rattle.inform_meaning.specs.Worlds.{Program, Scope}
+use Rattle.inform_meaning.specs.Worlds.{Program}
 use Rattle.inform_meaning.specs.Frames.{NeedsLine, NeedsDraw}
 use Rattle.inform_meaning.specs.Runs.{CALL_LIMIT, Stop}
+use Rattle.inform_meaning.specs.Programs.{body_of, main_scope}
 use Rattle.inform_logic.specs.Stages.{Stage}
 use Rattle.inform_logic.specs.Leading.{Does, TheBlock}
 use Rattle.inform_logic.specs.Stopping.{Stops}
@@ -80,18 +80,19 @@ RoundRow game p name values position = (s : State) (noun : List ℕ) (w : Stage)
 
 -- ---- all rounds
 
--- the body of `main` does what a play does from this position on
-pub record PlaysOut (game : Game) (p : Program) (body : Statements) (scope : Scope) (w : Stage)
-    (t : Traced Step PlayEnd) : Type 0 where
-  pub stop : Stop
-  pub after : Stage
-  pub stops : Stops p CALL_LIMIT (TheBlock body) scope w stop after
-      (enough game.db (length w.lines))
-  pub shows : Shows t.value.state after
-  pub past_is : after.past ≡ w.past ++ t.events
-  pub ends : EndsAlike t.value.position stop (after.globals (codes "over"))
+-- the body of `main`, with which the run begins, stops as this play does
+pub record PlaysOut (game : Game) (p : Program) (w : Stage) (t : Traced Step PlayEnd) : Type 0
+  where
+    pub stop : Stop
+    pub after : Stage
+    pub stops : Stops p CALL_LIMIT (TheBlock (body_of (p.routines (codes "main"))))
+        (main_scope (p.routines (codes "main"))) w stop after (enough game.db (length w.lines))
+    pub shows : Shows t.value.state after
+    pub past_is : after.past ≡ w.past ++ t.events
+    pub ends : EndsAlike t.value.position stop (after.globals (codes "over"))
 
-abbrev pub MainRow : Game → Program → Statements → Scope → Position → Type 0
-MainRow game p body scope position = (s : State) (noun : List ℕ) (w : Stage) → FairStage w
+-- it does the rounds of a play from this position on, and nothing else
+abbrev pub MainRow : Game → Program → Position → Type 0
+MainRow game p position = (s : State) (noun : List ℕ) (w : Stage) → FairStage w
     → StandsFor game.db s noun w → w.globals (codes "over") ≡ Some (pos 0)
-    → PlaysOut game p body scope w (go game position s w.lines w.draws)
+    → PlaysOut game p w (go game position s w.lines w.draws)

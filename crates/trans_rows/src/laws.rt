@@ -1,5 +1,5 @@
 //! The laws of views, names and rounds. Each is the contract of a function that does nothing else.
-ghost use Rattle.trans_rows.specs.Laws.{OneStateAStage, OverShowsNothing, LinesAreNumbered, PlaysAreRounds, OpeningStands};
+ghost use Rattle.trans_rows.specs.Laws.{OneStateAStage, OverShowsNothing, LinesAreNumbered, PlaysAreRounds, NoneWideAt32, DataDistinct, OpeningStands};
 
 use inform_logic::laws::opening_opens;
 use scott_rules::laws::play_stops;
@@ -25,6 +25,16 @@ pub fn plays_are_rounds()
 {
     play_stops();
 }
+
+/// No number of a database is too wide for words of 32 bits.
+pub fn none_wide_at_32()
+    ensures { NoneWideAt32 }
+{}
+
+/// No two of the directives of the globals and arrays have one name.
+pub fn data_distinct()
+    ensures { DataDistinct }
+{}
 
 /// A program that begins with the directives of a database and a state opens with a stage that
 /// stands for the state, where no number is too wide.
