@@ -7,3 +7,4 @@ pub mod Lengths
 pub mod Opening
 pub mod Wide
 pub mod Distinct
+pub mod Classes

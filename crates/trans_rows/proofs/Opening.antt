@@ -27,7 +27,7 @@ use Rattle.scott_types.specs.ItemText.{is_treasure}
 use Rattle.scott_rules.specs.Words.{is_empty, is_typed, column_of, entries_of, which}
 use Rattle.trans_rows.specs.Tables.{bit, or_zero, guarded, start_places, exits_of_room, exits, entry_letters, word_letters, bases, word_bases, is_class, class_of, class_of_noun, classes, noun_classes, item_word, item_classes, item_nouns, items_with_words, treasures, buffer_length}
 use Rattle.trans_rows.specs.declared.places.Place.TheVariants.{Carry, Treasures, Light, Home}
-use Rattle.trans_rows.specs.Wide.{Placed, is_word, actions_numbers, is_wide, wide_at}
+use Rattle.trans_rows.specs.Wide.{Placed, is_word_of, placed_actions, is_too_wide, wide_at}
 use Rattle.trans_rows.specs.Directives.{written, data_directives}
 use Rattle.trans_rows.specs.Views.{naturals, Shows}
 use Rattle.trans_rows.specs.Standing.{HasTables, CanWork, HasNoun, Ready, StandsFor}
@@ -56,16 +56,16 @@ none_third test x y z xs h = (none_first test z xs
     (none_first test y (z ∷ xs) (none_first test x (y ∷ z ∷ xs) h).1).1).0
 
 less_light : (width : Width) (light most : ℤ) → negsuc 0 ≤ℤ light
-    → light ≤ℤ most → is_word width most ≡ true → is_word width light ≡ true
+    → light ≤ℤ most → is_word_of width most ≡ true → is_word_of width light ≡ true
 less_light W16 light most low high word = grind (arith, ints)
 less_light W32 light most low high word = grind (arith, ints)
 
-counter_word : (width : Width) (z : ℤ) → is_counter z ≡ true → is_word width z ≡ true
+counter_word : (width : Width) (z : ℤ) → is_counter z ≡ true → is_word_of width z ≡ true
 counter_word W16 z h = grind (arith, ints)
 counter_word W32 z h = grind (arith, ints)
 
 counter_words : (width : Width) (zs : List ℤ) → list_all is_counter zs ≡ true
-    → AllByRecursion (λ z. is_word width z ≡ true) zs
+    → AllByRecursion (λ z. is_word_of width z ≡ true) zs
 counter_words width [] h = tt
 counter_words width (z ∷ zs) h = (
   counter_word width z (and_parts (is_counter z) (list_all is_counter zs) h).0,
@@ -189,7 +189,7 @@ module _ (db : Database) (limits : KeepsLimits db) where
         (long_guarded (map f db.items) (there_map f db.items items_there))
         (below_guarded 32768 small (map f db.items) (below_map 32768 small f below db.items)) h
 
-    global_is : {o : Option ℤ} (z : ℤ) → is_word width z ≡ true
+    global_is : {o : Option ℤ} (z : ℤ) → is_word_of width z ≡ true
         → o ≡ Some (unwrap_or (constant_word width known (written z)) (pos 0)) → o ≡ Some z
     global_is z word h =
         h ∙ ap (λ o. Some (unwrap_or o (pos 0))) (word_written known width z word)
@@ -205,11 +205,11 @@ module _ (db : Database) (limits : KeepsLimits db) where
     module _ (s : State) (fits : Fits db s) (none : wide_at width db ≡ None)
         (others : List DirectiveTree) (w : Stage)
         (opens : Opens width known w (data_directives db s ++ others)) where
-      light_word : is_word width s.light ≡ true
+      light_word : is_word_of width s.light ≡ true
       light_word = less_light width s.light db.header.light fits.light.0 fits.light.1
-          (word_or_wide (is_word width db.header.light) (none_third (is_wide width)
+          (word_or_wide (is_word_of width db.header.light) (none_third (is_too_wide width)
           (Carry, db.header.carry) (Treasures, db.header.treasures) (Light, db.header.light)
-          ((Home, db.header.home) ∷ actions_numbers 0 db.actions) none))
+          ((Home, db.header.home) ∷ placed_actions 0 db.actions) none))
 
       flag_bits : (flags : List Bool) → Below 32768 (map bit flags)
       flag_bits flags = below_map 32768 small bit (below_bit 32768 small) flags

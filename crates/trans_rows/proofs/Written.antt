@@ -11,7 +11,7 @@ use Rattle.inform_names.specs.Meanings.{Known, constant_word}
 use Rattle.inform_meaning.specs.Words.{low_byte}
 use Rattle.inform_meaning.specs.Worlds.{kept}
 use Rattle.inform_meaning.specs.Programs.{entries_in}
-use Rattle.trans_rows.specs.Wide.{is_word}
+use Rattle.trans_rows.specs.Wide.{is_word_of}
 use Rattle.trans_rows.specs.Directives.{written}
 use Rattle.trans_rows.specs.Views.{naturals}
 use Rattle.trans_rows.proofs.Bounds.{Below}
@@ -43,20 +43,20 @@ signed_negative count n h = ap (λ (k : ℕ). signed count ((count - k) % count)
       below = omega (arith, ints, h)
 
 -- what a word of a width is
-small_16 : (n : ℕ) → is_word W16 (pos n) ≡ true → n < 32768
+small_16 : (n : ℕ) → is_word_of W16 (pos n) ≡ true → n < 32768
 small_16 n h = grind (arith, ints)
 
-small_32 : (n : ℕ) → is_word W32 (pos n) ≡ true → n < 2147483648
+small_32 : (n : ℕ) → is_word_of W32 (pos n) ≡ true → n < 2147483648
 small_32 n h = grind (arith, ints)
 
-low_16 : (n : ℕ) → is_word W16 (negsuc n) ≡ true → n < 32768
+low_16 : (n : ℕ) → is_word_of W16 (negsuc n) ≡ true → n < 32768
 low_16 n h = grind (arith, ints)
 
-low_32 : (n : ℕ) → is_word W32 (negsuc n) ≡ true → n < 2147483648
+low_32 : (n : ℕ) → is_word_of W32 (negsuc n) ≡ true → n < 2147483648
 low_32 n h = grind (arith, ints)
 
 module _ (known : Known) where
-  pub word_written : (width : Width) (z : ℤ) → is_word width z ≡ true
+  pub word_written : (width : Width) (z : ℤ) → is_word_of width z ≡ true
       → constant_word width known (written z) ≡ Some z
   word_written W16 (pos n) h = ap Some (signed_small 65536 n (omega (arith, small_16 n h)))
   word_written W32 (pos n) h = ap Some (signed_small 4294967296 n (omega (arith, small_32 n h)))
@@ -90,7 +90,7 @@ module _ (known : Known) (width : Width) where
       (small_written known width x (omega (arith, h.0))) ∙ ap pos (mod-eq_of_lt h.0))
       (bytes_written xs h.1)
 
-  pub integers_written : (zs : List ℤ) → AllByRecursion (λ z. is_word width z ≡ true) zs
+  pub integers_written : (zs : List ℤ) → AllByRecursion (λ z. is_word_of width z ≡ true) zs
       → map (λ x. kept true (value x)) (map written zs) ≡ zs
   integers_written [] h = refl
   integers_written (z ∷ zs) h =

@@ -14,14 +14,14 @@ use Rattle.trans_rows.specs.Standing.{StandsFor}
 use Rattle.trans_rows.specs.Programs.{IsOther}
 
 -- it says these bytes and returns, and nothing else happens
-pub record Says (p : Program) (d : ℕ) (name : List ℕ) (values : List ℤ) (w : Stage)
+pub record CallSays (p : Program) (d : ℕ) (name : List ℕ) (values : List ℤ) (w : Stage)
     (bytes : List ℕ) (most : ℕ) : Type 0 where
   pub value : ℤ
   pub does : Does p d name values w value (said bytes w) most
 
 -- A stage stands for this state and noun text, these steps were done before it, and what shows no
 -- state is as it was.
-pub record Leaves (db : Database) (s : State) (noun : List ℕ) (steps : List Step) (w w' : Stage)
+pub record StageLeft (db : Database) (s : State) (noun : List ℕ) (steps : List Step) (w w' : Stage)
     : Type 0 where
   pub stands : StandsFor db s noun w'
   pub past_is : w'.past ≡ w.past ++ steps
@@ -32,14 +32,14 @@ pub record Leaves (db : Database) (s : State) (noun : List ℕ) (steps : List St
   pub arrays_stay : (name : List ℕ) → IsOther name shown_arrays → w'.arrays name ≡ w.arrays name
 
 -- it returns this value, and leaves this state and noun text
-pub record Gives (p : Program) (d : ℕ) (name : List ℕ) (values : List ℤ) (w : Stage) (v : ℤ)
+pub record CallLeaves (p : Program) (d : ℕ) (name : List ℕ) (values : List ℤ) (w : Stage) (v : ℤ)
     (db : Database) (s : State) (noun : List ℕ) (steps : List Step) (most : ℕ) : Type 0 where
   pub after : Stage
   pub does : Does p d name values w v after most
-  pub leaves : Leaves db s noun steps w after
+  pub leaves : StageLeft db s noun steps w after
 
 -- the game ends: the run is over, the stage shows this state, and `over` is the ending
-pub record EndsGame (p : Program) (d : ℕ) (name : List ℕ) (values : List ℤ) (w : Stage) (s : State)
+pub record CallEndsGame (p : Program) (d : ℕ) (name : List ℕ) (values : List ℤ) (w : Stage) (s : State)
     (steps : List Step) (ending : ℕ) (most : ℕ) : Type 0 where
   pub after : Stage
   pub stops : CallStops p d name values w (Halted Quits) after most
@@ -48,7 +48,7 @@ pub record EndsGame (p : Program) (d : ℕ) (name : List ℕ) (values : List ℤ
   pub over_is : after.globals (codes "over") ≡ Some (pos ending)
 
 -- the run waits, the stage shows this state, and `over` is as it was
-pub record Awaits (p : Program) (d : ℕ) (name : List ℕ) (values : List ℤ) (w : Stage) (lack : Lack)
+pub record CallWaits (p : Program) (d : ℕ) (name : List ℕ) (values : List ℤ) (w : Stage) (lack : Lack)
     (s : State) (steps : List Step) (most : ℕ) : Type 0 where
   pub after : Stage
   pub stops : CallStops p d name values w (Lacking lack) after most

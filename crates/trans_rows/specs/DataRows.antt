@@ -15,16 +15,16 @@ use Rattle.trans_rows.specs.Standing.{StandsFor}
 use Rattle.trans_rows.specs.Steps.{text_steps}
 use Rattle.trans_rows.specs.Names.{message_name}
 use Rattle.trans_rows.specs.Programs.{HasRoutine}
-use Rattle.trans_rows.specs.Calls.{Says, Gives}
+use Rattle.trans_rows.specs.Calls.{CallSays, CallLeaves}
 
 -- so many calls may be opened where at most 100 of 200 are open
-abbrev pub text_calls : ℕ
-text_calls = 100
+abbrev pub text_room : ℕ
+text_room = 100
 
 -- a routine without arguments says what the rules say of the state, and returns
 abbrev pub SaysOf : Game → Program → List ℕ → (State → List ℕ) → Type 0
-SaysOf game p name text = (s : State) (noun : List ℕ) (w : Stage) (d : ℕ) → text_calls ≤ d
-    → StandsFor game.db s noun w → Says p d name [] w (text s) (text_steps game.db)
+SaysOf game p name text = (s : State) (noun : List ℕ) (w : Stage) (d : ℕ) → text_room ≤ d
+    → StandsFor game.db s noun w → CallSays p d name [] w (text s) (text_steps game.db)
 
 -- each message that is there, where the program has its routine
 abbrev pub MessageRow : Game → Program → Type 0
@@ -39,7 +39,7 @@ InventoryRow game p name = SaysOf game p name (inventory game)
 
 -- the score gives 1 where all treasures are stored, and else 0
 abbrev pub ScoreRow : Game → Program → List ℕ → Type 0
-ScoreRow game p name = (s : State) (noun : List ℕ) (w : Stage) (d : ℕ) → text_calls ≤ d
+ScoreRow game p name = (s : State) (noun : List ℕ) (w : Stage) (d : ℕ) → text_room ≤ d
     → StandsFor game.db s noun w
     → Does p d name [] w (pos (bit (all_stored game.db s))) (said (scored game s) w)
     (text_steps game.db)
@@ -48,11 +48,11 @@ ScoreRow game p name = (s : State) (noun : List ℕ) (w : Stage) (d : ℕ) → t
 pub record LightCounted (game : Game) (p : Program) (name : List ℕ) (s : State) (noun : List ℕ)
     (w : Stage) (d : ℕ) : Type 0 where
   pub value : ℤ
-  pub gives : Gives p d name [] w value game.db (light_counted game.style s).value noun
+  pub gives : CallLeaves p d name [] w value game.db (light_counted game.style s).value noun
       (said_steps (light_counted game.style s).events) (text_steps game.db)
 
 abbrev pub LightRow : Game → Program → List ℕ → Type 0
-LightRow game p name = (s : State) (noun : List ℕ) (w : Stage) (d : ℕ) → text_calls ≤ d
+LightRow game p name = (s : State) (noun : List ℕ) (w : Stage) (d : ℕ) → text_room ≤ d
     → StandsFor game.db s noun w → LightCounted game p name s noun w d
 
 -- all of them, by the names of the four routines

@@ -1,5 +1,5 @@
 -- The laws of views, names and rounds, and of the stage with which a translated game opens.
-use Rattle.std.specs.Prelude.{◌≡◌, ℕ, ◌<◌, ◌^◌, ℤ, List, [], ◌++◌, codes, Some, None}
+use Rattle.std.specs.Prelude.{◌≡◌, ◌↔◌, ℕ, ◌<◌, ◌≤◌, ◌^◌, ℤ, IsTrue, List, [], ◌++◌, length, codes, Some, None}
 use Rattle.inform_tree.specs.declared.widths.Width.{Width}
 use Rattle.inform_tree.specs.declared.widths.Width.TheVariants.{W32}
 use Rattle.inform_tree.specs.Programs.{DirectiveTree}
@@ -7,11 +7,14 @@ use Rattle.inform_logic.specs.Stages.{Stage, with_global}
 use Rattle.inform_logic.specs.Holding.{opening_stage, Distinct}
 use Rattle.scott_types.specs.declared.states.State.{State}
 use Rattle.scott_types.specs.declared.endings.Position.{Position}
+use Rattle.scott_types.specs.declared.commands.Column.TheVariants.{Nouns}
 use Rattle.scott_types.specs.Database.{Database}
 use Rattle.scott_types.specs.Limits.{KeepsLimits}
 use Rattle.scott_types.specs.State.{Fits}
 use Rattle.scott_types.specs.Style.{Game}
+use Rattle.scott_rules.specs.Words.{is_typed, entries_of, root}
 use Rattle.scott_rules.specs.Play.{go}
+use Rattle.trans_rows.specs.Tables.{is_class, class_of, class_of_noun}
 use Rattle.trans_rows.specs.Wide.{wide_at}
 use Rattle.trans_rows.specs.Names.{line_name, line_number}
 use Rattle.trans_rows.specs.Views.{Shows}
@@ -41,6 +44,13 @@ PlaysAreRounds = (game : Game) (position : Position) (s : State) (lines : List (
 -- No number of a database is too wide for words of 32 bits.
 abbrev pub NoneWideAt32 : Type 0
 NoneWideAt32 = (db : Database) → KeepsLimits db → wide_at W32 db ≡ None
+
+-- A word and a noun that has a class have one class exactly where the word is typed as the noun is.
+abbrev pub ClassesTell : Type 0
+ClassesTell = (db : Database) (k : ℕ) (word : List ℕ) → KeepsLimits db → 1 ≤ k
+    → k < length (entries_of db Nouns) → IsTrue (is_class (root db k))
+    → (class_of db word ≡ class_of_noun db (root db k))
+    ↔ IsTrue (is_typed db.header.length word (root db k))
 
 -- No two of the directives of the globals and arrays have one name.
 abbrev pub DataDistinct : Type 0

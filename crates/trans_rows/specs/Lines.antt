@@ -19,22 +19,22 @@ use Rattle.trans_rows.specs.Names.{message_name, condition_name, opcode_name, gr
 
 -- ---- calls
 
-abbrev pub numbers : List ℕ → Arguments
-numbers xs = arguments (map v.Number xs)
+abbrev pub number_arguments : List ℕ → Arguments
+number_arguments xs = arguments (map v.Number xs)
 
 -- the value of a routine, and a call that drops it
-abbrev pub value_of : List ℕ → List ℕ → Expression
-value_of name xs = v.Call name (numbers xs)
+abbrev pub call_value : List ℕ → List ℕ → Expression
+call_value name xs = v.Call name (number_arguments xs)
 
-abbrev pub call : List ℕ → List ℕ → Statement
-call name xs = s.Call name (numbers xs)
+abbrev pub call_statement : List ℕ → List ℕ → Statement
+call_statement name xs = s.Call name (number_arguments xs)
 
 -- ---- conditions
 
 -- `if (~~(cond_c(a))) rfalse;`
 abbrev pub condition_test : ℕ → Statement
 condition_test packed =
-    let holds = value_of (condition_name (condition_code packed)) (argument_of packed ∷ []) in
+    let holds = call_value (condition_name (condition_code packed)) (argument_of packed ∷ []) in
     s.If (c.Not (c.Nonzero holds)) (statements (s.Rfalse ∷ [])) s.NoStatements
 
 -- a condition of code 0 gives a parameter, and is no test
@@ -53,11 +53,11 @@ next_parameters (suc n) params = slice_index params 0 ∷ next_parameters n (dro
 
 -- `op_n(p, q);`
 abbrev pub opcode_call : ℕ → List ℕ → Statement
-opcode_call n params = call (opcode_name n) (next_parameters (uses (opcode_of n)) params)
+opcode_call n params = call_statement (opcode_name n) (next_parameters (uses (opcode_of n)) params)
 
 -- nothing for a message that isn't there
 abbrev pub message_call : Database → ℕ → List Statement
-message_call db m = if nat_lt m (length db.messages) then call (message_name m) [] ∷ [] else []
+message_call db m = if nat_lt m (length db.messages) then call_statement (message_name m) [] ∷ [] else []
 
 abbrev pub get_number : ℕ
 get_number = 52
@@ -67,7 +67,7 @@ get_number = 52
 abbrev pub get_statements : List ℕ → List Statement → List Statement → List Statement
 get_statements params [] [] = opcode_call get_number params ∷ []
 get_statements params taken left =
-    let took = value_of (opcode_name get_number) (next_parameters 1 params) in
+    let took = call_value (opcode_name get_number) (next_parameters 1 params) in
     s.If (c.Nonzero took) (statements taken) (statements left) ∷ []
 
 -- the statements of an opcode, and then those of the others with the parameters that are left
@@ -111,17 +111,17 @@ abbrev pub tail_lines : Database → Group → List ℕ
 tail_lines db g = filter (λ k. not (is_zero_action (action_at db k))) g.tail
 
 -- `r = line_k(); if (r == 2) { line_i(); line_j(); } return r;`
-abbrev pub with_tail : ℕ → List ℕ → List Statement
-with_tail head tail =
-    let all_tried = statements (map (λ k. call (line_name k) []) tail) in
-    s.Assign (s.Set (codes "r") (value_of (line_name head) []))
+abbrev pub tail_body : ℕ → List ℕ → List Statement
+tail_body head tail =
+    let all_tried = statements (map (λ k. call_statement (line_name k) []) tail) in
+    s.Assign (s.Set (codes "r") (call_value (line_name head) []))
     ∷ s.If (c.Compare Eq (v.Name (codes "r")) (v.Number 2)) all_tried s.NoStatements
     ∷ s.Return (Some (v.Name (codes "r"))) ∷ []
 
 -- a head that doesn't go on, or has no such lines, is all of its routine
 abbrev pub group_parts : Bool → ℕ → List ℕ → List (List ℕ) × List Statement
-group_parts true head (k ∷ tail) = (codes "r" ∷ [], with_tail head (k ∷ tail))
-group_parts goes_on head tail = ([], s.Return (Some (value_of (line_name head) [])) ∷ [])
+group_parts true head (k ∷ tail) = (codes "r" ∷ [], tail_body head (k ∷ tail))
+group_parts goes_on head tail = ([], s.Return (Some (call_value (line_name head) [])) ∷ [])
 
 abbrev pub group_routine : Database → Group → RoutineTree
 group_routine db g =

@@ -9,7 +9,8 @@ use Rattle.scott_rules.specs.Rounds.{advance}
 use Rattle.scott_rules.specs.Play.{PlayEnd, stopped, with_line, go}
 
 -- after an answer a round is done where the next one begins, and else it goes on
-abbrev pub round_goes_on : Position → Traced Step PlayEnd → Traced Step PlayEnd → Traced Step PlayEnd
+abbrev pub round_goes_on : Position → Traced Step PlayEnd → Traced Step PlayEnd
+    → Traced Step PlayEnd
 round_goes_on Fresh done more = done
 round_goes_on _ done more = more
 

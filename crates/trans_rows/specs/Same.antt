@@ -12,8 +12,8 @@ use Rattle.scott_types.specs.declared.endings.Position.{Position}
 use Rattle.scott_rules.specs.Play.{PlayEnd, ending_of}
 use Rattle.trans_rows.specs.Views.{Shows}
 
--- an ending stands with `quit` and its number in `over`, and a play that waits with a run that waits
--- for the same, and 0 in `over`
+-- an ending stands with `quit` and its number in `over`, and a play that waits with a run that
+-- waits for the same, and 0 in `over`
 abbrev pub EndingIs : Ending → Stop → Option ℤ → Type 0
 EndingIs (Over ending) stop over = (stop ≡ Halted f.Quits) × (over ≡ Some (pos ending))
 EndingIs NeedsLine stop over = (stop ≡ Lacking f.NeedsLine) × (over ≡ Some (pos 0))

@@ -20,7 +20,7 @@ use Rattle.scott_rules.specs.Play.{PlayEnd, go}
 use Rattle.trans_rows.specs.Views.{Shows}
 use Rattle.trans_rows.specs.Standing.{Ready, StandsFor}
 use Rattle.trans_rows.specs.Steps.{round_steps, enough}
-use Rattle.trans_rows.specs.Calls.{EndsGame, Awaits}
+use Rattle.trans_rows.specs.Calls.{CallEndsGame, CallWaits}
 use Rattle.trans_rows.specs.Rounds.{round}
 use Rattle.trans_rows.specs.Same.{EndsAlike}
 
@@ -54,11 +54,11 @@ abbrev pub RoundComesTo : Position → Program → ℕ → List ℕ → List ℤ
     → Traced Step PlayEnd → ℕ → Type 0
 RoundComesTo Fresh p d name values w db t most = RoundDone p d name values w db t most
 RoundComesTo (Draw head) p d name values w db t most =
-    Awaits p d name values w NeedsDraw t.value.state t.events most
+    CallWaits p d name values w NeedsDraw t.value.state t.events most
 RoundComesTo Line p d name values w db t most =
-    Awaits p d name values w NeedsLine t.value.state t.events most
+    CallWaits p d name values w NeedsLine t.value.state t.events most
 RoundComesTo (Over ending) p d name values w db t most =
-    EndsGame p d name values w t.value.state t.events ending most
+    CallEndsGame p d name values w t.value.state t.events ending most
 
 abbrev pub lines_spent : Stage → Traced Step PlayEnd → ℕ
 lines_spent w t = length w.lines - length t.value.lines
@@ -68,20 +68,20 @@ RoundEnds game p d name values w t = RoundComesTo t.value.position p d name valu
     (round_steps game.db (lines_spent w t))
 
 -- so many calls may be opened where at most 60 of 200 are open
-abbrev pub round_calls : ℕ
-round_calls = 140
+abbrev pub round_room : ℕ
+round_room = 140
 
 -- A call with these arguments does a round from this position on: a whole one from where a round
 -- begins, and the rest of one from behind its prompt.
 abbrev pub RoundRow : Game → Program → List ℕ → List ℤ → Position → Type 0
 RoundRow game p name values position = (s : State) (noun : List ℕ) (w : Stage) (d : ℕ)
-    → round_calls ≤ d → FairStage w → StandsFor game.db s noun w
+    → round_room ≤ d → FairStage w → StandsFor game.db s noun w
     → RoundEnds game p d name values w (round game position s w.lines w.draws)
 
 -- ---- all rounds
 
 -- the body of `main`, with which the run begins, stops as this play does
-pub record PlaysOut (game : Game) (p : Program) (w : Stage) (t : Traced Step PlayEnd) : Type 0
+pub record MainPlays (game : Game) (p : Program) (w : Stage) (t : Traced Step PlayEnd) : Type 0
   where
     pub stop : Stop
     pub after : Stage
@@ -95,4 +95,4 @@ pub record PlaysOut (game : Game) (p : Program) (w : Stage) (t : Traced Step Pla
 abbrev pub MainRow : Game → Program → Position → Type 0
 MainRow game p position = (s : State) (noun : List ℕ) (w : Stage) → FairStage w
     → StandsFor game.db s noun w → w.globals (codes "over") ≡ Some (pos 0)
-    → PlaysOut game p w (go game position s w.lines w.draws)
+    → MainPlays game p w (go game position s w.lines w.draws)

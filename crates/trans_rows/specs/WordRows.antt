@@ -38,8 +38,8 @@ word_globals = codes "vnum" ∷ codes "nnum" ∷ codes "wa" ∷ codes "na" ∷ c
 abbrev pub buffer_arrays : List (List ℕ)
 buffer_arrays = codes "buf" ∷ codes "pbuf" ∷ []
 
--- What the reader leaves of a line: the verb and the noun that are heard, where the two words stand,
--- the same state with the noun as it was typed, and all else as it was.
+-- What the reader leaves of a line: the verb and the noun that are heard, where the two words
+-- stand, the same state with the noun as it was typed, and all else as it was.
 pub record WordsRead (db : Database) (s : State) (line : List ℕ) (w w' : Stage) : Type 0 where
   pub verb_is : w'.globals (codes "vnum") ≡ Some (pos (verb_heard (heard db line)))
   pub noun_is : w'.globals (codes "nnum") ≡ Some (pos (noun_heard (heard db line)))
@@ -65,10 +65,10 @@ pub record Reads (db : Database) (p : Program) (name : List ℕ) (s : State) (li
   pub read : WordsRead db s line w after
 
 -- so many calls may be opened where at most 100 of 200 are open
-abbrev pub reader_calls : ℕ
-reader_calls = 100
+abbrev pub reader_room : ℕ
+reader_room = 100
 
 -- the reader, on a typed line that stands in the buffer
 abbrev pub ReaderRow : Database → Program → List ℕ → Type 0
-ReaderRow db p name = (s : State) (line : List ℕ) (w : Stage) (d : ℕ) → reader_calls ≤ d
+ReaderRow db p name = (s : State) (line : List ℕ) (w : Stage) (d : ℕ) → reader_room ≤ d
     → IsTyped line → Ready db s w → HasLine line w → Reads db p name s line w d

@@ -23,7 +23,7 @@ use Rattle.trans_rows.specs.Views.{Shows}
 use Rattle.trans_rows.specs.Steps.{share, enough}
 use Rattle.trans_rows.specs.Names.{line_number}
 use Rattle.trans_rows.specs.Wide.{wide_at}
-use Rattle.trans_rows.specs.Lines.{call, line_routine, group_routine}
+use Rattle.trans_rows.specs.Lines.{call_statement, line_routine, group_routine}
 use Rattle.trans_rows.specs.Shaped.{program_calls}
 
 -- ---- tables
@@ -49,8 +49,8 @@ pub record ItemTables : Type 0 where
   pub gold : treasures one_treasure ≡ 1 ∷ 0 ∷ []
   pub no_gold : treasures last_pin ≡ 0 ∷ 0 ∷ 0 ∷ []
 
--- a synonym without a base entry, one of a base entry, a noun with the letters of an earlier one, an
--- empty base entry with a synonym, and a noun that can't be typed
+-- a synonym without a base entry, one of a base entry, a noun with the letters of an earlier one,
+-- an empty base entry with a synonym, and a noun that can't be typed
 abbrev pub odd_words : List Word
 odd_words = word (codes "AUT") (codes "ANY") ∷ word [] (codes "*ROCK") ∷ word [] (codes "LAMP")
     ∷ word [] (codes "*LANTERN") ∷ word [] (codes "LAMPS") ∷ word [] [] ∷ word [] (codes "*TORCH")
@@ -103,43 +103,46 @@ routine name locals body = record { name = name; locals = locals; body = stateme
 abbrev pub FullHandsLine : Type 0
 FullHandsLine = line_routine full_hands 0 ≡ routine (codes "line_0") []
     (s.If (c.Nonzero (call_of (codes "op_52") (0 ∷ [])))
-    (statements (call (codes "op_53") (1 ∷ []) ∷ []))
-    (statements (call (codes "op_53") (0 ∷ []) ∷ [])) ∷ returns (v.Number 1) ∷ [])
+    (statements (call_statement (codes "op_53") (1 ∷ []) ∷ []))
+    (statements (call_statement (codes "op_53") (0 ∷ []) ∷ [])) ∷ returns (v.Number 1) ∷ [])
 
 -- `[ line_0; if (~~(cond_1(1))) rfalse; op_63(); return 1; ];`
 abbrev pub NotCarriedLine : Type 0
 NotCarriedLine = line_routine not_carried 0 ≡ routine (codes "line_0") []
     (s.If (c.Not (c.Nonzero (call_of (codes "cond_1") (1 ∷ [])))) (statements (s.Rfalse ∷ []))
-    s.NoStatements ∷ call (codes "op_63") [] ∷ returns (v.Number 1) ∷ [])
+    s.NoStatements ∷ call_statement (codes "op_63") [] ∷ returns (v.Number 1) ∷ [])
 
 -- `[ line_2; msg_2(); return 2; ];`
 abbrev pub ChanceLine : Type 0
 ChanceLine = line_routine chance 2
-    ≡ routine (codes "line_2") [] (call (codes "msg_2") [] ∷ returns (v.Number 2) ∷ [])
+    ≡ routine (codes "line_2") [] (call_statement (codes "msg_2") [] ∷ returns (v.Number 2) ∷ [])
 
--- `[ group_1; return line_1(); ];`, `[ group_2 r; r = line_2(); if (r == 2) { line_3(); } return r; ];`
--- and `[ group_4; return line_4(); ];`
+-- `[ group_1; return line_1(); ];`,
+-- `[ group_2 r; r = line_2(); if (r == 2) { line_3(); } return r; ];` and
+-- `[ group_4; return line_4(); ];`
 abbrev pub ChanceGroups : Type 0
 ChanceGroups = map (group_routine chance) (groups chance)
     ≡ routine (codes "group_1") [] (returns (call_of (codes "line_1") []) ∷ [])
     ∷ routine (codes "group_2") (codes "r" ∷ [])
     (s.Assign (s.Set (codes "r") (call_of (codes "line_2") []))
     ∷ s.If (c.Compare Eq (v.Name (codes "r")) (v.Number 2))
-    (statements (call (codes "line_3") [] ∷ [])) s.NoStatements
+    (statements (call_statement (codes "line_3") [] ∷ [])) s.NoStatements
     ∷ returns (v.Name (codes "r")) ∷ [])
     ∷ routine (codes "group_4") [] (returns (call_of (codes "line_4") []) ∷ []) ∷ []
 
 -- a head that goes on, whose tail is all zeros: `[ group_0; return line_0(); ];`
+abbrev pub zero_tail : Database
+zero_tail = with_lines (line_with 450 0 0 10950 0 ∷ line_with 0 0 0 0 0 ∷ []) hill
+
 abbrev pub EmptyTail : Type 0
-EmptyTail = map (group_routine (with_lines (line_with 450 0 0 10950 0 ∷ line_with 0 0 0 0 0 ∷ []) hill))
-    (groups (with_lines (line_with 450 0 0 10950 0 ∷ line_with 0 0 0 0 0 ∷ []) hill))
+EmptyTail = map (group_routine zero_tail) (groups zero_tail)
     ≡ routine (codes "group_0") [] (returns (call_of (codes "line_0") []) ∷ []) ∷ []
 
 -- a routine that is called as a value and twice as a statement
 abbrev pub CallsCounted : Type 0
 CallsCounted = program_calls (codes "f") (t.Routine (routine (codes "main") []
-    (call (codes "f") [] ∷ s.If (c.Nonzero (call_of (codes "f") []))
-    (statements (call (codes "f") (1 ∷ []) ∷ call (codes "g") [] ∷ [])) s.NoStatements ∷ [])) ∷ [])
+    (call_statement (codes "f") [] ∷ s.If (c.Nonzero (call_of (codes "f") []))
+    (statements (call_statement (codes "f") (1 ∷ []) ∷ call_statement (codes "g") [] ∷ [])) s.NoStatements ∷ [])) ∷ [])
     ≡ 3
 
 -- ---- numbers

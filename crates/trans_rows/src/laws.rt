@@ -1,5 +1,5 @@
 //! The laws of views, names and rounds. Each is the contract of a function that does nothing else.
-ghost use Rattle.trans_rows.specs.Laws.{OneStateAStage, OverShowsNothing, LinesAreNumbered, PlaysAreRounds, NoneWideAt32, DataDistinct, OpeningStands};
+ghost use Rattle.trans_rows.specs.Laws.{OneStateAStage, OverShowsNothing, LinesAreNumbered, PlaysAreRounds, ClassesTell, NoneWideAt32, DataDistinct, OpeningStands};
 
 use inform_logic::laws::opening_opens;
 use scott_rules::laws::play_stops;
@@ -25,6 +25,11 @@ pub fn plays_are_rounds()
 {
     play_stops();
 }
+
+/// A word and a noun have one class exactly where the word is typed as the noun is.
+pub fn classes_tell()
+    ensures { ClassesTell }
+{}
 
 /// No number of a database is too wide for words of 32 bits.
 pub fn none_wide_at_32()
