@@ -8,3 +8,4 @@ pub mod Opening
 pub mod Wide
 pub mod Distinct
 pub mod Classes
+pub mod Writes

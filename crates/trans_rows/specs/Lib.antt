@@ -17,5 +17,6 @@ pub mod Owed
 pub mod Lines
 pub mod Shaped
 pub mod Faithful
+pub mod Writes
 pub mod Laws
 pub mod Worked

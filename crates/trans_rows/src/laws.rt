@@ -1,4 +1,5 @@
 //! The laws of views, names and rounds. Each is the contract of a function that does nothing else.
+ghost use Rattle.trans_rows.specs.Writes.{GlobalsWritten, EntriesWritten};
 ghost use Rattle.trans_rows.specs.Laws.{OneStateAStage, OverShowsNothing, LinesAreNumbered, PlaysAreRounds, ClassesTell, NoneWideAt32, DataDistinct, OpeningStands};
 
 use inform_logic::laws::opening_opens;
@@ -12,6 +13,17 @@ pub fn one_state_a_stage()
 /// What is written to a global that shows no state leaves the state that is shown.
 pub fn over_shows_nothing()
     ensures { OverShowsNothing }
+{}
+
+/// Where the global of a room, the counter, the light or the mark is written, the state that has it
+/// is shown.
+pub fn globals_written()
+    ensures { GlobalsWritten }
+{}
+
+/// Where the entry of a place, a flag or a backup is written, the state that has it is shown.
+pub fn entries_written()
+    ensures { EntriesWritten }
 {}
 
 /// The number of a line is read from the name of its routine.
