@@ -9,3 +9,4 @@ pub mod Wide
 pub mod Distinct
 pub mod Classes
 pub mod Writes
+pub mod RowsMet

@@ -20,3 +20,4 @@ pub mod Faithful
 pub mod Writes
 pub mod Laws
 pub mod Worked
+pub mod WorkedRows

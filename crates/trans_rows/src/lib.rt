@@ -7,6 +7,9 @@ pub mod places;
 // Laws of the definitions.
 pub mod laws;
 
+// Rows that are met.
+pub mod rows;
+
 // Worked tables, views and shapes.
 pub mod worked;
 
