@@ -10,3 +10,4 @@ pub mod Distinct
 pub mod Classes
 pub mod Writes
 pub mod RowsMet
+pub mod Bases

@@ -1,5 +1,5 @@
 -- The laws of views, names and rounds, and of the stage with which a translated game opens.
-use Rattle.std.specs.Prelude.{◌≡◌, ◌↔◌, ℕ, ◌<◌, ◌≤◌, ◌^◌, ℤ, IsTrue, List, [], ◌++◌, length, codes, Some, None}
+use Rattle.std.specs.Prelude.{◌≡◌, ◌↔◌, ℕ, zero, suc, ◌<◌, ◌≤◌, ◌^◌, ℤ, IsTrue, List, [], ◌++◌, length, slice_index, codes, Some, None}
 use Rattle.inform_tree.specs.declared.widths.Width.{Width}
 use Rattle.inform_tree.specs.declared.widths.Width.TheVariants.{W32}
 use Rattle.inform_tree.specs.Programs.{DirectiveTree}
@@ -14,7 +14,8 @@ use Rattle.scott_types.specs.State.{Fits}
 use Rattle.scott_types.specs.Style.{Game}
 use Rattle.scott_rules.specs.Words.{is_typed, entries_of, root}
 use Rattle.scott_rules.specs.Play.{go}
-use Rattle.trans_rows.specs.Tables.{is_class, class_of, class_of_noun}
+use Rattle.scott_rules.specs.Laws.{IsBaseEntryOf}
+use Rattle.trans_rows.specs.Tables.{bases, is_class, class_of, class_of_noun}
 use Rattle.trans_rows.specs.Wide.{wide_at}
 use Rattle.trans_rows.specs.Names.{line_name, line_number}
 use Rattle.trans_rows.specs.Views.{Shows}
@@ -44,6 +45,16 @@ PlaysAreRounds = (game : Game) (position : Position) (s : State) (lines : List (
 -- No number of a database is too wide for words of 32 bits.
 abbrev pub NoneWideAt32 : Type 0
 NoneWideAt32 = (db : Database) → KeepsLimits db → wide_at W32 db ≡ None
+
+-- an entry has this base entry, where it isn't 0, and else none
+abbrev pub BaseIs : List (List ℕ) → ℕ → ℕ → Type 0
+BaseIs entries k zero = (base : ℕ) → ¬ (IsBaseEntryOf entries k base)
+BaseIs entries k (suc base) = IsBaseEntryOf entries k (suc base)
+
+-- The base that the table has of an entry from 1 on is its base entry.
+abbrev pub BasesAreBaseEntries : Type 0
+BasesAreBaseEntries = (entries : List (List ℕ)) (k : ℕ) → 1 ≤ k → k < length entries
+    → BaseIs entries k (slice_index (bases entries) k)
 
 -- A word and a noun that has a class have one class exactly where the word is typed as the noun is.
 abbrev pub ClassesTell : Type 0

@@ -1,6 +1,6 @@
 //! The laws of views, names and rounds. Each is the contract of a function that does nothing else.
 ghost use Rattle.trans_rows.specs.Writes.{GlobalsWritten, EntriesWritten};
-ghost use Rattle.trans_rows.specs.Laws.{OneStateAStage, OverShowsNothing, LinesAreNumbered, PlaysAreRounds, ClassesTell, NoneWideAt32, DataDistinct, OpeningStands};
+ghost use Rattle.trans_rows.specs.Laws.{OneStateAStage, OverShowsNothing, LinesAreNumbered, PlaysAreRounds, BasesAreBaseEntries, ClassesTell, NoneWideAt32, DataDistinct, OpeningStands};
 
 use inform_logic::laws::opening_opens;
 use scott_rules::laws::play_stops;
@@ -37,6 +37,11 @@ pub fn plays_are_rounds()
 {
     play_stops();
 }
+
+/// The base that the table has of an entry from 1 on is its base entry in the rules.
+pub fn bases_are_base_entries()
+    ensures { BasesAreBaseEntries }
+{}
 
 /// A word and a noun have one class exactly where the word is typed as the noun is.
 pub fn classes_tell()
