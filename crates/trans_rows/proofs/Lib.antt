@@ -11,3 +11,4 @@ pub mod Classes
 pub mod Writes
 pub mod RowsMet
 pub mod Bases
+pub mod MainRuns

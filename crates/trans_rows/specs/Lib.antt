@@ -17,6 +17,7 @@ pub mod Owed
 pub mod Lines
 pub mod Shaped
 pub mod Faithful
+pub mod Wholes
 pub mod Writes
 pub mod Laws
 pub mod Worked

@@ -1,8 +1,9 @@
 //! The laws of views, names and rounds. Each is the contract of a function that does nothing else.
 ghost use Rattle.trans_rows.specs.Writes.{GlobalsWritten, EntriesWritten};
+ghost use Rattle.trans_rows.specs.Wholes.{MainIsEnough};
 ghost use Rattle.trans_rows.specs.Laws.{OneStateAStage, OverShowsNothing, LinesAreNumbered, PlaysAreRounds, BasesAreBaseEntries, ClassesTell, NoneWideAt32, DataDistinct, OpeningStands};
 
-use inform_logic::laws::opening_opens;
+use inform_logic::laws::{opening_opens, run_stops};
 use scott_rules::laws::play_stops;
 
 /// A stage shows one state at most.
@@ -64,4 +65,13 @@ pub fn opening_stands()
     ensures { OpeningStands }
 {
     opening_opens();
+}
+
+/// Where `main` does the rounds that it owes, the run that notes its lines is the play, and tries the
+/// same lines.
+pub fn main_is_enough()
+    ensures { MainIsEnough }
+{
+    opening_opens();
+    run_stops();
 }
