@@ -4,7 +4,7 @@ use Rattle.std.specs.Prelude.{IsTrue, IsFalse}
 use Rattle.scott_types.specs.ItemText.{is_starred}
 use Rattle.scott_rules.specs.Laws.{entry_at, IsBaseEntryOf}
 use Rattle.inform_logic.proofs.Lists.{after_rest}
-use Rattle.trans_rows.specs.Tables.{or_zero, bases_from, bases}
+use Rattle.trans_rows.specs.Tables.{or_zero, bases_from}
 use Rattle.trans_rows.specs.Laws.{BaseIs, BasesAreBaseEntries}
 
 -- the entry with which what is left begins

@@ -1,20 +1,15 @@
 -- The entries of the tables are small.
-use Rattle.std.proofs.Common.{◌≡◌, arith, ℕ, ◌+◌, ◌-◌, ◌<◌, ◌≤◌, ℤ, pos, negsuc, nat_lt, nat_le, Bool, true, false, ◌&&◌, not, if◌then◌else◌, List, [], ◌∷◌, ◌++◌, map, length, drop, replicate, zero, suc, flat_map, Option, Some, None, refl, length-drop, length-take}
-use Rattle.std.specs.Prelude.{IsTrue, is_some}
+use Rattle.std.proofs.Common.{◌≡◌, arith, ℕ, ◌+◌, ◌-◌, ◌<◌, ◌≤◌, Bool, true, false, ◌&&◌, if◌then◌else◌, List, [], ◌∷◌, ◌++◌, map, length, replicate, zero, suc, flat_map, Option, Some, None, refl}
+use Rattle.std.specs.Prelude.{is_some}
 use Rattle.std.specs.List.{AllByRecursion, list_all, position_from}
 use Rattle.std.specs.Char.{is_ascii_graphic}
 use Rattle.std.proofs.lemmas.Bool.{and_parts}
-use Rattle.scott_types.specs.declared.parts.Item.{Item}
-use Rattle.scott_types.specs.declared.parts.Room.{Room}
 use Rattle.scott_types.specs.declared.commands.Column.{Column}
-use Rattle.scott_types.specs.declared.commands.Column.TheVariants.{Nouns}
-use Rattle.scott_types.specs.Database.{Database, place_of_item}
-use Rattle.scott_types.specs.Limits.{is_item, is_file_text, KeepsLimits}
-use Rattle.scott_types.specs.ItemText.{is_starred, is_treasure}
-use Rattle.scott_types.specs.Room.{room_beyond}
-use Rattle.scott_rules.specs.Words.{is_empty, is_typed, spelling, column_of, entries_of, entry_from, which}
+use Rattle.scott_types.specs.Database.{Database}
+use Rattle.scott_types.specs.ItemText.{is_starred}
+use Rattle.scott_rules.specs.Words.{is_typed, spelling, entries_of, entry_from}
 use Rattle.scott_vocab.specs.Keys.{letters}
-use Rattle.trans_rows.specs.Tables.{bit, or_zero, guarded, start_places, exits_of_room, exits, filled_up, printed_letters, entry_letters, word_letters, bases_from, bases, word_bases, is_class, class_of, class_of_noun, classes, noun_classes, item_word, item_classes, item_nouns, items_with_words, treasures}
+use Rattle.trans_rows.specs.Tables.{bit, or_zero, guarded, filled_up, printed_letters, entry_letters, word_letters, bases_from, bases}
 
 -- each of these is below a number
 abbrev pub Below : ℕ → List ℕ → Type 0

@@ -1,12 +1,11 @@
 -- A word and a noun have one class exactly where they match as they are typed.
-use Rattle.std.proofs.Common.{◌≡◌, ◌∙◌, arith, ℕ, zero, suc, ◌+◌, ◌-◌, ◌<◌, ◌≤◌, Bool, true, false, not, ◌&&◌, cond, if◌then◌else◌, List, [], ◌∷◌, drop, take, length, slice_get, bytes_eq, Option, Some, None, unwrap_or, refl, sym, ap, subst}
-use Rattle.std.specs.Prelude.{slice_index_or, IsTrue}
+use Rattle.std.proofs.Common.{◌≡◌, ◌∙◌, arith, ℕ, zero, suc, ◌+◌, ◌-◌, ◌<◌, ◌≤◌, Bool, true, false, not, ◌&&◌, cond, if◌then◌else◌, List, [], ◌∷◌, drop, length, slice_get, bytes_eq, Option, Some, None, unwrap_or, refl, sym, ap, subst}
+use Rattle.std.specs.Prelude.{slice_index_or}
 use Rattle.std.specs.List.{position_from}
 use Rattle.std.proofs.lemmas.Bool.{and_parts}
 use Rattle.std.proofs.lemmas.Slice.Eq.{bytes_eq-Decides}
 use Rattle.scott_types.specs.declared.commands.Column.TheVariants.{Nouns}
 use Rattle.scott_types.specs.Database.{Database}
-use Rattle.scott_types.specs.Limits.{KeepsLimits}
 use Rattle.scott_types.specs.ItemText.{is_starred}
 use Rattle.scott_rules.specs.Words.{is_empty, is_typed, entries_of, root}
 use Rattle.scott_vocab.specs.Keys.{letters}
@@ -36,8 +35,8 @@ module _ (t : List ℕ → Bool) where
       number = omega (arith, is);
       passes = passes;
     } where
-        is : i ≡ j
-        is = ap (λ (o : Option ℕ). unwrap_or o 0) h
+      is : i ≡ j
+      is = ap (λ (o : Option ℕ). unwrap_or o 0) h
     from false passes more h = later (more h) where
       later : IsHit (i + 1) xs j → IsHit i (x ∷ xs) j
       later r = record {
@@ -78,14 +77,14 @@ after_first (x ∷ xs) zero one less = absurd (omega (arith, one))
 after_first (x ∷ xs) (suc k) one less = subst
     (λ (m : ℕ). slice_get xs m ≡ Some (slice_index_or xs k [])) place
     (at xs k (omega (arith, less))) where
-  place : k ≡ suc k - 1
-  place = omega arith
+      place : k ≡ suc k - 1
+      place = omega arith
 
-  at : (xs : List (List ℕ)) (k : ℕ) → k < length xs
-      → slice_get xs k ≡ Some (slice_index_or xs k [])
-  at [] k less = absurd (omega (arith, less))
-  at (x ∷ xs) zero less = refl
-  at (x ∷ xs) (suc k) less = at xs k (omega (arith, less))
+      at : (xs : List (List ℕ)) (k : ℕ) → k < length xs
+          → slice_get xs k ≡ Some (slice_index_or xs k [])
+      at [] k less = absurd (omega (arith, less))
+      at (x ∷ xs) zero less = refl
+      at (x ∷ xs) (suc k) less = at xs k (omega (arith, less))
 
 -- ---- classes
 

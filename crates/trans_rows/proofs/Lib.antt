@@ -12,3 +12,4 @@ pub mod Writes
 pub mod RowsMet
 pub mod Bases
 pub mod MainRuns
+pub mod Hill

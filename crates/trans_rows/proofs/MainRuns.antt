@@ -1,26 +1,24 @@
 -- From the rounds of a translated game to its whole run.
-use Rattle.std.proofs.Common.{◌≡◌, ◌∙◌, arith, ℕ, ◌≤◌, ℤ, pos, List, [], ◌∷◌, ◌++◌, length, codes, Option, Some, unwrap_or, refl, sym, ap, subst}
-use Rattle.std.specs.List.{AllByRecursion}
+use Rattle.std.proofs.Common.{◌≡◌, ◌∙◌, arith, ℕ, ℤ, pos, List, [], length, codes, Option, Some, unwrap_or, sym, ap, subst}
 use Rattle.adv_io.specs.Steps.{Step, Traced, trace_of, noted}
 use Rattle.inform_tree.specs.declared.widths.Width.{Width}
 use Rattle.inform_tree.specs.Programs.{DirectiveTree}
 use Rattle.inform_names.specs.Meanings.{meanings}
-use Rattle.inform_meaning.specs.Worlds.{Config}
 use Rattle.inform_meaning.specs.Frames.{Outcome}
 use Rattle.inform_meaning.specs.Runs.{Stop, Halted, Lacking, stop_of}
 use Rattle.inform_meaning.specs.Programs.{program_in, run_of}
-use Rattle.inform_logic.specs.Stages.{Stage, stage_of}
+use Rattle.inform_logic.specs.Stages.{Stage}
 use Rattle.inform_logic.specs.Holding.{opening_stage}
 use Rattle.inform_logic.specs.Stopping.{IsStop, stop_leaves, Stopped}
 use Rattle.inform_logic.specs.Laws.{OpeningOpens, RunStops}
 use Rattle.scott_types.specs.declared.endings.Ending.{Ending}
 use Rattle.scott_types.specs.declared.endings.Ending.TheVariants.{Over, NeedsLine, NeedsDraw}
-use Rattle.scott_types.specs.Style.{Game, in_style}
+use Rattle.scott_types.specs.Style.{in_style}
 use Rattle.scott_rules.specs.Play.{PlayEnd, ending_of, go}
 use Rattle.trans_rows.specs.Names.{line_notes}
 use Rattle.trans_rows.specs.Steps.{enough}
 use Rattle.trans_rows.specs.Views.{Shows}
-use Rattle.trans_rows.specs.Same.{EndingIs, EndsAlike, Same}
+use Rattle.trans_rows.specs.Same.{EndingIs, EndsAlike}
 use Rattle.trans_rows.specs.TurnRows.{MainPlays}
 use Rattle.trans_rows.specs.Faithful.{opening_state, opening_position}
 use Rattle.trans_rows.specs.Wholes.{NotedAlike, game_directives, MainIsEnough}
@@ -58,8 +56,8 @@ module _ (width : Width) (ds : List DirectiveTree) (lines : List (List ℕ)) (dr
     };
     same_lines = ap noted same_past;
   } where
-      same_past : play.events ≡ (run_of width ds line_notes steps lines draws).1.past
-      same_past = sym (ap (λ (w : Stage). w.past) stopped.stage ∙ past)
+    same_past : play.events ≡ (run_of width ds line_notes steps lines draws).1.past
+    same_past = sym (ap (λ (w : Stage). w.past) stopped.stage ∙ past)
 
 pub main_is_enough : OpeningOpens → RunStops → MainIsEnough
 main_is_enough opens stops style width db from others t fits distinct main lines draws steps typed

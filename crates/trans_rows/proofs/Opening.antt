@@ -1,12 +1,11 @@
 -- The stage with which a translated game opens stands for its opening state.
-use Rattle.std.proofs.Common.{◌≡◌, ◌∙◌, arith, ℕ, suc, ◌+◌, ◌<◌, ◌≤◌, ℤ, pos, negsuc, ◌≤ℤ◌, nat_lt, nat_le, Bool, true, false, ◌&&◌, not, cond, List, [], ◌∷◌, ◌++◌, map, length, drop, replicate, codes, flat_map, find, Option, Some, None, is_some, unwrap_or, refl, ap, sym}
+use Rattle.std.proofs.Common.{◌≡◌, ◌∙◌, arith, ℕ, ◌+◌, ◌<◌, ◌≤◌, ℤ, pos, negsuc, ◌≤ℤ◌, nat_lt, nat_le, Bool, true, false, ◌&&◌, not, cond, List, [], ◌∷◌, ◌++◌, map, length, drop, replicate, codes, flat_map, find, Option, Some, None, is_some, unwrap_or, refl, ap}
 use Rattle.std.specs.List.{AllByRecursion, list_all}
 use Rattle.std.proofs.lemmas.Bool.{and_parts}
 use Rattle.std.proofs.lemmas.Int.{ints}
 use Rattle.std.proofs.lemmas.List.{length-map, length-drop}
 use Rattle.inform_tree.specs.declared.widths.Width.{Width}
 use Rattle.inform_tree.specs.declared.widths.Width.TheVariants.{W16, W32}
-use Rattle.inform_tree.specs.declared.values.Const.{Const}
 use Rattle.inform_tree.specs.declared.values.Const.TheVariants.{Number}
 use Rattle.inform_tree.specs.Programs.{DirectiveTree}
 use Rattle.inform_names.specs.Meanings.{Known, meanings, constant_word, entry_count}
@@ -15,22 +14,21 @@ use Rattle.inform_logic.specs.Stages.{Stage}
 use Rattle.inform_logic.specs.Holding.{Opens, opening_stage}
 use Rattle.inform_logic.specs.Laws.{OpeningOpens}
 use Rattle.scott_types.specs.declared.parts.Item.{Item}
-use Rattle.scott_types.specs.declared.parts.Room.{Room}
 use Rattle.scott_types.specs.declared.states.State.{State}
 use Rattle.scott_types.specs.declared.commands.Column.{Column}
 use Rattle.scott_types.specs.declared.commands.Column.TheVariants.{Verbs, Nouns}
 use Rattle.scott_types.specs.Database.{Database, place_of_item}
-use Rattle.scott_types.specs.Limits.{is_item, is_room, is_file_text, KeepsLimits}
+use Rattle.scott_types.specs.Limits.{is_item, is_file_text, KeepsLimits}
 use Rattle.scott_types.specs.Room.{room_beyond}
 use Rattle.scott_types.specs.State.{is_counter, is_place, is_room_of, Fits}
 use Rattle.scott_types.specs.ItemText.{is_treasure}
 use Rattle.scott_rules.specs.Words.{is_empty, is_typed, column_of, entries_of, which}
-use Rattle.trans_rows.specs.Tables.{bit, or_zero, guarded, start_places, exits_of_room, exits, entry_letters, word_letters, bases, word_bases, is_class, class_of, class_of_noun, classes, noun_classes, item_word, item_classes, item_nouns, items_with_words, treasures, buffer_length}
+use Rattle.trans_rows.specs.Tables.{bit, or_zero, guarded, start_places, exits_of_room, exits, entry_letters, word_letters, bases, word_bases, is_class, class_of, class_of_noun, classes, noun_classes, item_word, buffer_length}
 use Rattle.trans_rows.specs.declared.places.Place.TheVariants.{Carry, Treasures, Light, Home}
 use Rattle.trans_rows.specs.Wide.{Placed, is_word_of, placed_actions, is_too_wide, wide_at}
 use Rattle.trans_rows.specs.Directives.{written, data_directives}
 use Rattle.trans_rows.specs.Views.{naturals, Shows}
-use Rattle.trans_rows.specs.Standing.{HasTables, CanWork, HasNoun, Ready, StandsFor}
+use Rattle.trans_rows.specs.Standing.{HasTables, CanWork, HasNoun, StandsFor}
 use Rattle.trans_rows.specs.Laws.{OpeningStands}
 use Rattle.trans_rows.proofs.Bounds.{Below, below_guarded, below_map, below_flat, below_tested, below_bit, below_choice, below_bases, below_position, below_entry, below_word_letters}
 use Rattle.trans_rows.proofs.Written.{word_written, small_written, naturals_written, bytes_written, integers_written, entries_are}

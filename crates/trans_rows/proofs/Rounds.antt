@@ -5,7 +5,7 @@ use Rattle.scott_types.specs.declared.endings.Position.{Position}
 use Rattle.scott_types.specs.declared.endings.Position.TheVariants.{Fresh, Draw, Line, Over}
 use Rattle.scott_types.specs.Style.{Game}
 use Rattle.adv_io.specs.Steps.{Step, Traced, after, traced}
-use Rattle.scott_rules.specs.Rounds.{RoundEnd, Answered, advance, answer}
+use Rattle.scott_rules.specs.Rounds.{RoundEnd, advance, answer}
 use Rattle.scott_rules.specs.Play.{PlayEnd, stopped, with_line, go}
 use Rattle.scott_rules.specs.Laws.{PlayStops}
 use Rattle.trans_rows.specs.Rounds.{round_goes_on, round_done, round, next_round, then_rounds}

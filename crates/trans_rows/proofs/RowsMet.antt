@@ -1,28 +1,23 @@
 -- Routines that do what is owed.
-use Rattle.std.proofs.Common.{◌≡◌, ◌∙◌, arith, ℕ, suc, ◌+◌, ◌-◌, ◌*◌, ◌<◌, ◌≤◌, ℤ, pos, nat_lt, Bool, true, false, if◌then◌else◌, List, [], ◌∷◌, ◌++◌, length, slice_index_or, codes, Some, None, refl, sym, ap, subst, append_assoc}
-use Rattle.adv_io.specs.Steps.{Step, Noted, said_steps}
-use Rattle.inform_meaning.specs.Worlds.{Routine, Program}
+use Rattle.std.proofs.Common.{◌≡◌, ◌∙◌, arith, ℕ, suc, ◌-◌, ◌<◌, ◌≤◌, pos, nat_lt, Bool, true, if◌then◌else◌, List, [], ◌∷◌, ◌++◌, length, slice_index_or, Some, refl, sym, ap, subst, append_assoc}
+use Rattle.adv_io.specs.Steps.{Noted, said_steps}
+use Rattle.inform_meaning.specs.Worlds.{Program}
 use Rattle.inform_logic.specs.Stages.{Stage, with_past, said}
 use Rattle.inform_logic.specs.Leading.{Does, at_end, by_return}
-use Rattle.inform_logic.specs.Holding.{routine_at, Has, Notes}
+use Rattle.inform_logic.specs.Holding.{Has}
 use Rattle.inform_logic.proofs.Values.{number, called}
 use Rattle.inform_logic.proofs.Printing.{print_nothing, print_text, said_twice}
 use Rattle.inform_logic.proofs.Statements.{end, next, returns, print, new_line, call_alone, return}
 use Rattle.inform_logic.proofs.Routines.{does_within, routine, noted_routine}
-use Rattle.scott_types.specs.declared.states.State.{State}
-use Rattle.scott_types.specs.declared.styles.Style.{Style}
 use Rattle.scott_types.specs.Phrase.{text_of}
-use Rattle.scott_types.specs.Style.{Game, in_style}
+use Rattle.scott_types.specs.Style.{in_style}
 use Rattle.scott_types.specs.Database.{Database}
 use Rattle.scott_rules.specs.Opcodes.{said_message}
 use Rattle.scott_rules.specs.Actions.{try_action}
 use Rattle.scott_rules.specs.Games.{chance}
-use Rattle.trans_rows.specs.Standing.{StandsFor}
-use Rattle.trans_rows.specs.Steps.{share, text_steps, line_steps}
-use Rattle.trans_rows.specs.Names.{message_name, line_name, line_number}
-use Rattle.trans_rows.specs.Lines.{line_routine}
-use Rattle.trans_rows.specs.Calls.{CallSays, StageLeft, CallLeaves}
-use Rattle.trans_rows.specs.DataRows.{MessageRow}
+use Rattle.trans_rows.specs.Steps.{text_steps, line_steps}
+use Rattle.trans_rows.specs.Names.{message_name, line_name}
+use Rattle.trans_rows.specs.Calls.{CallSays, CallLeaves}
 use Rattle.trans_rows.specs.ActionRows.{LineDone}
 use Rattle.trans_rows.specs.WorkedRows.{PastCountsForNothing, message_routine, MessagesAreSaid, ChanceLineIsDone}
 

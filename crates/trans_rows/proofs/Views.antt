@@ -1,9 +1,9 @@
 -- A state is known from what a stage shows of it.
-use Rattle.std.proofs.Common.{◌≡◌, ◌∙◌, ℕ, ℤ, pos, nat_eq, unsigned_abs, Bool, true, false, List, [], ◌∷◌, ◌++◌, map, Option, Some, unwrap_or, refl, sym, ap}
+use Rattle.std.proofs.Common.{◌≡◌, ◌∙◌, ℕ, ℤ, pos, nat_eq, unsigned_abs, Bool, true, false, List, [], ◌∷◌, ◌++◌, map, Option, unwrap_or, refl, sym, ap}
 use Rattle.scott_types.specs.declared.states.State.{State}
 use Rattle.inform_logic.specs.Stages.{Stage}
 use Rattle.trans_rows.specs.Tables.{bit}
-use Rattle.trans_rows.specs.Views.{naturals, Seen, Shows}
+use Rattle.trans_rows.specs.Views.{naturals, Shows}
 use Rattle.trans_rows.specs.Laws.{OneStateAStage}
 
 -- ---- numbers, truth values and lists of them, from what is shown

@@ -1,16 +1,15 @@
 -- No number of a database is too wide for words of 32 bits.
-use Rattle.std.proofs.Common.{◌≡◌, ◌∙◌, arith, ℕ, ◌+◌, ◌/◌, ◌≤◌, ℤ, pos, negsuc, int_le, nat_le, ◌==◌, Bool, true, false, ◌&&◌, cond, List, [], ◌∷◌, ◌++◌, length, find, Some, None, refl, ap, div-le_self}
+use Rattle.std.proofs.Common.{◌≡◌, ◌∙◌, arith, ℕ, ◌+◌, ◌/◌, ◌≤◌, ℤ, pos, nat_le, ◌==◌, Bool, true, false, ◌&&◌, cond, List, [], ◌∷◌, ◌++◌, length, find, Some, None, refl, ap, div-le_self}
 use Rattle.std.specs.List.{AllByRecursion, list_all}
 use Rattle.std.proofs.lemmas.Bool.{and_parts}
 use Rattle.std.proofs.lemmas.Int.{ints}
 use Rattle.inform_tree.specs.declared.widths.Width.TheVariants.{W32}
 use Rattle.scott_types.specs.declared.parts.Action.{Action}
 use Rattle.scott_types.specs.declared.parts.Header.{Header}
-use Rattle.scott_types.specs.Database.{Database}
-use Rattle.scott_types.specs.Limits.{is_number, is_natural, is_action, are_header_numbers, KeepsLimits}
+use Rattle.scott_types.specs.Limits.{is_number, is_natural, is_action, are_header_numbers}
 use Rattle.trans_rows.specs.declared.places.Place.{Place}
 use Rattle.trans_rows.specs.declared.places.Place.TheVariants.{Carry, Treasures, Light, Home, Verb, Condition, Opcode}
-use Rattle.trans_rows.specs.Wide.{Placed, is_word_of, placed_header, placed_conditions, placed_opcodes, placed_action, placed_actions, placed_numbers, is_too_wide, wide_at}
+use Rattle.trans_rows.specs.Wide.{Placed, placed_header, placed_conditions, placed_opcodes, placed_action, placed_actions, placed_numbers, is_too_wide}
 use Rattle.trans_rows.specs.Laws.{NoneWideAt32}
 
 -- none of these is too wide

@@ -3,9 +3,9 @@ use Rattle.std.proofs.Common.{◌≡◌, ◌∙◌, arith, ℕ, ◌<◌, ℤ, po
 use Rattle.std.proofs.lemmas.List.{length-map, map-set, set-append_left}
 use Rattle.scott_types.specs.declared.states.State.{State}
 use Rattle.scott_types.specs.State.{with_place, with_flag}
-use Rattle.inform_logic.specs.Stages.{Stage, with_global, with_array}
+use Rattle.inform_logic.specs.Stages.{Stage, with_array}
 use Rattle.trans_rows.specs.Tables.{bit}
-use Rattle.trans_rows.specs.Views.{naturals, Seen, Shows}
+use Rattle.trans_rows.specs.Views.{naturals, Shows}
 use Rattle.trans_rows.specs.Writes.{GlobalsWritten, EntriesWritten}
 
 pub globals_written : GlobalsWritten

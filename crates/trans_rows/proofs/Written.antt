@@ -1,11 +1,11 @@
 -- Numbers that are words of a width, as they are written in a program.
-use Rattle.std.proofs.Common.{◌≡◌, ◌∙◌, arith, ℕ, ◌+◌, ◌-◌, ◌*◌, ◌%◌, ◌<◌, ◌≤◌, ℤ, pos, negsuc, ◌-ℤ◌, nat_lt, int_le, Bool, true, false, ◌&&◌, if◌then◌else◌, List, [], ◌∷◌, map, length, Option, Some, unwrap_or, refl, ap, ap₂, mod-eq_of_lt}
+use Rattle.std.proofs.Common.{◌≡◌, ◌∙◌, arith, ℕ, ◌+◌, ◌-◌, ◌*◌, ◌%◌, ◌<◌, ◌≤◌, ℤ, pos, negsuc, ◌-ℤ◌, nat_lt, Bool, true, false, if◌then◌else◌, List, [], ◌∷◌, map, length, Some, unwrap_or, refl, ap, ap₂, mod-eq_of_lt}
 use Rattle.std.specs.List.{AllByRecursion}
 use Rattle.std.proofs.lemmas.Int.{ints}
 use Rattle.inform_tree.specs.declared.widths.Width.{Width}
 use Rattle.inform_tree.specs.declared.widths.Width.TheVariants.{W16, W32}
 use Rattle.inform_tree.specs.declared.values.Const.{Const}
-use Rattle.inform_tree.specs.declared.values.Const.TheVariants.{Number, Minus}
+use Rattle.inform_tree.specs.declared.values.Const.TheVariants.{Number}
 use Rattle.inform_names.specs.Words.{signed}
 use Rattle.inform_names.specs.Meanings.{Known, constant_word}
 use Rattle.inform_meaning.specs.Words.{low_byte}

@@ -1,5 +1,5 @@
 -- The directives that declare the globals and arrays of a translated game, as they are written.
-use Rattle.std.specs.Prelude.{ℕ, ◌+◌, ℤ, pos, negsuc, Bool, true, false, List, [], ◌∷◌, ◌++◌, map, codes, Some}
+use Rattle.std.specs.Prelude.{ℕ, ◌+◌, ℤ, pos, negsuc, true, false, List, [], ◌∷◌, ◌++◌, map, codes, Some}
 use Rattle.inform_tree.specs.declared.values.Const.{Const}
 use Rattle.inform_tree.specs.declared.values.Const.TheVariants.{Number, Minus}
 use Rattle.inform_tree.specs.Programs.{DirectiveTree, Global, Array}

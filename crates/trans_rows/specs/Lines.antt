@@ -1,5 +1,5 @@
 -- The routines of action lines and of groups, as they are written.
-use Rattle.std.specs.Prelude.{ℕ, zero, suc, ◌==◌, nat_lt, Bool, true, false, not, ◌&&◌, if◌then◌else◌, List, [], ◌∷◌, ◌++◌, map, filter, drop, length, slice_index, codes, Some}
+use Rattle.std.specs.Prelude.{ℕ, zero, suc, ◌==◌, nat_lt, Bool, true, not, if◌then◌else◌, List, [], ◌∷◌, ◌++◌, map, filter, drop, length, slice_index, codes, Some}
 use Rattle.inform_tree.specs.declared.conditions.Relation.TheVariants.{Eq}
 use Rattle.inform_tree.specs.Values as v
 use Rattle.inform_tree.specs.Values.{Expression, Arguments, arguments}

@@ -1,5 +1,5 @@
 -- The routines of a translated game whose names end in a number, and what a run notes of them.
-use Rattle.std.specs.Prelude.{ℕ, Bool, nat_eq, if◌then◌else◌, List, ◌++◌, drop, length, codes, decimal, bytes_eq, Option, Some, None}
+use Rattle.std.specs.Prelude.{ℕ, nat_eq, if◌then◌else◌, List, ◌++◌, drop, length, codes, decimal, bytes_eq, Option, Some, None}
 use Rattle.std.specs.List.{starts_with}
 use Rattle.std.specs.Str.Parse.{digits_value}
 

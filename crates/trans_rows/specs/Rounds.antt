@@ -3,7 +3,7 @@ use Rattle.std.specs.Prelude.{ℕ, List, [], ◌∷◌}
 use Rattle.adv_io.specs.Steps.{Step, Traced, after, traced}
 use Rattle.scott_types.specs.declared.states.State.{State}
 use Rattle.scott_types.specs.declared.endings.Position.{Position}
-use Rattle.scott_types.specs.declared.endings.Position.TheVariants.{Fresh, Draw, Line, Over}
+use Rattle.scott_types.specs.declared.endings.Position.TheVariants.{Fresh}
 use Rattle.scott_types.specs.Style.{Game}
 use Rattle.scott_rules.specs.Rounds.{advance}
 use Rattle.scott_rules.specs.Play.{PlayEnd, stopped, with_line, go}

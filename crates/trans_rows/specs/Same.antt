@@ -1,5 +1,5 @@
 -- A play and a run that are the same.
-use Rattle.std.specs.Prelude.{◌≡◌, ℕ, ℤ, pos, codes, Option, Some}
+use Rattle.std.specs.Prelude.{◌≡◌, ℤ, pos, codes, Option, Some}
 use Rattle.adv_io.specs.Steps.{Step, Traced, trace_of}
 use Rattle.inform_meaning.specs.Worlds.{Config}
 use Rattle.inform_meaning.specs.Frames as f

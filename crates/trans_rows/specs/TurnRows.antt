@@ -18,7 +18,7 @@ use Rattle.scott_types.specs.Database.{Database}
 use Rattle.scott_types.specs.Style.{Game}
 use Rattle.scott_rules.specs.Play.{PlayEnd, go}
 use Rattle.trans_rows.specs.Views.{Shows}
-use Rattle.trans_rows.specs.Standing.{Ready, StandsFor}
+use Rattle.trans_rows.specs.Standing.{StandsFor}
 use Rattle.trans_rows.specs.Steps.{round_steps, enough}
 use Rattle.trans_rows.specs.Calls.{CallEndsGame, CallWaits}
 use Rattle.trans_rows.specs.Rounds.{round}

@@ -1,5 +1,5 @@
 -- Worked tables, views, lines and numbers of small games.
-use Rattle.std.specs.Prelude.{◌≡◌, ℕ, ℤ, pos, negsuc, true, false, List, [], ◌∷◌, ◌++◌, map, replicate, slice_get, codes, Some, None}
+use Rattle.std.specs.Prelude.{◌≡◌, ℕ, pos, negsuc, true, false, List, [], ◌∷◌, ◌++◌, map, replicate, codes, Some, None}
 use Rattle.inform_tree.specs.declared.widths.Width.TheVariants.{W16, W32}
 use Rattle.inform_tree.specs.declared.conditions.Relation.TheVariants.{Eq}
 use Rattle.inform_tree.specs.Values as v
@@ -15,7 +15,7 @@ use Rattle.scott_types.specs.declared.commands.Column.TheVariants.{Verbs, Nouns}
 use Rattle.scott_types.specs.Database.{Database}
 use Rattle.scott_types.specs.State.{start}
 use Rattle.scott_rules.specs.Groups.{groups}
-use Rattle.scott_rules.specs.Games.{word, item, rug, line_with, with_lines, with_items, hill, hill_header, full_hands, chance, last_pin, one_treasure, lamp_for, not_carried}
+use Rattle.scott_rules.specs.Games.{word, item, line_with, with_lines, with_items, hill, full_hands, chance, last_pin, one_treasure, lamp_for, not_carried}
 use Rattle.trans_rows.specs.declared.places.Place.TheVariants.{Light, Condition, Opcode}
 use Rattle.trans_rows.specs.Tables.{start_places, exits, word_letters, word_bases, noun_classes, item_classes, item_nouns, items_with_words, treasures}
 use Rattle.trans_rows.specs.Directives.{data_directives}
@@ -24,7 +24,7 @@ use Rattle.trans_rows.specs.Steps.{share, enough}
 use Rattle.trans_rows.specs.Names.{line_number}
 use Rattle.trans_rows.specs.Wide.{wide_at}
 use Rattle.trans_rows.specs.Lines.{call_statement, line_routine, group_routine}
-use Rattle.trans_rows.specs.Shaped.{program_calls}
+use Rattle.trans_rows.specs.Shaped.{program_calls, Shaped}
 
 -- ---- tables
 
@@ -165,3 +165,10 @@ pub record NumbersWide : Type 0 where
 pub record StepsCounted : Type 0 where
   pub of_hill : share hill ≡ 226
   pub of_lines : enough hill 3 ≡ 3616000
+
+-- ---- a shape
+
+-- the hall and the hill have no line that does anything: the tables and a `main` are such a game
+abbrev pub HillIsShaped : Type 0
+HillIsShaped = Shaped hill (start hill)
+    (data_directives hill (start hill) ++ t.Routine (routine (codes "main") [] []) ∷ [])

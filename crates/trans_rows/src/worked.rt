@@ -1,6 +1,6 @@
 //! Worked tables, views, lines and numbers. Each is the contract of a function that does nothing,
 //! and is proved by computing it.
-ghost use Rattle.trans_rows.specs.Worked.{HillTables, ItemTables, OddTables, HillOpens, LaterOpens, FullHandsLine, NotCarriedLine, ChanceLine, ChanceGroups, EmptyTail, CallsCounted, NamesRead, NumbersWide, StepsCounted};
+ghost use Rattle.trans_rows.specs.Worked.{HillTables, ItemTables, OddTables, HillOpens, LaterOpens, FullHandsLine, NotCarriedLine, ChanceLine, ChanceGroups, EmptyTail, CallsCounted, NamesRead, NumbersWide, StepsCounted, HillIsShaped};
 
 /// The tables of the hall and the hill.
 pub fn hill_tables()
@@ -70,4 +70,9 @@ pub fn numbers_wide()
 /// The steps of the hall and the hill.
 pub fn steps_counted()
     ensures { StepsCounted }
+{}
+
+/// A game without lines that do anything, and its shape.
+pub fn hill_is_shaped()
+    ensures { HillIsShaped }
 {}
