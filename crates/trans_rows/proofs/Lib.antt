@@ -13,3 +13,4 @@ pub mod RowsMet
 pub mod Bases
 pub mod MainRuns
 pub mod Hill
+pub mod Flat

@@ -115,7 +115,8 @@ module _ (db : Database) (limits : KeepsLimits db) where
   )
 
   words_there : (column : Column) → IsThere (entries_of db column)
-  words_there column = there_map (column_of column) db.words (there 1000 db.words limits.sizes.words)
+  words_there column = there_map (column_of column) db.words
+      (there 1000 db.words limits.sizes.words)
 
   below_exits : Below 32768 (exits db)
   below_exits = below_guarded 32768 small _ (below_flat 32768 small (exits_of_room db)

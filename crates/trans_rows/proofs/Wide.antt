@@ -104,6 +104,7 @@ header_fits h all = (
   home = and_parts _ true light.1
 
 pub none_wide_at_32 : NoneWideAt32
-none_wide_at_32 db limits = found_none (placed_numbers db) (both (placed_header db.header) (placed_actions 0 db.actions)
+none_wide_at_32 db limits = found_none (placed_numbers db)
+    (both (placed_header db.header) (placed_actions 0 db.actions)
     (header_fits db.header limits.header.numbers)
     (actions_fit 0 db.actions limits.entries.actions))

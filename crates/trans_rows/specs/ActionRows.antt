@@ -29,8 +29,8 @@ passed_value false = 1
 -- the run where it ends the game. Its own number is the only one that is noted.
 abbrev pub LineComesTo : Ran → Game → Program → ℕ → ℕ → Stage → List ℕ
     → Traced Step ActionOutcome → Type 0
-LineComesTo Not game p d k w noun t = CallLeaves p d (line_name k) [] w (pos 0) game.db t.value.state
-    noun t.events (line_steps game.db)
+LineComesTo Not game p d k w noun t = CallLeaves p d (line_name k) [] w (pos 0) game.db
+    t.value.state noun t.events (line_steps game.db)
 LineComesTo (Passed more) game p d k w noun t = CallLeaves p d (line_name k) [] w
     (pos (passed_value more)) game.db t.value.state noun t.events (line_steps game.db)
 LineComesTo (Over ending) game p d k w noun t = CallEndsGame p d (line_name k) [] w t.value.state

@@ -39,8 +39,8 @@ pub record CallLeaves (p : Program) (d : ℕ) (name : List ℕ) (values : List �
   pub leaves : StageLeft db s noun steps w after
 
 -- the game ends: the run is over, the stage shows this state, and `over` is the ending
-pub record CallEndsGame (p : Program) (d : ℕ) (name : List ℕ) (values : List ℤ) (w : Stage) (s : State)
-    (steps : List Step) (ending : ℕ) (most : ℕ) : Type 0 where
+pub record CallEndsGame (p : Program) (d : ℕ) (name : List ℕ) (values : List ℤ) (w : Stage)
+    (s : State) (steps : List Step) (ending : ℕ) (most : ℕ) : Type 0 where
   pub after : Stage
   pub stops : CallStops p d name values w (Halted Quits) after most
   pub shows : Shows s after
@@ -48,8 +48,8 @@ pub record CallEndsGame (p : Program) (d : ℕ) (name : List ℕ) (values : List
   pub over_is : after.globals (codes "over") ≡ Some (pos ending)
 
 -- the run waits, the stage shows this state, and `over` is as it was
-pub record CallWaits (p : Program) (d : ℕ) (name : List ℕ) (values : List ℤ) (w : Stage) (lack : Lack)
-    (s : State) (steps : List Step) (most : ℕ) : Type 0 where
+pub record CallWaits (p : Program) (d : ℕ) (name : List ℕ) (values : List ℤ) (w : Stage)
+    (lack : Lack) (s : State) (steps : List Step) (most : ℕ) : Type 0 where
   pub after : Stage
   pub stops : CallStops p d name values w (Lacking lack) after most
   pub shows : Shows s after

@@ -1,5 +1,5 @@
 -- The laws of views, names and rounds, and of the stage with which a translated game opens.
-use Rattle.std.specs.Prelude.{◌≡◌, ◌↔◌, ℕ, zero, suc, ◌<◌, ◌≤◌, ◌^◌, ℤ, IsTrue, List, [], ◌++◌, length, slice_index, codes, Some, None}
+use Rattle.std.specs.Prelude.{◌≡◌, ◌↔◌, ℕ, zero, suc, ◌+◌, ◌*◌, ◌<◌, ◌≤◌, ◌^◌, ℤ, IsTrue, List, [], ◌++◌, length, slice_index, slice_index_or, codes, Some, None}
 use Rattle.inform_tree.specs.declared.widths.Width.{Width}
 use Rattle.inform_tree.specs.declared.widths.Width.TheVariants.{W32}
 use Rattle.inform_tree.specs.Programs.{DirectiveTree}
@@ -7,15 +7,17 @@ use Rattle.inform_logic.specs.Stages.{Stage, with_global}
 use Rattle.inform_logic.specs.Holding.{opening_stage, Distinct}
 use Rattle.scott_types.specs.declared.states.State.{State}
 use Rattle.scott_types.specs.declared.endings.Position.{Position}
+use Rattle.scott_types.specs.declared.commands.Column.{Column}
 use Rattle.scott_types.specs.declared.commands.Column.TheVariants.{Nouns}
-use Rattle.scott_types.specs.Database.{Database}
+use Rattle.scott_types.specs.Database.{Database, room_at}
+use Rattle.scott_types.specs.Room.{exit_of}
 use Rattle.scott_types.specs.Limits.{KeepsLimits}
 use Rattle.scott_types.specs.State.{Fits}
 use Rattle.scott_types.specs.Style.{Game}
 use Rattle.scott_rules.specs.Words.{is_typed, entries_of, root}
 use Rattle.scott_rules.specs.Play.{go}
 use Rattle.scott_rules.specs.Laws.{IsBaseEntryOf}
-use Rattle.trans_rows.specs.Tables.{bases, is_class, class_of, class_of_noun}
+use Rattle.trans_rows.specs.Tables.{exits, entry_letters, word_letters, bases, is_class, class_of, class_of_noun}
 use Rattle.trans_rows.specs.Wide.{wide_at}
 use Rattle.trans_rows.specs.Names.{line_name, line_number}
 use Rattle.trans_rows.specs.Views.{Shows}
@@ -45,6 +47,19 @@ PlaysAreRounds = (game : Game) (position : Position) (s : State) (lines : List (
 -- No number of a database is too wide for words of 32 bits.
 abbrev pub NoneWideAt32 : Type 0
 NoneWideAt32 = (db : Database) → KeepsLimits db → wide_at W32 db ≡ None
+
+-- The exit of a room in a direction stands at six times the room and the direction.
+abbrev pub ExitsStand : Type 0
+ExitsStand = (db : Database) (room direction : ℕ) → KeepsLimits db → room < length db.rooms
+    → direction < 6 → slice_index (exits db) (6 * room + direction)
+    ≡ exit_of (length db.rooms) (room_at db room).exits direction
+
+-- The letters of an entry stand at its number times as many as count.
+abbrev pub LettersStand : Type 0
+LettersStand = (db : Database) (column : Column) (k i : ℕ)
+    → k < length (entries_of db column) → i < db.header.length
+    → slice_index (word_letters db column) (db.header.length * k + i)
+    ≡ slice_index (entry_letters db.header.length (slice_index_or (entries_of db column) k [])) i
 
 -- an entry has this base entry, where it isn't 0, and else none
 abbrev pub BaseIs : List (List ℕ) → ℕ → ℕ → Type 0

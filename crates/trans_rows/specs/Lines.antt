@@ -57,7 +57,8 @@ opcode_call n params = call_statement (opcode_name n) (next_parameters (uses (op
 
 -- nothing for a message that isn't there
 abbrev pub message_call : Database → ℕ → List Statement
-message_call db m = if nat_lt m (length db.messages) then call_statement (message_name m) [] ∷ [] else []
+message_call db m =
+    if nat_lt m (length db.messages) then call_statement (message_name m) [] ∷ [] else []
 
 abbrev pub get_number : ℕ
 get_number = 52

@@ -142,8 +142,8 @@ EmptyTail = map (group_routine zero_tail) (groups zero_tail)
 abbrev pub CallsCounted : Type 0
 CallsCounted = program_calls (codes "f") (t.Routine (routine (codes "main") []
     (call_statement (codes "f") [] ∷ s.If (c.Nonzero (call_of (codes "f") []))
-    (statements (call_statement (codes "f") (1 ∷ []) ∷ call_statement (codes "g") [] ∷ [])) s.NoStatements ∷ [])) ∷ [])
-    ≡ 3
+    (statements (call_statement (codes "f") (1 ∷ []) ∷ call_statement (codes "g") [] ∷ []))
+    s.NoStatements ∷ [])) ∷ []) ≡ 3
 
 -- ---- numbers
 

@@ -34,7 +34,8 @@ message_routine db m = record {
   body = statements (s.Print (s.Text (slice_index_or db.messages m []) ∷ []) ∷ s.NewLine ∷ []);
 }
 
--- Where each routine of a message is this one, and lines alone are noted, messages are said as owed.
+-- Where each routine of a message is this one, and lines alone are noted, messages are said as
+-- owed.
 abbrev pub MessagesAreSaid : Type 0
 MessagesAreSaid = (game : Game) (p : Program)
     → ((name : List ℕ) (at : ℕ) → p.notes name at ≡ line_number name)

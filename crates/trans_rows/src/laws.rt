@@ -1,7 +1,7 @@
 //! The laws of views, names and rounds. Each is the contract of a function that does nothing else.
 ghost use Rattle.trans_rows.specs.Writes.{GlobalsWritten, EntriesWritten};
 ghost use Rattle.trans_rows.specs.Wholes.{MainIsEnough};
-ghost use Rattle.trans_rows.specs.Laws.{OneStateAStage, OverShowsNothing, LinesAreNumbered, PlaysAreRounds, BasesAreBaseEntries, ClassesTell, NoneWideAt32, DataDistinct, OpeningStands};
+ghost use Rattle.trans_rows.specs.Laws.{OneStateAStage, OverShowsNothing, LinesAreNumbered, PlaysAreRounds, ExitsStand, LettersStand, BasesAreBaseEntries, ClassesTell, NoneWideAt32, DataDistinct, OpeningStands};
 
 use inform_logic::laws::{opening_opens, run_stops};
 use scott_rules::laws::play_stops;
@@ -39,6 +39,16 @@ pub fn plays_are_rounds()
     play_stops();
 }
 
+/// Where the exits of a room stand in their table.
+pub fn exits_stand()
+    ensures { ExitsStand }
+{}
+
+/// Where the letters of an entry stand in theirs.
+pub fn letters_stand()
+    ensures { LettersStand }
+{}
+
 /// The base that the table has of an entry from 1 on is its base entry in the rules.
 pub fn bases_are_base_entries()
     ensures { BasesAreBaseEntries }
@@ -67,8 +77,8 @@ pub fn opening_stands()
     opening_opens();
 }
 
-/// Where `main` does the rounds that it owes, the run that notes its lines is the play, and tries the
-/// same lines.
+/// Where `main` does the rounds that it owes, the run that notes its lines is the play, and tries
+/// the same lines.
 pub fn main_is_enough()
     ensures { MainIsEnough }
 {
