@@ -1,0 +1,16 @@
+pub mod Views
+pub mod Names
+pub mod Rounds
+pub mod Bounds
+pub mod Written
+pub mod Lengths
+pub mod Opening
+pub mod Wide
+pub mod Distinct
+pub mod Classes
+pub mod Writes
+pub mod RowsMet
+pub mod Bases
+pub mod MainRuns
+pub mod Hill
+pub mod Flat
