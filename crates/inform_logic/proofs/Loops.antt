@@ -184,7 +184,7 @@ module _ {p : Program} {d : ℕ} where
   unfolding opened
   do_first any body rest = step (record { takes = and_then _ any body.takes rest.takes })
 
-  -- `do`, where the body comes to its end
+  -- `do`, where the body is done
   pub do_until : {x : Condition} {body : Statements} {s s1 s' : Scope} {w w1 w' : Stage}
       {e : Outcome} {n m : ℕ} → Runs p d body s w Normal s1 w1 n
       → Loops p d (do_loop body x) s1 w1 e s' w' m

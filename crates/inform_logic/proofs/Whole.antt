@@ -32,7 +32,7 @@ module _ (p : Program) where
   unfolding resume_at opened
   main_stops body = ends_first _ passes_main body.ends
 
-  -- where it comes to its end, the run is over
+  -- where it is done, the run is over
   pub main_ends : {body : Statements} {s s' : Scope} {w w' : Stage} {e : Outcome} {v : ℤ} {n : ℕ}
       → Runs p CALL_LIMIT body s w e s' w' n → Gives e v
       → Ends (resume p (main_begun body)) s w (Halted Quits) w' n

@@ -1,4 +1,4 @@
--- A worked program, and what its runs come to.
+-- A worked program, and what its runs do.
 use Rattle.std.specs.Prelude.{ℕ, ◌≤◌, false, List, [], ◌∷◌, codes}
 use Rattle.inform_tree.specs.declared.widths.Width.{Width}
 use Rattle.inform_tree.specs.declared.values.Const.{Const}

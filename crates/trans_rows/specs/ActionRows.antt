@@ -27,17 +27,17 @@ passed_value false = 1
 
 -- What became of the line: it gives 0 where it doesn't pass, and 1 or 2 where it does, and it ends
 -- the run where it ends the game. Its own number is the only one that is noted.
-abbrev pub LineComesTo : Ran → Game → Program → ℕ → ℕ → Stage → List ℕ
+abbrev pub LineOutcome : Ran → Game → Program → ℕ → ℕ → Stage → List ℕ
     → Traced Step ActionOutcome → Type 0
-LineComesTo Not game p d k w noun t = CallLeaves p d (line_name k) [] w (pos 0) game.db
+LineOutcome Not game p d k w noun t = CallLeaves p d (line_name k) [] w (pos 0) game.db
     t.value.state noun t.events (line_steps game.db)
-LineComesTo (Passed more) game p d k w noun t = CallLeaves p d (line_name k) [] w
+LineOutcome (Passed more) game p d k w noun t = CallLeaves p d (line_name k) [] w
     (pos (passed_value more)) game.db t.value.state noun t.events (line_steps game.db)
-LineComesTo (Over ending) game p d k w noun t = CallEndsGame p d (line_name k) [] w t.value.state
+LineOutcome (Over ending) game p d k w noun t = CallEndsGame p d (line_name k) [] w t.value.state
     t.events ending (line_steps game.db)
 
 abbrev pub LineDone : Game → Program → ℕ → ℕ → Stage → List ℕ → Traced Step ActionOutcome → Type 0
-LineDone game p d k w noun t = LineComesTo t.value.ran game p d k w noun t
+LineDone game p d k w noun t = LineOutcome t.value.ran game p d k w noun t
 
 -- so many calls may be opened where at most 80 of 200 are open
 abbrev pub line_room : ℕ

@@ -1,4 +1,4 @@
--- What a call of a routine of a translated game comes to.
+-- What becomes of a call of a routine of a translated game.
 use Rattle.std.specs.Prelude.{◌≡◌, ℕ, ℤ, pos, List, ◌++◌, codes, Some}
 use Rattle.adv_io.specs.Steps.{Step}
 use Rattle.inform_meaning.specs.Worlds.{Program}

@@ -50,21 +50,21 @@ pub record RoundDone (p : Program) (d : ℕ) (name : List ℕ) (values : List �
   pub leaves : RoundLeaves db w after t
 
 -- what becomes of a round: it is done, the run waits for a line or a draw, or the game ends
-abbrev pub RoundComesTo : Position → Program → ℕ → List ℕ → List ℤ → Stage → Database
+abbrev pub RoundOutcome : Position → Program → ℕ → List ℕ → List ℤ → Stage → Database
     → Traced Step PlayEnd → ℕ → Type 0
-RoundComesTo Fresh p d name values w db t most = RoundDone p d name values w db t most
-RoundComesTo (Draw head) p d name values w db t most =
+RoundOutcome Fresh p d name values w db t most = RoundDone p d name values w db t most
+RoundOutcome (Draw head) p d name values w db t most =
     CallWaits p d name values w NeedsDraw t.value.state t.events most
-RoundComesTo Line p d name values w db t most =
+RoundOutcome Line p d name values w db t most =
     CallWaits p d name values w NeedsLine t.value.state t.events most
-RoundComesTo (Over ending) p d name values w db t most =
+RoundOutcome (Over ending) p d name values w db t most =
     CallEndsGame p d name values w t.value.state t.events ending most
 
 abbrev pub lines_spent : Stage → Traced Step PlayEnd → ℕ
 lines_spent w t = length w.lines - length t.value.lines
 
 abbrev pub RoundEnds : Game → Program → ℕ → List ℕ → List ℤ → Stage → Traced Step PlayEnd → Type 0
-RoundEnds game p d name values w t = RoundComesTo t.value.position p d name values w game.db t
+RoundEnds game p d name values w t = RoundOutcome t.value.position p d name values w game.db t
     (round_steps game.db (lines_spent w t))
 
 -- so many calls may be opened where at most 60 of 200 are open
