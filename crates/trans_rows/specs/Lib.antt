@@ -8,11 +8,14 @@ pub mod Names
 pub mod Programs
 pub mod Calls
 pub mod DataRows
+pub mod HelperRows
 pub mod WordRows
 pub mod ActionRows
 pub mod Rounds
 pub mod Same
 pub mod TurnRows
+pub mod CommandRows
+pub mod AutomaticRows
 pub mod Owed
 pub mod Lines
 pub mod Shaped

@@ -1,0 +1,75 @@
+-- What the small routines of texts and places owe to the larger ones: each says something or gives
+-- a value, and nothing else happens.
+use Rattle.std.specs.Prelude.{ℕ, ◌<◌, ◌≤◌, ℤ, pos, Bool, List, [], ◌∷◌, length}
+use Rattle.inform_meaning.specs.Worlds.{Program}
+use Rattle.inform_logic.specs.Stages.{Stage}
+use Rattle.inform_logic.specs.Leading.{Does}
+use Rattle.scott_types.specs.declared.states.State.{State}
+use Rattle.scott_types.specs.Database.{Database, item_at}
+use Rattle.scott_types.specs.Style.{Game}
+use Rattle.scott_types.specs.ItemText.{shown}
+use Rattle.scott_types.specs.State.{place_of, is_near, carried_count, is_dark}
+use Rattle.scott_rules.specs.Opcodes.{is_full}
+use Rattle.trans_rows.specs.Tables.{bit}
+use Rattle.trans_rows.specs.Standing.{StandsFor}
+use Rattle.trans_rows.specs.Steps.{text_steps}
+use Rattle.trans_rows.specs.DataRows.{text_room}
+use Rattle.trans_rows.specs.Calls.{CallSays}
+
+-- a call with these values gives a number of the state
+abbrev pub GivesOf : Database → Program → List ℕ → List ℤ → (State → ℕ) → Type 0
+GivesOf db p name values number = (s : State) (noun : List ℕ) (w : Stage) (d : ℕ) → text_room ≤ d
+    → StandsFor db s noun w → Does p d name values w (pos (number s)) w (text_steps db)
+
+-- a call gives 1 where this holds of the state, and else 0
+abbrev pub TellsOf : Database → Program → List ℕ → List ℤ → (State → Bool) → Type 0
+TellsOf db p name values test = GivesOf db p name values (λ s. bit (test s))
+
+-- the numbers by which a program may ask for an item, whether it is there or not
+abbrev pub asked_items : ℕ
+asked_items = 32768
+
+-- where an item is
+abbrev pub PlaceRow : Database → Program → List ℕ → Type 0
+PlaceRow db p name = (item : ℕ) → item < asked_items
+    → GivesOf db p name (pos item ∷ []) (λ s. place_of s item)
+
+-- whether an item is carried or here
+abbrev pub NearRow : Database → Program → List ℕ → Type 0
+NearRow db p name = (item : ℕ) → item < asked_items
+    → TellsOf db p name (pos item ∷ []) (λ s. is_near s item)
+
+-- whether it is dark
+abbrev pub DarkRow : Database → Program → List ℕ → Type 0
+DarkRow db p name = TellsOf db p name [] is_dark
+
+-- how many items are carried, and whether no more can be
+abbrev pub CarriedRow : Database → Program → List ℕ → Type 0
+CarriedRow db p name = GivesOf db p name [] carried_count
+
+abbrev pub FullRow : Database → Program → List ℕ → Type 0
+FullRow db p name = TellsOf db p name [] (is_full db)
+
+-- what is shown of an item is said
+abbrev pub ItemTextRow : Database → Program → List ℕ → Type 0
+ItemTextRow db p name = (item : ℕ) → item < length db.items → (s : State) (noun : List ℕ)
+    (w : Stage) (d : ℕ) → text_room ≤ d → StandsFor db s noun w
+    → CallSays p d name (pos item ∷ []) w (shown (item_at db item).text) (text_steps db)
+
+-- the names of these routines
+pub record HelperNames : Type 0 where
+  pub place : List ℕ
+  pub near : List ℕ
+  pub dark : List ℕ
+  pub carried : List ℕ
+  pub full : List ℕ
+  pub item_text : List ℕ
+
+-- all of them
+pub record HelperRows (game : Game) (p : Program) (names : HelperNames) : Type 0 where
+  pub places : PlaceRow game.db p names.place
+  pub near_items : NearRow game.db p names.near
+  pub darkness : DarkRow game.db p names.dark
+  pub carried_items : CarriedRow game.db p names.carried
+  pub full_hands : FullRow game.db p names.full
+  pub item_texts : ItemTextRow game.db p names.item_text
