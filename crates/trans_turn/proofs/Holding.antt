@@ -1,0 +1,76 @@
+-- A program that has the directives of a round has its routines, and notes none of them.
+use Rattle.std.proofs.Common.{ℕ, List, [], ◌∷◌, codes}
+use Rattle.inform_tree.specs.declared.widths.Width.{Width}
+use Rattle.inform_tree.specs.Programs.{RoutineTree}
+use Rattle.inform_codes.specs.declared.codes.Code.{Code}
+use Rattle.inform_codes.specs.Routines.{row_routine}
+use Rattle.inform_meaning.specs.Worlds.{Program}
+use Rattle.inform_logic.specs.Holding.{Has}
+use Rattle.scott_types.specs.declared.endings.Position.{Position}
+use Rattle.trans_rows.specs.Programs.{Serves}
+use Rattle.trans_turn.specs.declared.names.TheConstants.{MAIN, ROUND, ADVANCE, DESCRIBE, AUTOMATIC, ASK, ANSWER, SAY_WORD, ASKED, I}
+use Rattle.trans_turn.specs.declared.codes.TheConstants.{DESCRIBING, ADVANCING, ASKING, SAYING_WORD, ANSWERING, ROUNDING, PLAYING, BEFORE_GROUPS}
+use Rattle.trans_turn.specs.Routines.{turn_names, first_asked, rounds_asking, round_directives, no_group_directives}
+
+-- a routine by the places of its name and its locals, where this number is handed in
+abbrev pub written : ℕ → ℕ → List ℕ → List Code → RoutineTree
+written given name locals body = row_routine turn_names (given ∷ []) (name, locals, body)
+
+-- all routines of a round are there
+pub record HasRound (p : Program) (asked : ℕ) : Type 0 where
+  pub describe : Has p (written asked DESCRIBE [] DESCRIBING)
+  pub advance : Has p (written asked ADVANCE [] ADVANCING)
+  pub ask : Has p (written asked ASK [] ASKING)
+  pub say_word : Has p (written asked SAY_WORD (I ∷ []) SAYING_WORD)
+  pub answer : Has p (written asked ANSWER [] ANSWERING)
+  pub round : Has p (written asked ROUND (ASKED ∷ []) ROUNDING)
+  pub main : Has p (written asked MAIN [] PLAYING)
+
+pub has_round : {width : Width} (begin : Position) {p : Program}
+    → Serves width (round_directives begin) p → HasRound p (first_asked begin)
+unfolding rounds_asking
+has_round begin serves = let all = serves.holds in record {
+  describe = record {
+    at = all.0.0;
+    there = all.0.1;
+    unseen = serves.notes_lines (codes "describe") all.0.0;
+  };
+  advance = record {
+    at = all.1.0.0;
+    there = all.1.0.1;
+    unseen = serves.notes_lines (codes "advance") all.1.0.0;
+  };
+  ask = record {
+    at = all.1.1.0.0;
+    there = all.1.1.0.1;
+    unseen = serves.notes_lines (codes "ask") all.1.1.0.0;
+  };
+  say_word = record {
+    at = all.1.1.1.0.0;
+    there = all.1.1.1.0.1;
+    unseen = serves.notes_lines (codes "say_word") all.1.1.1.0.0;
+  };
+  answer = record {
+    at = all.1.1.1.1.0.0;
+    there = all.1.1.1.1.0.1;
+    unseen = serves.notes_lines (codes "answer") all.1.1.1.1.0.0;
+  };
+  round = record {
+    at = all.1.1.1.1.1.0.0;
+    there = all.1.1.1.1.1.0.1;
+    unseen = serves.notes_lines (codes "round") all.1.1.1.1.1.0.0;
+  };
+  main = record {
+    at = all.1.1.1.1.1.1.0.0;
+    there = all.1.1.1.1.1.1.0.1;
+    unseen = serves.notes_lines (codes "main") all.1.1.1.1.1.1.0.0;
+  };
+}
+
+pub has_automatic : {width : Width} {p : Program} → Serves width no_group_directives p
+    → Has p (written 0 AUTOMATIC [] BEFORE_GROUPS)
+has_automatic serves = record {
+  at = serves.holds.0.0;
+  there = serves.holds.0.1;
+  unseen = serves.notes_lines (codes "automatic") serves.holds.0.0;
+}

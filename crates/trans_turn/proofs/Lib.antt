@@ -1,0 +1,16 @@
+pub mod Rooms
+pub mod Holding
+pub mod Standing
+pub mod Described
+pub mod Parts
+pub mod Asked
+pub mod Bytes
+pub mod SaidWord
+pub mod HeardWords
+pub mod Answered
+pub mod Advanced
+pub mod Left
+pub mod RoundRuns
+pub mod RoundRows
+pub mod MainRuns
+pub mod NoGroups

@@ -1,0 +1,21 @@
+//! What the routines of a round owe. Each law is the contract of a function that does nothing else.
+ghost use Rattle.trans_turn.specs.Owed.{RoundsOwe, AutomaticOwes};
+
+use scott_rules::laws::{play_spends, play_stops, word_names_least_match};
+use trans_rows::laws::plays_are_rounds;
+
+/// Where the routines that a round calls do what they owe, so do a round, the rest of one behind its
+/// prompt, and all rounds.
+pub fn rounds_owe()
+    ensures { RoundsOwe }
+{
+    word_names_least_match();
+    play_spends();
+    play_stops();
+    plays_are_rounds();
+}
+
+/// Where a game has no groups, the automatic step does what it owes.
+pub fn automatic_owes()
+    ensures { AutomaticOwes }
+{}
