@@ -93,7 +93,7 @@ first_is (y ∷ ys) i (suc at) x distinct is =
 -- what a name means, by the directive of this name at this place
 module _ (law : MeaningsAreFirst) (width : Width) (ds : List DirectiveTree) (distinct : Distinct ds)
     (at : ℕ) (x : DirectiveTree) (there : slice_get ds at ≡ Some x) where
-  meant : option_map (λ m. m.at) (meanings width ds (name_of x)) ≡ Some at
+  pub meant : option_map (λ m. m.at) (meanings width ds (name_of x)) ≡ Some at
   meant = law width ds (name_of x) ∙ first_is ds 0 at x distinct there ∙ ap Some (omega arith)
 
   number_is : number_of (meanings width ds (name_of x)) ≡ at
