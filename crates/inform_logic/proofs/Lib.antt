@@ -14,6 +14,8 @@ pub mod Stopping
 pub mod Stops
 pub mod Traps
 pub mod Whole
+pub mod ButNotes
+pub mod NotesAside
 pub mod Holding
 pub mod Carried
 pub mod Swapped

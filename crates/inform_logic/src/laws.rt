@@ -1,5 +1,5 @@
 //! The laws of programs and whole runs. Each is the contract of a function that does nothing else.
-ghost use Rattle.inform_logic.specs.Laws.{ProgramHolds, OpeningOpens, RunStops};
+ghost use Rattle.inform_logic.specs.Laws.{ProgramHolds, OpeningOpens, RunStops, NotesCountForNothing};
 
 use inform_names::laws::meanings_are_first;
 
@@ -20,4 +20,9 @@ pub fn opening_opens()
 /// What stops the body of `Main` stops the run, with all steps that are enough.
 pub fn run_stops()
     ensures { RunStops }
+{}
+
+/// What a program notes changes nothing else of its runs.
+pub fn notes_count_for_nothing()
+    ensures { NotesCountForNothing }
 {}
