@@ -4,3 +4,6 @@ pub mod Standing
 pub mod Matching
 pub mod Splitting
 pub mod Letters
+pub mod Finding
+pub mod First
+pub mod Heard
