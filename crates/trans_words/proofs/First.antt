@@ -183,3 +183,45 @@ module _ (p : Program) (w : Stage) (b : ℕ) (typed : is_word (b ∷ []) ≡ tru
         (does_within (omega arith) (routine (has.first column)
         (next (if_true test (next (switch letter leads.0) end))
         (looked_up p w (b ∷ []) typed a m has_word db limits column tables has d)) by_return))
+
+-- ---- any first word
+
+two_are_more : (n : ℕ) → nat_eq (suc (suc n)) 1 ≡ false
+two_are_more n = grind arith
+
+-- where there is no second word
+alone_is : (p : Program) (w : Stage) (word : List ℕ) → is_word word ≡ true → (a m : ℕ)
+    → nat_eq m 0 ≡ true → HasWord word a (w.arrays (codes "buf")) → (db : Database)
+    → KeepsLimits db → (column : Column)
+    → HasColumn db column (w.arrays (word_array column)) (w.arrays (base_array column))
+    → HasReader db p → (d : ℕ)
+    → Does p (suc (suc (suc (suc d)))) (first_name column)
+    (pos a ∷ pos (length word) ∷ pos m ∷ []) w (pos (or_zero (which db column (whole_word word))))
+    w (first_steps db.header.length (length db.words))
+alone_is p w [] typed a m is has_word db limits column tables has d =
+    not_one p w [] typed a m has_word db limits column tables has d refl
+alone_is p w (b ∷ []) typed a m is has_word db limits column tables has d =
+    letter_is p w b typed a m is has_word db limits column tables has d
+alone_is p w (b ∷ c ∷ rest) typed a m is has_word db limits column tables has d =
+    subst (λ (text : List ℕ). Does p (suc (suc (suc (suc d)))) (first_name column)
+    (pos a ∷ pos (length (b ∷ c ∷ rest)) ∷ pos m ∷ []) w (pos (or_zero (which db column text))) w
+    (first_steps db.header.length (length db.words))) (sym (longer_stays b c rest))
+    (not_one p w (b ∷ c ∷ rest) typed a m has_word db limits column tables has d
+    (two_are_more (length rest)))
+
+pub first_is : (p : Program) (w : Stage) (word : List ℕ) → is_word word ≡ true → (a m : ℕ)
+    → HasWord word a (w.arrays (codes "buf")) → (db : Database) → KeepsLimits db
+    → (column : Column)
+    → HasColumn db column (w.arrays (word_array column)) (w.arrays (base_array column))
+    → HasReader db p → (d : ℕ)
+    → Does p (suc (suc (suc (suc d)))) (first_name column)
+    (pos a ∷ pos (length word) ∷ pos m ∷ []) w (pos (or_zero (which db column (spoken word m)))) w
+    (first_steps db.header.length (length db.words))
+first_is p w word typed a m has_word db limits column tables has d =
+    from (nat_eq m 0) refl where
+      from : (t : Bool) → nat_eq m 0 ≡ t → Does p (suc (suc (suc (suc d)))) (first_name column)
+          (pos a ∷ pos (length word) ∷ pos m ∷ []) w
+          (pos (or_zero (which db column (if t then whole_word word else word)))) w
+          (first_steps db.header.length (length db.words))
+      from true is = alone_is p w word typed a m is has_word db limits column tables has d
+      from false is = not_alone p w word typed a m has_word db limits column tables has d is

@@ -7,3 +7,4 @@ pub mod Letters
 pub mod Finding
 pub mod First
 pub mod Heard
+pub mod Scanning

@@ -69,7 +69,7 @@ nothing_left (x ∷ xs) h = from (is_space x) refl (nothing_left xs) h where
     some : word_size (x ∷ xs) ≡ 0 → ⊥
     some e = omega (arith, e, ap (λ (t : Bool). cond (not t) (1 + word_size xs) 0) is)
 
-is_zero : (n : ℕ) → (n == 0) ≡ true → n ≡ 0
+pub is_zero : (n : ℕ) → (n == 0) ≡ true → n ≡ 0
 is_zero n h = grind (arith, h)
 
 -- ---- the two words of a line, by their places
