@@ -8,3 +8,5 @@ pub mod Finding
 pub mod First
 pub mod Heard
 pub mod Scanning
+pub mod Commands
+pub mod Reading
