@@ -1,5 +1,5 @@
 -- The verb and the noun of a command, by what its words name.
-use Rattle.std.proofs.Common.{◌≡◌, ◌∙◌, arith, ℕ, suc, ◌+◌, ◌*◌, ◌<◌, ◌≤◌, ℤ, pos, nat_eq, nat_lt, nat_le, Bool, true, false, not, ◌&&◌, if◌then◌else◌, List, [], ◌∷◌, length, codes, Some, refl, sym, ap, subst}
+use Rattle.std.proofs.Common.{◌≡◌, ◌∙◌, arith, ℕ, suc, ◌+◌, pos, nat_eq, nat_lt, nat_le, Bool, true, false, not, ◌&&◌, if◌then◌else◌, List, [], ◌∷◌, length, codes, Some, refl, subst}
 use Rattle.inform_tree.specs.declared.conditions.Relation.TheVariants.{Eq}
 use Rattle.inform_tree.specs.Values as v
 use Rattle.inform_tree.specs.Conditions as c
@@ -7,7 +7,7 @@ use Rattle.inform_meaning.specs.Tables.{found}
 use Rattle.inform_meaning.specs.Worlds.{Program, Scope}
 use Rattle.inform_logic.specs.Stages.{Stage}
 use Rattle.inform_logic.specs.Leading.{Tests, Does, by_return}
-use Rattle.inform_logic.proofs.Words.{eq_is, lt_is, le_is}
+use Rattle.inform_logic.proofs.Words.{eq_is}
 use Rattle.inform_logic.proofs.Values.{number, local, argument, called, call}
 use Rattle.inform_logic.proofs.Conditions.{compare, all_of, all_hold, one_holds, one_fails}
 use Rattle.inform_logic.proofs.Statements.{end, next, returns, return, if_true, if_false}
@@ -25,7 +25,7 @@ use Rattle.trans_words.proofs.Matching.{is_word}
 use Rattle.trans_words.proofs.Letters.{HasWord}
 use Rattle.trans_words.proofs.Finding.{HasColumn, find_steps, find_is}
 use Rattle.trans_words.proofs.First.{spoken, first_steps, first_is}
-use Rattle.trans_words.proofs.Heard.{verb_by, noun_by}
+use Rattle.trans_words.proofs.Heard.{verb_by}
 
 -- whether the noun x is a direction
 way_is : (p : Program) (d : ℕ) (s : Scope) (w : Stage) (x : ℕ) {t : Bool} → is_direction x ≡ t

@@ -1,5 +1,5 @@
 -- The base entry that a word names.
-use Rattle.std.proofs.Common.{◌≡◌, ◌∙◌, arith, ℕ, zero, suc, ◌+◌, ◌-◌, ◌*◌, ◌<◌, ◌≤◌, ℤ, pos, nat_eq, nat_lt, Bool, true, false, not, ◌&&◌, if◌then◌else◌, List, [], ◌∷◌, ◌++◌, map, length, take, drop, flat_map, codes, Option, Some, None, IfSome, is_some, bytes_eq, refl, sym, ap, subst, append_assoc, drop-drop}
+use Rattle.std.proofs.Common.{◌≡◌, ◌∙◌, arith, ℕ, zero, suc, ◌+◌, ◌*◌, ◌<◌, ◌≤◌, ℤ, pos, nat_eq, nat_lt, Bool, true, false, not, ◌&&◌, if◌then◌else◌, List, [], ◌∷◌, ◌++◌, length, drop, flat_map, codes, Option, Some, None, IfSome, is_some, refl, sym, ap, subst, append_assoc, drop-drop}
 use Rattle.std.specs.Ordering.{int_eq}
 use Rattle.std.proofs.lemmas.List.{length-map}
 use Rattle.std.proofs.Math.Seq.{drop-append_seam}
@@ -11,25 +11,24 @@ use Rattle.inform_tree.specs.Conditions as c
 use Rattle.inform_meaning.specs.Worlds.{Program, Scope}
 use Rattle.inform_meaning.specs.Frames.{Outcome, Normal, Returns}
 use Rattle.inform_logic.specs.Stages.{Stage}
-use Rattle.inform_logic.specs.Leading.{Evaluates, Tests, Loops, Does, at_end, by_return}
-use Rattle.inform_logic.specs.Holding.{Has}
+use Rattle.inform_logic.specs.Leading.{Evaluates, Tests, Loops, Does, by_return}
 use Rattle.inform_logic.proofs.Lists.{map_at_rest, after_rest}
 use Rattle.inform_logic.proofs.Words.{small_number, counted_up, eq_is, ne_is}
 use Rattle.inform_logic.proofs.Values.{within, valued, number, local, entry, argument, called, call}
 use Rattle.inform_logic.proofs.Conditions.{compare, nonzero, all_of, all_hold, one_holds, one_fails}
 use Rattle.inform_logic.proofs.Changes.{set_variable, increment}
-use Rattle.inform_logic.proofs.Statements.{end, next, returns, assign, return, if_true, if_false}
+use Rattle.inform_logic.proofs.Statements.{end, next, returns, return, if_true, if_false}
 use Rattle.inform_logic.proofs.Loops.{for, for_once_more, for_ends, loop_returns}
 use Rattle.inform_logic.proofs.Routines.{does_within, routine}
 use Rattle.scott_types.specs.declared.commands.Column.{Column}
 use Rattle.scott_types.specs.Database.{Database}
 use Rattle.scott_types.specs.Limits.{KeepsLimits}
 use Rattle.scott_types.specs.ItemText.{is_starred}
-use Rattle.scott_rules.specs.Words.{is_empty, is_typed, spelling, column_of, entries_of, entry_from, which}
+use Rattle.scott_rules.specs.Words.{is_typed, spelling, column_of, entries_of, entry_from, which}
 use Rattle.trans_rows.specs.Tables.{bit, or_zero, guarded, entry_letters, word_letters, bases, bases_from, word_bases}
 use Rattle.trans_rows.specs.Views.{naturals}
 use Rattle.trans_rows.proofs.Lengths.{there, few}
-use Rattle.trans_words.proofs.Trees.{name, same_name, find_name, word_array, base_array, base_of, has_base, is_same, below_entries, find_loop, find_routine}
+use Rattle.trans_words.proofs.Trees.{name, find_name, word_array, base_array, base_of, has_base, is_same, below_entries, find_loop}
 use Rattle.trans_words.proofs.Held.{HasReader}
 use Rattle.trans_words.proofs.Matching.{is_word, agree, letters_long, agrees_is}
 use Rattle.trans_words.proofs.Letters.{HasWord, same_is}
@@ -265,9 +264,12 @@ module _ (p : Program) (w : Stage) (b : ℕ) (ws : List ℕ) (typed : is_word (b
                   → Finds (if t && true then Some own
                   else entry_from size word (Some own) (k + 1) entries) k
                   (suc up * entry_steps size + 1)
-              from true is = (scope k, within (omega arith) (loop_returns on refl
-                  (returns (if_true (all_of (one_holds (based (Some own) false left not_none)
-                  (one_holds (same true is) all_hold))) (returns (return here))))))
+              from true is = (
+                scope k,
+                within (omega arith) (loop_returns on refl
+                    (returns (if_true (all_of (one_holds (based (Some own) false left not_none)
+                    (one_holds (same true is) all_hold))) (returns (return here))))),
+              )
               from false is = on_from (entry_from size word (Some own) (k + 1) entries)
                   (6 * size + 7) (omega arith)
                   (λ s e most more. within (omega arith) (for_once_more on

@@ -1,5 +1,5 @@
 -- The base entry that a first word names, which may be a letter.
-use Rattle.std.proofs.Common.{◌≡◌, ◌∙◌, arith, ℕ, zero, suc, ◌+◌, ◌*◌, ◌<◌, ◌≤◌, ℤ, pos, nat_eq, Bool, true, false, ◌&&◌, if◌then◌else◌, List, [], ◌∷◌, length, drop, slice_get, codes, Option, Some, None, bytes_eq, inl, inr, ◌⊎◌, refl, sym, ap, subst}
+use Rattle.std.proofs.Common.{◌≡◌, ◌∙◌, arith, ℕ, suc, ◌+◌, ◌<◌, pos, nat_eq, Bool, true, false, ◌&&◌, if◌then◌else◌, List, [], ◌∷◌, length, drop, slice_get, codes, Some, None, bytes_eq, inl, inr, ◌⊎◌, refl, sym, ap, subst}
 use Rattle.std.proofs.Math.Bool.{and-false}
 use Rattle.std.proofs.lemmas.List.{length-map}
 use Rattle.inform_tree.specs.declared.conditions.Relation.TheVariants.{Eq}
@@ -8,10 +8,9 @@ use Rattle.inform_tree.specs.Conditions as c
 use Rattle.inform_tree.specs.Statements as s
 use Rattle.inform_tree.specs.Statements.{Cases}
 use Rattle.inform_meaning.specs.Worlds.{Program, Scope}
-use Rattle.inform_meaning.specs.Frames.{Outcome, Normal, Returns}
+use Rattle.inform_meaning.specs.Frames.{Normal, Returns}
 use Rattle.inform_logic.specs.Stages.{Stage}
 use Rattle.inform_logic.specs.Leading.{Leads, TheCases, Evaluates, Tests, Runs, Does, by_return}
-use Rattle.inform_logic.specs.Holding.{routine_at}
 use Rattle.inform_logic.proofs.Words.{small_number, eq_is}
 use Rattle.inform_logic.proofs.Values.{within, valued, number, local, entry, argument, called, call}
 use Rattle.inform_logic.proofs.Conditions.{compare, all_of, all_hold, one_holds, one_fails}
@@ -25,7 +24,7 @@ use Rattle.scott_rules.specs.Words.{column_of, entries_of, which}
 use Rattle.scott_rules.specs.Commands.{whole_word}
 use Rattle.trans_rows.specs.Tables.{or_zero}
 use Rattle.trans_rows.proofs.Bounds.{below_entry}
-use Rattle.trans_words.proofs.Trees.{name, byte, find_name, first_name, word_array, base_array, letter_case, letter_cases, is_letter, first_routine}
+use Rattle.trans_words.proofs.Trees.{name, byte, find_name, first_name, word_array, base_array, letter_case, letter_cases, is_letter}
 use Rattle.trans_words.proofs.Held.{word_number, HasReader}
 use Rattle.trans_words.proofs.Matching.{is_word}
 use Rattle.trans_words.proofs.Standing.{byte_there}
@@ -36,9 +35,14 @@ use Rattle.trans_words.proofs.Finding.{some_words, few_words, HasColumn, find_st
 pub named_small : (db : Database) (column : Column) → KeepsLimits db → (word : List ℕ)
     → or_zero (which db column word) < 1000
 named_small db column limits word = below_entry 1000 (omega arith) db.header.length word None 1
-    (drop 1 (entries_of db column)) (omega (arith, few_words db limits, some_words db limits,
-    length-map db.words (column_of column), count_rest (entries_of db column)
-    (omega (arith, length-map db.words (column_of column), some_words db limits))))
+    (drop 1 (entries_of db column)) (omega (
+      arith,
+      few_words db limits,
+      some_words db limits,
+      length-map db.words (column_of column),
+      count_rest (entries_of db column)
+          (omega (arith, length-map db.words (column_of column), some_words db limits)),
+    ))
     (omega arith)
 
 -- a first word as it is looked up, where the second word has so many bytes

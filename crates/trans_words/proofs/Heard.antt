@@ -1,17 +1,17 @@
 -- What is heard, by what the two words name.
-use Rattle.std.proofs.Common.{◌≡◌, ◌∙◌, arith, ℕ, suc, ◌+◌, ◌<◌, ◌≤◌, ◌==◌, nat_eq, Bool, true, false, if◌then◌else◌, List, [], ◌∷◌, take, drop, Option, Some, None, IfSome, is_some, is_none, refl, sym, ap, subst}
+use Rattle.std.proofs.Common.{◌≡◌, ◌∙◌, arith, ℕ, ◌+◌, ◌≤◌, ◌==◌, nat_eq, Bool, true, false, if◌then◌else◌, List, [], ◌∷◌, take, drop, Option, Some, None, IfSome, is_some, refl, sym, ap}
 use Rattle.std.specs.Prelude.{◌&&◌}
 use Rattle.std.specs.List.{list_all}
 use Rattle.adv_io.specs.TypedLine.{is_line_byte}
 use Rattle.scott_types.specs.declared.commands.Column.{Column}
 use Rattle.scott_types.specs.declared.commands.Column.TheVariants.{Verbs, Nouns}
 use Rattle.scott_types.specs.declared.commands.Heard.{Heard}
-use Rattle.scott_types.specs.declared.commands.Heard.TheVariants.{Blank, Unknown, Command}
+use Rattle.scott_types.specs.declared.commands.Heard.TheVariants.{Unknown, Command}
 use Rattle.scott_types.specs.Database.{Database}
 use Rattle.scott_types.specs.Limits.{KeepsLimits}
 use Rattle.scott_types.specs.ItemText.{is_starred}
 use Rattle.scott_rules.specs.Words.{is_typed, spelling, entries_of, entry_from, which}
-use Rattle.scott_rules.specs.Commands.{Span, span_of, split, is_direction, whole_word, word_or_none, noun_named, first_word, by_verb, by_direction, heard_words, heard}
+use Rattle.scott_rules.specs.Commands.{Span, span_of, split, is_direction, whole_word, noun_named, first_word, by_verb, by_direction, heard_words, heard}
 use Rattle.trans_rows.specs.Tables.{or_zero}
 use Rattle.trans_rows.specs.WordRows.{verb_heard, noun_heard}
 use Rattle.trans_words.proofs.Splitting.{start, size, later, later_size, word, noun, first_is, second_is, is_zero}

@@ -1,18 +1,17 @@
 -- A letter of a word, and whether a word has the letters of an entry.
-use Rattle.std.proofs.Common.{◌≡◌, ◌∙◌, arith, ℕ, suc, ◌+◌, ◌*◌, ◌<◌, ◌≤◌, ℤ, pos, nat_eq, nat_lt, Bool, true, false, not, ◌&&◌, if◌then◌else◌, List, [], ◌∷◌, ◌++◌, map, length, drop, codes, Option, Some, refl, sym, ap, subst, drop-drop}
-use Rattle.std.specs.Ordering.{int_eq}
+use Rattle.std.proofs.Common.{◌≡◌, ◌∙◌, arith, ℕ, suc, ◌+◌, ◌*◌, ◌<◌, ◌≤◌, ℤ, pos, nat_eq, nat_lt, Bool, true, false, not, ◌&&◌, List, [], ◌∷◌, ◌++◌, length, drop, codes, Option, Some, refl, sym, ap, subst, drop-drop}
 use Rattle.std.proofs.lemmas.List.{length-drop}
 use Rattle.inform_meaning.specs.Worlds.{Program, Scope}
 use Rattle.inform_meaning.specs.Frames.{Normal, Returns}
 use Rattle.inform_logic.specs.Stages.{Stage}
-use Rattle.inform_logic.specs.Leading.{Tests, Loops, Does, at_end, by_return}
+use Rattle.inform_logic.specs.Leading.{Tests, Loops, Does, by_return}
 use Rattle.inform_logic.specs.Holding.{Has}
 use Rattle.inform_logic.proofs.Lists.{map_at_rest, after_rest}
 use Rattle.inform_logic.proofs.Words.{small_number, small_sum, small_product, counted_up, ne_is}
 use Rattle.inform_logic.proofs.Values.{within, valued, number, local, entry, sum_of_two, product_of_two, argument, called, call}
 use Rattle.inform_logic.proofs.Conditions.{compare}
 use Rattle.inform_logic.proofs.Changes.{set_variable, increment}
-use Rattle.inform_logic.proofs.Statements.{end, next, returns, assign, return, return_true, return_false, if_true, if_false}
+use Rattle.inform_logic.proofs.Statements.{end, next, returns, return, return_true, return_false, if_true, if_false}
 use Rattle.inform_logic.proofs.Loops.{for, for_once_more, for_ends, loop_returns}
 use Rattle.inform_logic.proofs.Routines.{does_within, routine}
 use Rattle.scott_types.specs.declared.commands.Column.{Column}
@@ -131,11 +130,17 @@ module _ (p : Program) (w : Stage) (word : List ℕ) (a : ℕ)
           from true is true rest = within (omega arith) (for_once_more on
               (next (if_false (differs true is) end) end)
               (increment refl (counted_up p.width i (omega (arith, all, small)))) rest)
-          from true is false rest = (rest.0, within (omega arith) (for_once_more on
-              (next (if_false (differs true is) end) end)
-              (increment refl (counted_up p.width i (omega (arith, all, small)))) rest.1))
-          from false is more rest = (scope i, within (omega arith) (loop_returns on refl
-              (returns (if_true (differs false is) (returns return_false)))))
+          from true is false rest = (
+            rest.0,
+            within (omega arith) (for_once_more on
+                (next (if_false (differs true is) end) end)
+                (increment refl (counted_up p.width i (omega (arith, all, small)))) rest.1),
+          )
+          from false is more rest = (
+            scope i,
+            within (omega arith) (loop_returns on refl
+                (returns (if_true (differs false is) (returns return_false)))),
+          )
 
   -- so many steps at most
   pub same_is : (column : Column) (size k : ℕ) (table letters rest : List ℕ) (d : ℕ)

@@ -10,3 +10,4 @@ pub mod Heard
 pub mod Scanning
 pub mod Commands
 pub mod Reading
+pub mod Formed

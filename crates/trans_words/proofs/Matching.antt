@@ -1,5 +1,5 @@
 -- A word that is typed has the letters of an entry exactly where the rules say that it matches.
-use Rattle.std.proofs.Common.{◌≡◌, ◌∙◌, arith, ℕ, zero, suc, ◌+◌, ◌-◌, ◌<◌, ◌≤◌, nat_eq, Bool, true, false, not, ◌&&◌, if◌then◌else◌, List, [], ◌∷◌, ◌++◌, map, length, take, drop, replicate, bytes_eq, refl, sym, ap, true≢false}
+use Rattle.std.proofs.Common.{◌≡◌, ◌∙◌, arith, ℕ, zero, suc, ◌-◌, ◌≤◌, nat_eq, Bool, true, false, not, ◌&&◌, if◌then◌else◌, List, [], ◌∷◌, ◌++◌, map, length, take, drop, replicate, bytes_eq, refl, sym, ap, true≢false}
 use Rattle.std.specs.List.{list_all}
 use Rattle.std.specs.Char.{is_ascii_graphic, is_ascii_uppercase, to_ascii_lowercase}
 use Rattle.std.proofs.lemmas.Bool.{and_parts}
@@ -7,7 +7,7 @@ use Rattle.std.proofs.lemmas.List.{length-append, length-map, length-replicate}
 use Rattle.std.proofs.lemmas.Slice.Eq.{bytes_eq-Decides}
 use Rattle.inform_logic.specs.Stages.{plus}
 use Rattle.inform_logic.proofs.Steps.{plus_is}
-use Rattle.scott_rules.specs.Words.{is_empty, is_typed, spelling}
+use Rattle.scott_rules.specs.Words.{is_typed, spelling}
 use Rattle.scott_vocab.specs.Keys.{letters}
 use Rattle.trans_rows.specs.Tables.{filled_up, printed_letters, entry_letters}
 
@@ -95,12 +95,15 @@ key_agrees (x ∷ key) (b ∷ word) n graphic h =
     (and_parts (is_word_byte b) (is_word word) h).1)
 
 few_letters : (size : ℕ) (word : List ℕ) → length (letters size word) ≤ size
-few_letters size word = omega (arith, length-map (take size word) to_ascii_lowercase,
-    taken size word) where
-      taken : (n : ℕ) (xs : List ℕ) → length (take n xs) ≤ n
-      taken zero xs = omega arith
-      taken (suc n) [] = omega arith
-      taken (suc n) (x ∷ xs) = omega (arith, taken n xs)
+few_letters size word = omega (
+  arith,
+  length-map (take size word) to_ascii_lowercase,
+  taken size word,
+) where
+  taken : (n : ℕ) (xs : List ℕ) → length (take n xs) ≤ n
+  taken zero xs = omega arith
+  taken (suc n) [] = omega arith
+  taken (suc n) (x ∷ xs) = omega (arith, taken n xs)
 
 -- as many letters as count stand for an entry
 pub letters_long : (size : ℕ) (entry : List ℕ) → length (entry_letters size entry) ≡ size
@@ -120,45 +123,45 @@ letters_long size entry = from (list_all is_ascii_graphic (letters size (spellin
 -- ---- the bridge to the rules
 
 module _ (size : ℕ) (some : 1 ≤ size) (b : ℕ) (rest : List ℕ) (typed : is_word (b ∷ rest) ≡ true)
-    where
-  abbrev word : List ℕ
-  word = b ∷ rest
+  where
+    abbrev word : List ℕ
+    word = b ∷ rest
 
-  by_key : (key : List ℕ) → length key ≤ size
-      → agree (printed_letters size key) word ≡ bytes_eq key (take size word)
-  by_key key few = from (list_all is_ascii_graphic key) refl where
-    whole : plus (length key) (size - length key) ≡ size
-    whole = omega (arith, few, plus_is (length key) (size - length key))
+    by_key : (key : List ℕ) → length key ≤ size
+        → agree (printed_letters size key) word ≡ bytes_eq key (take size word)
+    by_key key few = from (list_all is_ascii_graphic key) refl where
+      whole : plus (length key) (size - length key) ≡ size
+      whole = omega (arith, few, plus_is (length key) (size - length key))
 
-    from : (t : Bool) → list_all is_ascii_graphic key ≡ t
-        → agree (if t then filled_up size key else replicate size 0) word
-        ≡ bytes_eq key (take size word)
-    from true graphic = key_agrees key word (size - length key) graphic typed
-        ∙ ap (λ (n : ℕ). bytes_eq key (take n word)) whole
-    from false graphic = zeros_agree size word typed ∙ some_first size some
-        ∙ sym (differ (bytes_eq key (take size word)) refl) where
-      some_first : (n : ℕ) → 1 ≤ n → bytes_eq [] (take n word) ≡ false
-      some_first zero one = absurd (omega (arith, one))
-      some_first (suc n) one = refl
+      from : (t : Bool) → list_all is_ascii_graphic key ≡ t
+          → agree (if t then filled_up size key else replicate size 0) word
+          ≡ bytes_eq key (take size word)
+      from true graphic = key_agrees key word (size - length key) graphic typed
+          ∙ ap (λ (n : ℕ). bytes_eq key (take n word)) whole
+      from false graphic = zeros_agree size word typed ∙ some_first size some
+          ∙ sym (differ (bytes_eq key (take size word)) refl) where
+            some_first : (n : ℕ) → 1 ≤ n → bytes_eq [] (take n word) ≡ false
+            some_first zero one = absurd (omega (arith, one))
+            some_first (suc n) one = refl
 
-      differ : (t : Bool) → bytes_eq key (take size word) ≡ t → t ≡ false
-      differ false e = refl
-      differ true e = absurd (true≢false (sym (ap (list_all is_ascii_graphic)
-          ((bytes_eq-Decides key (take size word)).0 e)
-          ∙ first_graphic size word typed) ∙ graphic))
+            differ : (t : Bool) → bytes_eq key (take size word) ≡ t → t ≡ false
+            differ false e = refl
+            differ true e = absurd (true≢false (sym (ap (list_all is_ascii_graphic)
+                ((bytes_eq-Decides key (take size word)).0 e)
+                ∙ first_graphic size word typed) ∙ graphic))
 
-  -- the letters of an entry are those of a word exactly where the word is typed so
-  pub agrees_is : (entry : List ℕ)
-      → agree (entry_letters size entry) word ≡ is_typed size (spelling entry) word
-  agrees_is entry = by_key (letters size (spelling entry)) (few_letters size (spelling entry))
-      ∙ sym (ap (bytes_eq (letters size (spelling entry))) (lower_is size word typed))
-      ∙ there (spelling entry) where
-        there : (text : List ℕ)
-            → bytes_eq (letters size text) (map to_ascii_lowercase (take size word))
-            ≡ is_typed size text word
-        there [] = none size some where
-          none : (n : ℕ) → 1 ≤ n
-              → bytes_eq (letters n []) (map to_ascii_lowercase (take n word)) ≡ false
-          none zero one = absurd (omega (arith, one))
-          none (suc n) one = refl
-        there (x ∷ text) = refl
+    -- the letters of an entry are those of a word exactly where the word is typed so
+    pub agrees_is : (entry : List ℕ)
+        → agree (entry_letters size entry) word ≡ is_typed size (spelling entry) word
+    agrees_is entry = by_key (letters size (spelling entry)) (few_letters size (spelling entry))
+        ∙ sym (ap (bytes_eq (letters size (spelling entry))) (lower_is size word typed))
+        ∙ there (spelling entry) where
+          there : (text : List ℕ)
+              → bytes_eq (letters size text) (map to_ascii_lowercase (take size word))
+              ≡ is_typed size text word
+          there [] = none size some where
+            none : (n : ℕ) → 1 ≤ n
+                → bytes_eq (letters n []) (map to_ascii_lowercase (take n word)) ≡ false
+            none zero one = absurd (omega (arith, one))
+            none (suc n) one = refl
+          there (x ∷ text) = refl

@@ -1,15 +1,13 @@
 -- The reader finds in a line what the rules hear.
-use Rattle.std.proofs.Common.{◌≡◌, ◌∙◌, arith, ℕ, suc, ◌+◌, ◌-◌, ◌*◌, ◌<◌, ◌≤◌, ◌==◌, ℤ, pos, Bool, true, false, not, if◌then◌else◌, List, [], ◌∷◌, length, take, drop, slice_get, codes, Option, Some, None, unwrap_or, refl, sym, ap, subst}
-use Rattle.std.specs.List.{list_all}
-use Rattle.adv_io.specs.TypedLine.{IsTyped, is_line_byte}
-use Rattle.inform_tree.specs.declared.widths.Width.{Width}
+use Rattle.std.proofs.Common.{◌≡◌, ◌∙◌, arith, ℕ, suc, ◌+◌, ◌-◌, ◌*◌, ◌≤◌, ◌==◌, ℤ, pos, Bool, true, false, if◌then◌else◌, List, [], length, take, drop, codes, Option, Some, None, unwrap_or, refl, sym, ap, subst}
+use Rattle.adv_io.specs.TypedLine.{IsTyped}
 use Rattle.inform_tree.specs.declared.conditions.Relation.TheVariants.{Eq, Ne}
 use Rattle.inform_meaning.specs.Worlds.{Program}
 use Rattle.inform_logic.specs.Stages.{Stage, with_global}
 use Rattle.inform_logic.specs.Leading.{Does, at_end}
 use Rattle.inform_logic.proofs.Steps.{with_room}
 use Rattle.inform_logic.proofs.Words.{small_sum, small_difference, eq_is, ne_is}
-use Rattle.inform_logic.proofs.Values.{valued, number, local, global, entry, sum_of_two, argument, called, call}
+use Rattle.inform_logic.proofs.Values.{number, local, global, entry, sum_of_two, argument, called, call}
 use Rattle.inform_logic.proofs.Changes.{set_variable}
 use Rattle.inform_logic.proofs.Statements.{end, next, assign}
 use Rattle.inform_logic.proofs.Routines.{does_within, routine}
@@ -19,15 +17,15 @@ use Rattle.scott_types.specs.declared.commands.Column.TheVariants.{Verbs, Nouns}
 use Rattle.scott_types.specs.Database.{Database}
 use Rattle.scott_types.specs.Limits.{KeepsLimits}
 use Rattle.scott_rules.specs.Words.{which}
-use Rattle.scott_rules.specs.Commands.{Span, is_space, span_of, split, typed_noun}
+use Rattle.scott_rules.specs.Commands.{Span, is_space, span_of}
 use Rattle.trans_rows.specs.Tables.{or_zero}
-use Rattle.trans_rows.specs.Steps.{highest, share, reader_steps}
-use Rattle.trans_rows.specs.Standing.{HasTables, BytesAt, NounSeen, StandsFor, Ready, LineSeen, HasLine}
-use Rattle.trans_rows.specs.WordRows.{WordSeen, WordsRead, Reads, ReaderRow, reader_room}
+use Rattle.trans_rows.specs.Steps.{highest, reader_steps}
+use Rattle.trans_rows.specs.Standing.{HasTables, StandsFor, Ready, HasLine}
+use Rattle.trans_rows.specs.WordRows.{WordSeen, WordsRead, Reads}
 use Rattle.trans_words.specs.Laws.{LinesAreHeard}
 use Rattle.trans_words.proofs.Trees.{word_array, base_array}
 use Rattle.trans_words.proofs.Held.{HasReader, has_reader}
-use Rattle.trans_words.proofs.Standing.{Stands, by_bytes, to_bytes, stands_after, stands_first}
+use Rattle.trans_words.proofs.Standing.{by_bytes, to_bytes, stands_after, stands_first}
 use Rattle.trans_words.proofs.Splitting as l
 use Rattle.trans_words.proofs.Splitting.{in_word}
 use Rattle.trans_words.proofs.Letters.{HasWord}

@@ -1,5 +1,5 @@
 -- The ends of spaces and of words in a line.
-use Rattle.std.proofs.Common.{◌≡◌, ◌∙◌, arith, ℕ, suc, ◌+◌, ◌*◌, ◌<◌, ◌≤◌, ℤ, pos, nat_lt, Bool, true, false, cond, List, [], ◌∷◌, length, drop, slice_get, codes, Option, Some, refl, sym, ap, subst}
+use Rattle.std.proofs.Common.{◌≡◌, ◌∙◌, arith, ℕ, suc, ◌+◌, ◌*◌, ◌≤◌, ℤ, pos, nat_lt, Bool, true, false, cond, List, [], ◌∷◌, length, drop, slice_get, codes, Option, Some, refl, ap, subst}
 use Rattle.std.specs.List.{prefix_len}
 use Rattle.std.proofs.lemmas.List.{length-drop}
 use Rattle.inform_tree.specs.declared.conditions.Relation.{Relation}

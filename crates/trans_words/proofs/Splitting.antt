@@ -1,5 +1,5 @@
 -- The words of a line.
-use Rattle.std.proofs.Common.{◌≡◌, ◌∙◌, arith, ℕ, zero, suc, ◌+◌, ◌-◌, ◌<◌, ◌≤◌, ◌==◌, ◌||◌, Bool, true, false, not, ◌&&◌, cond, if◌then◌else◌, List, [], ◌∷◌, length, take, drop, Option, Some, None, is_none, refl, sym, ap, drop-drop, zero-add, length-take}
+use Rattle.std.proofs.Common.{◌≡◌, ◌∙◌, arith, ℕ, zero, suc, ◌+◌, ◌≤◌, ◌==◌, ◌||◌, Bool, true, false, not, ◌&&◌, cond, if◌then◌else◌, List, [], ◌∷◌, length, take, drop, Some, None, refl, sym, ap, drop-drop, zero-add, length-take}
 use Rattle.std.specs.List.{list_all, prefix_len}
 use Rattle.std.specs.Char.{is_ascii_graphic, is_ascii_uppercase}
 use Rattle.std.proofs.lemmas.Bool.{and_parts}
@@ -7,7 +7,7 @@ use Rattle.std.proofs.lemmas.List.{length-drop}
 use Rattle.std.proofs.lemmas.List.Sums.{prefix_len-le-length}
 use Rattle.adv_io.specs.Text.{space}
 use Rattle.adv_io.specs.TypedLine.{is_line_byte}
-use Rattle.scott_rules.specs.Commands.{is_space, Span, span_of, next_word, word_after, word_at, word_or_none, split, typed_noun}
+use Rattle.scott_rules.specs.Commands.{is_space, span_of, word_after, word_or_none, split, typed_noun}
 use Rattle.trans_words.proofs.Matching.{is_word_byte, is_word}
 
 abbrev pub in_word : ℕ → Bool

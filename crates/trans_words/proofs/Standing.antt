@@ -1,8 +1,7 @@
 -- Bytes that stand among the entries of an array.
-use Rattle.std.proofs.Common.{◌≡◌, ◌∙◌, arith, ℕ, zero, suc, ◌+◌, ◌-◌, ◌<◌, ◌≤◌, ℤ, pos, List, [], ◌∷◌, ◌++◌, map, length, take, drop, slice_get, Option, Some, refl, sym, ap, append_assoc, drop-drop, zero-add}
-use Rattle.std.proofs.lemmas.List.{map-append, length-map, take-append-drop, drop-append-le}
+use Rattle.std.proofs.Common.{◌≡◌, ◌∙◌, arith, ℕ, zero, suc, ◌+◌, ◌≤◌, ℤ, pos, List, [], ◌∷◌, ◌++◌, length, take, drop, slice_get, Option, Some, refl, sym, ap, append_assoc, drop-drop, zero-add}
+use Rattle.std.proofs.lemmas.List.{map-append, length-map, take-append-drop}
 use Rattle.std.proofs.Math.Seq.{take-append_seam}
-use Rattle.inform_logic.proofs.Lists.{at_rest}
 use Rattle.trans_rows.specs.Views.{naturals}
 use Rattle.trans_rows.specs.Standing.{BytesAt}
 
