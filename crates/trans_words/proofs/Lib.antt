@@ -11,3 +11,4 @@ pub mod Scanning
 pub mod Commands
 pub mod Reading
 pub mod Formed
+pub mod Called

@@ -10,5 +10,7 @@ mod directives;
 
 // Laws.
 pub mod laws;
+#[cfg(test)]
+mod tests;
 
 pub use directives::words;
