@@ -1,5 +1,5 @@
 -- The routines call no others.
-use Rattle.std.proofs.Common.{◌≡◌, refl}
+use Rattle.std.proofs.Common.{refl}
 use Rattle.inform_codes.specs.Grown.{body_of}
 use Rattle.trans_words.specs.Laws.{ReaderCallsItself}
 

@@ -23,7 +23,8 @@ use Rattle.trans_words.proofs.Trees.{name, is_way, word_array, base_array}
 use Rattle.trans_words.proofs.Held.{HasReader}
 use Rattle.trans_words.proofs.Matching.{is_word}
 use Rattle.trans_words.proofs.Letters.{HasWord}
-use Rattle.trans_words.proofs.Finding.{HasColumn, find_steps, find_is}
+use Rattle.trans_words.proofs.Tables.{HasColumn}
+use Rattle.trans_words.proofs.Finding.{find_steps, find_is}
 use Rattle.trans_words.proofs.First.{spoken, first_steps, first_is}
 use Rattle.trans_words.proofs.Heard.{verb_by}
 

@@ -29,7 +29,8 @@ use Rattle.trans_words.proofs.Held.{word_number, HasReader}
 use Rattle.trans_words.proofs.Matching.{is_word}
 use Rattle.trans_words.proofs.Standing.{byte_there}
 use Rattle.trans_words.proofs.Letters.{HasWord}
-use Rattle.trans_words.proofs.Finding.{some_words, few_words, HasColumn, find_steps, find_is, count_rest}
+use Rattle.trans_words.proofs.Tables.{some_words, few_words, HasColumn, count_rest}
+use Rattle.trans_words.proofs.Finding.{find_steps, find_is}
 
 -- what a word names is the number of an entry
 pub named_small : (db : Database) (column : Column) → KeepsLimits db → (word : List ℕ)

@@ -13,7 +13,7 @@ use Rattle.scott_rules.specs.Words.{which}
 use Rattle.trans_rows.specs.Tables.{or_zero}
 use Rattle.trans_words.specs.Laws.{ReaderIsFormed}
 use Rattle.trans_words.specs.Directives.{line_directives, column_names, column_rows, column_directives}
-use Rattle.trans_words.proofs.Finding.{few_words}
+use Rattle.trans_words.proofs.Tables.{few_words}
 use Rattle.trans_words.proofs.First.{named_small}
 
 few_is_number : (n : ℕ) → n ≤ 1000 → is_number n ≡ true

@@ -15,7 +15,7 @@ use Rattle.scott_rules.specs.Commands.{Span, span_of, split, is_direction, whole
 use Rattle.trans_rows.specs.Tables.{or_zero}
 use Rattle.trans_rows.specs.WordRows.{verb_heard, noun_heard}
 use Rattle.trans_words.proofs.Splitting.{start, size, later, later_size, word, noun, first_is, second_is, is_zero}
-use Rattle.trans_words.proofs.Finding.{nothing_named}
+use Rattle.trans_words.proofs.Tables.{nothing_named}
 use Rattle.trans_words.proofs.First.{spoken}
 
 -- the verb and the noun, by the noun and the verb that the first word names, and the noun that the

@@ -4,6 +4,7 @@ pub mod Standing
 pub mod Matching
 pub mod Splitting
 pub mod Letters
+pub mod Tables
 pub mod Finding
 pub mod First
 pub mod Heard

@@ -29,7 +29,8 @@ use Rattle.trans_words.proofs.Standing.{by_bytes, to_bytes, stands_after, stands
 use Rattle.trans_words.proofs.Splitting as l
 use Rattle.trans_words.proofs.Splitting.{in_word}
 use Rattle.trans_words.proofs.Letters.{HasWord}
-use Rattle.trans_words.proofs.Finding.{some_words, HasColumn, find_steps}
+use Rattle.trans_words.proofs.Tables.{some_words, HasColumn}
+use Rattle.trans_words.proofs.Finding.{find_steps}
 use Rattle.trans_words.proofs.First.{spoken, first_is}
 use Rattle.trans_words.proofs.Heard.{verb_by, noun_by, line_verb, line_noun, verb_of_line, noun_of_line}
 use Rattle.trans_words.proofs.Scanning.{LineThere, after_is}
