@@ -115,8 +115,8 @@ module _ (p : Program) (w : Stage) (b : ℕ) (ws : List ℕ) (typed : is_word (b
         on : Tests p (suc (suc d)) (below_entries (length db.words)) (scope k) w true w 0
         on = compare (local refl) (valued (small_number p.width small) number) under
 
-        up : ℕ
-        up = length entries
+        count : ℕ
+        count = length entries
 
         -- whether the entry has the letters of the word
         same : (t : Bool) → is_typed size (spelling text) word ≡ t
@@ -146,7 +146,7 @@ module _ (p : Program) (w : Stage) (b : ℕ) (ws : List ℕ) (typed : is_word (b
             (ne_is (or_zero nearest) 0 ∙ ap not is)
 
         more_steps : (n : ℕ) → n ≤ 6 * size + 7
-            → n + (up * entry_steps size + 1) ≤ suc up * entry_steps size + 1
+            → n + (count * entry_steps size + 1) ≤ suc count * entry_steps size + 1
         more_steps n small_n = omega (arith, small_n)
 
         -- on to the next entry
@@ -155,20 +155,20 @@ module _ (p : Program) (w : Stage) (b : ℕ) (ws : List ℕ) (typed : is_word (b
             (find_loop column (length db.words)) (scope (k + 1)) w e s w most
             → Loops p (suc (suc d)) (find_loop column (length db.words)) (scope k) w e s w
             (n + most))
-            → Finds o (k + 1) (up * entry_steps size + 1)
-            → Finds o k (suc up * entry_steps size + 1)
+            → Finds o (k + 1) (count * entry_steps size + 1)
+            → Finds o k (suc count * entry_steps size + 1)
         on_from None n small_n turn after = within (more_steps n small_n) (turn _ _ _ after)
         on_from (Some own) n small_n turn after =
             (after.0, within (more_steps n small_n) (turn _ _ _ after.1))
 
         pick : (nearest : Option ℕ) → Left nearest → IfSome nearest (λ n. 1 ≤ n)
             → Finds (entry_from size word nearest (k + 1) entries) (k + 1)
-            (up * entry_steps size + 1)
+            (count * entry_steps size + 1)
             → Finds (if is_typed size (spelling text) word && is_some nearest then nearest
-            else entry_from size word nearest (k + 1) entries) k (suc up * entry_steps size + 1)
+            else entry_from size word nearest (k + 1) entries) k (suc count * entry_steps size + 1)
         pick None left some after = subst
             (λ (t : Bool). Finds (if t then None else entry_from size word None (k + 1) entries) k
-            (suc up * entry_steps size + 1))
+            (suc count * entry_steps size + 1))
             (sym (and-false (is_typed size (spelling text) word)))
             (on_from (entry_from size word None (k + 1) entries) 3 (omega arith)
             (λ s e most more. within (omega arith) (for_once_more on
@@ -186,7 +186,7 @@ module _ (p : Program) (w : Stage) (b : ℕ) (ws : List ℕ) (typed : is_word (b
               from : (t : Bool) → is_typed size (spelling text) word ≡ t
                   → Finds (if t && true then Some own
                   else entry_from size word (Some own) (k + 1) entries) k
-                  (suc up * entry_steps size + 1)
+                  (suc count * entry_steps size + 1)
               from true is = (
                 scope k,
                 within (omega arith) (loop_returns on refl

@@ -50,10 +50,6 @@ word_bytes (x ∷ xs) h = from (in_word x) refl (word_bytes xs parts.1) where
       rw one_more (rw (in_word_is x parts.0 is, more) refl)
   from false is more = refl
 
--- no word is longer than what is left
-few_spaces : (p : ℕ → Bool) (xs : List ℕ) → prefix_len p xs ≤ length xs
-few_spaces p xs = prefix_len-le-length p xs
-
 -- where no word follows the spaces, nothing does
 nothing_left : (xs : List ℕ) → word_size (drop (spaces xs) xs) ≡ 0 → drop (spaces xs) xs ≡ []
 nothing_left [] h = refl

@@ -1,6 +1,7 @@
-//! What the word reader does, that it can be written, and what it calls. Each is the contract of a
-//! function that does nothing.
+//! What the word reader does, that it can be written, what it calls, and its numbers for a small
+//! game. Each is the contract of a function that does nothing.
 ghost use Rattle.trans_words.specs.Laws.{LinesAreHeard, ReaderIsFormed, ReaderCallsItself};
+ghost use Rattle.trans_words.specs.Worked.{HillNumbers};
 
 /// The reader finds in a typed line what the rules hear.
 pub fn words_owe()
@@ -15,4 +16,9 @@ pub fn words_formed()
 /// Its routines call no others.
 pub fn words_call_themselves()
     ensures { ReaderCallsItself }
+{}
+
+/// What the seven letters stand for in the game of the hall and the hill.
+pub fn hill_numbers()
+    ensures { HillNumbers }
 {}
