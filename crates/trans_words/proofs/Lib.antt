@@ -1,0 +1,15 @@
+pub mod Trees
+pub mod Held
+pub mod Standing
+pub mod Matching
+pub mod Splitting
+pub mod Letters
+pub mod Tables
+pub mod Finding
+pub mod First
+pub mod Heard
+pub mod Scanning
+pub mod Commands
+pub mod Reading
+pub mod Formed
+pub mod Called

@@ -1,0 +1,211 @@
+-- The routines as trees, spelled out.
+use Rattle.std.specs.Prelude.{ℕ, true, false, List, [], ◌∷◌, codes, Some, None}
+use Rattle.inform_tree.specs.declared.values.Const.TheVariants as k
+use Rattle.inform_tree.specs.declared.values.SumOp.TheVariants.{Add, Sub}
+use Rattle.inform_tree.specs.declared.values.ProdOp.TheVariants.{Mul}
+use Rattle.inform_tree.specs.declared.conditions.Relation.{Relation}
+use Rattle.inform_tree.specs.declared.conditions.Relation.TheVariants.{Eq, Ne, Lt, Le}
+use Rattle.inform_tree.specs.Values as v
+use Rattle.inform_tree.specs.Values.{Expression}
+use Rattle.inform_tree.specs.Conditions as c
+use Rattle.inform_tree.specs.Conditions.{Condition}
+use Rattle.inform_tree.specs.Statements as s
+use Rattle.inform_tree.specs.Statements.{Statement, Statements, Cases, statements}
+use Rattle.inform_tree.specs.Programs.{RoutineTree}
+use Rattle.inform_meaning.specs.Frames.{Loop}
+use Rattle.inform_meaning.specs.Statements.{while_loop, for_loop}
+use Rattle.scott_types.specs.declared.commands.Column.{Column}
+use Rattle.scott_types.specs.declared.commands.Column.TheVariants.{Verbs, Nouns}
+
+-- ---- short words
+
+abbrev pub routine : List ℕ → List (List ℕ) → List Statement → RoutineTree
+routine name locals body = record { name = name; locals = locals; body = statements body }
+
+abbrev pub name : List ℕ → Expression
+name x = v.Name x
+
+abbrev pub byte : List ℕ → Expression → Expression
+byte a x = v.Entry a false x
+
+abbrev pub sum : Expression → Expression → Expression
+sum x y = v.Sum x (v.terms ((Add, y) ∷ []))
+
+abbrev pub difference : Expression → Expression → Expression
+difference x y = v.Sum x (v.terms ((Sub, y) ∷ []))
+
+abbrev pub product : Expression → Expression → Expression
+product x y = v.Product x (v.factors ((Mul, y) ∷ []))
+
+abbrev pub call : List ℕ → List Expression → Expression
+call f xs = v.Call f (v.arguments xs)
+
+abbrev pub both : Condition → Condition → Condition
+both x y = c.All (c.conditions (x ∷ y ∷ []))
+
+abbrev pub if_only : Condition → List Statement → Statement
+if_only x body = s.If x (statements body) s.NoStatements
+
+abbrev pub set : List ℕ → Expression → Statement
+set x y = s.Assign (s.Set x y)
+
+abbrev pub return : Expression → Statement
+return x = s.Return (Some x)
+
+-- ---- the end of spaces, and of a word
+
+abbrev pub below_end : Condition
+below_end = c.Compare Lt (name (codes "i")) (name (codes "e"))
+
+abbrev pub is_space : Relation → Condition
+is_space op = c.Compare op (byte (codes "buf") (name (codes "i"))) (v.Number 32)
+
+abbrev pub after_loop : Relation → Loop
+after_loop op =
+    while_loop (both below_end (is_space op)) (statements (s.Assign (s.Inc (codes "i")) ∷ []))
+
+abbrev pub after_routine : List ℕ → Relation → RoutineTree
+after_routine f op = routine f (codes "i" ∷ codes "e" ∷ [])
+    (s.While (both below_end (is_space op)) (after_loop op).body ∷ return (name (codes "i")) ∷ [])
+
+-- ---- a letter of a word
+
+abbrev pub letter_routine : RoutineTree
+letter_routine = routine (codes "letter") (codes "a" ∷ codes "n" ∷ codes "i" ∷ [])
+    (if_only (c.Compare Lt (name (codes "i")) (name (codes "n")))
+    (return (byte (codes "buf") (sum (name (codes "a")) (name (codes "i")))) ∷ [])
+    ∷ return (v.Number 0) ∷ [])
+
+-- ---- the names of a column
+
+abbrev pub same_name : Column → List ℕ
+same_name Verbs = codes "same_verb"
+same_name Nouns = codes "same_noun"
+
+abbrev pub find_name : Column → List ℕ
+find_name Verbs = codes "find_verb"
+find_name Nouns = codes "find_noun"
+
+abbrev pub first_name : Column → List ℕ
+first_name Verbs = codes "first_verb"
+first_name Nouns = codes "first_noun"
+
+abbrev pub word_array : Column → List ℕ
+word_array Verbs = codes "vword"
+word_array Nouns = codes "nword"
+
+abbrev pub base_array : Column → List ℕ
+base_array Verbs = codes "vroot"
+base_array Nouns = codes "nroot"
+
+-- ---- whether a word has the letters of an entry
+
+abbrev pub letter_differs : Column → ℕ → Condition
+letter_differs column size = c.Compare Ne
+    (call (codes "letter") (name (codes "a") ∷ name (codes "n") ∷ name (codes "i") ∷ []))
+    (byte (word_array column) (sum (product (v.Number size) (name (codes "k"))) (name (codes "i"))))
+
+abbrev pub below_size : ℕ → Condition
+below_size size = c.Compare Lt (name (codes "i")) (v.Number size)
+
+abbrev pub same_loop : Column → ℕ → Loop
+same_loop column size = for_loop (Some (below_size size)) (Some (s.Inc (codes "i")))
+    (statements (if_only (letter_differs column size) (s.Rfalse ∷ []) ∷ []))
+
+abbrev pub same_routine : Column → ℕ → RoutineTree
+same_routine column size = routine (same_name column)
+    (codes "a" ∷ codes "n" ∷ codes "k" ∷ codes "i" ∷ [])
+    (s.For (Some (s.Set (codes "i") (v.Number 0))) (Some (below_size size))
+    (Some (s.Inc (codes "i"))) (same_loop column size).body ∷ s.Rtrue ∷ [])
+
+-- ---- the entry that a word names
+
+abbrev pub base_of : Column → Expression
+base_of column = v.Entry (base_array column) true (name (codes "k"))
+
+abbrev pub has_base : Column → Condition
+has_base column = c.Compare Ne (base_of column) (v.Number 0)
+
+abbrev pub is_same : Column → Condition
+is_same column = c.Nonzero (call (same_name column)
+    (name (codes "a") ∷ name (codes "n") ∷ name (codes "k") ∷ []))
+
+abbrev pub below_entries : ℕ → Condition
+below_entries entries = c.Compare Lt (name (codes "k")) (v.Number entries)
+
+abbrev pub find_loop : Column → ℕ → Loop
+find_loop column entries = for_loop (Some (below_entries entries)) (Some (s.Inc (codes "k")))
+    (statements (if_only (both (has_base column) (is_same column)) (return (base_of column) ∷ [])
+    ∷ []))
+
+abbrev pub find_routine : Column → ℕ → RoutineTree
+find_routine column entries = routine (find_name column) (codes "a" ∷ codes "n" ∷ codes "k" ∷ [])
+    (if_only (c.Compare Eq (name (codes "n")) (v.Number 0)) (return (v.Number 0) ∷ [])
+    ∷ s.For (Some (s.Set (codes "k") (v.Number 1))) (Some (below_entries entries))
+    (Some (s.Inc (codes "k"))) (find_loop column entries).body
+    ∷ return (v.Number 0) ∷ [])
+
+-- ---- the entry that a first word names
+
+abbrev pub letter_case : ℕ → ℕ → Cases → Cases
+letter_case letter number others =
+    s.MoreCases ((k.Number letter, None) ∷ []) (statements (return (v.Number number) ∷ [])) others
+
+-- the seven letters, each with the entry that its whole word names
+abbrev pub letter_cases : (ℕ → ℕ) → Cases
+letter_cases number = letter_case 110 (number 0) (letter_case 115 (number 1)
+    (letter_case 101 (number 2) (letter_case 119 (number 3) (letter_case 117 (number 4)
+    (letter_case 100 (number 5) (letter_case 105 (number 6) s.NoCases))))))
+
+abbrev pub is_letter : Condition
+is_letter = both (c.Compare Eq (name (codes "n")) (v.Number 1))
+    (c.Compare Eq (name (codes "m")) (v.Number 0))
+
+abbrev pub found : Column → Expression
+found column = call (find_name column) (name (codes "a") ∷ name (codes "n") ∷ [])
+
+abbrev pub first_routine : Column → (ℕ → ℕ) → RoutineTree
+first_routine column number = routine (first_name column) (codes "a" ∷ codes "n" ∷ codes "m" ∷ [])
+    (if_only is_letter
+    (s.Switch (byte (codes "buf") (name (codes "a"))) (letter_cases number) s.NoDefault ∷ [])
+    ∷ return (found column) ∷ [])
+
+-- ---- what a line means
+
+abbrev pub is_way : Condition
+is_way = both (c.Compare Lt (v.Number 0) (name (codes "x")))
+    (c.Compare Le (name (codes "x")) (v.Number 6))
+
+abbrev pub heard_verb_routine : RoutineTree
+heard_verb_routine = routine (codes "heard_verb")
+    (codes "x" ∷ codes "a" ∷ codes "n" ∷ codes "m" ∷ [])
+    (if_only is_way (return (v.Number 1) ∷ [])
+    ∷ return (call (codes "first_verb")
+    (name (codes "a") ∷ name (codes "n") ∷ name (codes "m") ∷ [])) ∷ [])
+
+abbrev pub heard_noun_routine : RoutineTree
+heard_noun_routine = routine (codes "heard_noun")
+    (codes "x" ∷ codes "v" ∷ codes "a" ∷ codes "n" ∷ [])
+    (if_only (c.Compare Eq (name (codes "v")) (v.Number 0)) (return (v.Number 0) ∷ [])
+    ∷ if_only is_way (return (name (codes "x")) ∷ [])
+    ∷ return (call (codes "find_noun") (name (codes "a") ∷ name (codes "n") ∷ [])) ∷ [])
+
+abbrev pub after : List ℕ → Expression → Expression
+after f x = call f (x ∷ name (codes "e") ∷ [])
+
+abbrev pub hear_routine : RoutineTree
+hear_routine = routine (codes "hear") (codes "e" ∷ codes "i" ∷ codes "x" ∷ [])
+    (set (codes "e") (sum (byte (codes "buf") (v.Number 1)) (v.Number 2))
+    ∷ set (codes "wa") (after (codes "after_spaces") (v.Number 2))
+    ∷ set (codes "i") (after (codes "after_word") (name (codes "wa")))
+    ∷ set (codes "na") (difference (name (codes "i")) (name (codes "wa")))
+    ∷ set (codes "wb") (after (codes "after_spaces") (name (codes "i")))
+    ∷ set (codes "i") (after (codes "after_word") (name (codes "wb")))
+    ∷ set (codes "nb") (difference (name (codes "i")) (name (codes "wb")))
+    ∷ set (codes "x") (call (codes "first_noun")
+    (name (codes "wa") ∷ name (codes "na") ∷ name (codes "nb") ∷ []))
+    ∷ set (codes "vnum") (call (codes "heard_verb")
+    (name (codes "x") ∷ name (codes "wa") ∷ name (codes "na") ∷ name (codes "nb") ∷ []))
+    ∷ set (codes "nnum") (call (codes "heard_noun")
+    (name (codes "x") ∷ name (codes "vnum") ∷ name (codes "wb") ∷ name (codes "nb") ∷ []))
+    ∷ [])

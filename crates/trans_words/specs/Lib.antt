@@ -1,0 +1,3 @@
+pub mod Directives
+pub mod Laws
+pub mod Worked

@@ -1,0 +1,67 @@
+//! With ample memory the directives of a database are made.
+use crate::words;
+use scott_types::{Action, Db, Header, Item, Parts, Room, Text, Trailer, Word};
+use std::alloc::Global;
+use std::test::Fail;
+
+fn empty_text(alloc: Global) -> Text {
+    Text::of(Vec::new(alloc))
+}
+
+const HEADER: Header = Header {
+    unused: 0,
+    carry: 0,
+    start: 0,
+    treasures: 0,
+    length: 3,
+    light: 0,
+    home: 0,
+};
+
+const ACTION: Action = Action {
+    vocab: 0,
+    conds: [0; 5],
+    pairs: [0; 2],
+};
+
+const TRAILER: Trailer = Trailer {
+    version: 0,
+    adventure: 0,
+    third: 0,
+};
+
+// One entry in each list, and each text empty.
+fn smallest(alloc: Global) -> Result<Parts, Fail> {
+    let word = Word {
+        verb: empty_text(alloc),
+        noun: empty_text(alloc),
+    };
+    let room = Room {
+        exits: [0; 6],
+        text: empty_text(alloc),
+    };
+    let item = Item {
+        text: empty_text(alloc),
+        place: 0,
+    };
+    Ok(Parts {
+        header: HEADER,
+        actions: vec![in alloc; ACTION]?,
+        words: vec![in alloc; word]?,
+        rooms: vec![in alloc; room]?,
+        messages: vec![in alloc; empty_text(alloc)]?,
+        items: vec![in alloc; item]?,
+        comments: vec![in alloc; empty_text(alloc)]?,
+        trailer: TRAILER,
+    })
+}
+
+#[test]
+fn routines_are_made(rt: HostRuntime) -> Result<(), Fail> {
+    let alloc = rt.alloc();
+    match Db::new(smallest(alloc)?) {
+        Ok(db) => assert_eq!(rt; words(alloc, &db)?.len(), 12),
+        Err(_) => Err("its limits")?,
+    }
+    Ok(())
+}
