@@ -1,5 +1,5 @@
 -- Whether the noun text is `all`.
-use Rattle.std.proofs.Common.{◌≡◌, ◌∙◌, arith, ℕ, zero, suc, ◌+◌, ◌<◌, ◌≤◌, ℤ, pos, nat_eq, Bool, true, false, not, ◌&&◌, List, [], ◌∷◌, length, take, drop, slice_get, codes, bytes_eq, Option, Some, None, unwrap_or, refl, sym, ap, subst}
+use Rattle.std.proofs.Common.{◌≡◌, ◌∙◌, arith, ℕ, zero, suc, ◌+◌, ◌<◌, ℤ, pos, nat_eq, Bool, true, false, not, ◌&&◌, List, [], ◌∷◌, length, take, drop, slice_get, codes, bytes_eq, Option, Some, unwrap_or, refl, sym, ap, subst}
 use Rattle.std.proofs.lemmas.Slice.Eq.{bytes_eq-Decides}
 use Rattle.inform_tree.specs.declared.values.SumOp.TheVariants.{Add}
 use Rattle.inform_tree.specs.declared.conditions.Relation.TheVariants.{Ne}

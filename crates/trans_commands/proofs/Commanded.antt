@@ -1,5 +1,5 @@
 -- A command.
-use Rattle.std.proofs.Common.{◌≡◌, ◌∙◌, arith, ℕ, suc, ◌+◌, ◌-◌, ◌<◌, ◌≤◌, ℤ, pos, nat_eq, nat_lt, nat_le, Bool, true, false, not, ◌&&◌, if◌then◌else◌, List, [], ◌∷◌, codes, length, Option, Some, None, refl, sym, ap, subst}
+use Rattle.std.proofs.Common.{◌≡◌, ◌∙◌, arith, ℕ, suc, ◌+◌, ◌-◌, ◌<◌, ◌≤◌, pos, nat_eq, nat_lt, Bool, true, false, not, if◌then◌else◌, List, [], ◌∷◌, codes, Option, Some, None, refl, subst}
 use Rattle.adv_io.specs.Steps.{Step, Traced}
 use Rattle.inform_meaning.specs.Worlds.{Program}
 use Rattle.inform_logic.specs.Stages.{Stage}
@@ -30,6 +30,7 @@ use Rattle.trans_commands.proofs.Left.{said_left, nothing_left}
 use Rattle.trans_commands.proofs.Spent.{obey_steps, walk_steps, command_fits}
 use Rattle.trans_commands.proofs.Acts.{CallActs, CallActsBy, acts_within, acts_call, acts_if, acts_next, acts_routine, returns_acts}
 use Rattle.trans_commands.proofs.Known.{Laws, Known}
+use Rattle.trans_commands.proofs.Tabled.{some_noun}
 use Rattle.trans_commands.proofs.Walked.{walk_acts}
 use Rattle.trans_commands.proofs.Obeyed.{obey_acts}
 
@@ -48,9 +49,6 @@ module _ {style : Style} {db : Database} {p : Program} (known : Known style db p
 
   is_going : nat_eq verb go_verb ≡ true → go_verb ≡ verb
   is_going h = grind (arith, h)
-
-  some_noun : (noun : ℕ) → 0 < noun → nat_eq noun 0 ≡ false
-  some_noun noun some = grind (arith, some)
 
   -- a noun from 1 on is a direction up to 6
   module _ (noun : ℕ) (some : 0 < noun) where

@@ -1,24 +1,20 @@
 -- The turns of getting and dropping all items.
-use Rattle.std.proofs.Common.{◌≡◌, ◌∙◌, arith, ℕ, suc, ◌+◌, ◌-◌, ◌*◌, ◌<◌, ◌≤◌, ℤ, pos, nat_lt, Bool, true, false, not, ◌||◌, if◌then◌else◌, List, [], ◌∷◌, ◌++◌, length, drop, codes, Option, Some, None, refl, sym, ap, subst, append_assoc, append-nil}
-use Rattle.std.specs.Ordering.{int_eq}
+use Rattle.std.proofs.Common.{◌≡◌, ◌∙◌, arith, ℕ, suc, ◌+◌, ◌-◌, ◌*◌, ◌<◌, ◌≤◌, pos, nat_lt, Bool, true, false, ◌||◌, List, [], ◌∷◌, ◌++◌, length, drop, codes, Option, Some, None, refl, sym, ap, subst, append_assoc, append-nil}
 use Rattle.adv_io.specs.Steps.{Step, Traced, after, said_steps}
-use Rattle.inform_tree.specs.Statements.{Statements}
 use Rattle.inform_meaning.specs.Worlds.{Program, Scope}
-use Rattle.inform_meaning.specs.Frames.{Loop, Normal, Breaks, Quits}
+use Rattle.inform_meaning.specs.Frames.{Loop, Normal, Quits}
 use Rattle.inform_meaning.specs.Runs.{Halted}
 use Rattle.inform_logic.specs.Stages.{Stage}
-use Rattle.inform_logic.specs.Leading.{TheTurns, Tests, TestsIfAny, Runs, Loops, by_return, at_end}
+use Rattle.inform_logic.specs.Leading.{TheTurns, TestsIfAny, Runs, Loops}
 use Rattle.inform_logic.specs.Stopping.{Stops, in_block, in_body, in_if, in_nonzero, in_call}
 use Rattle.inform_logic.proofs.Lists.{after_rest}
 use Rattle.inform_logic.proofs.Words.{small_number, counted_up}
 use Rattle.inform_logic.proofs.Values.{within, valued, number, local, call, argument, called}
-use Rattle.inform_logic.proofs.Conditions.{compare, nonzero, all_of, all_hold, one_holds, one_fails}
+use Rattle.inform_logic.proofs.Conditions.{compare, nonzero}
 use Rattle.inform_logic.proofs.Changes.{set_variable, increment}
-use Rattle.inform_logic.proofs.Printing.{print_nothing, print_text}
-use Rattle.inform_logic.proofs.Statements.{end, next, returns, breaks, assign, print, break, if_true, if_false, return_true}
-use Rattle.inform_logic.proofs.Loops.{turn, turn_goes_on, turn_ends, for, for_once_more, for_ends, loop_breaks}
-use Rattle.inform_logic.proofs.Routines.{does_within, routine}
-use Rattle.inform_logic.proofs.Stops.{later, handed_up, step_stops, called_stops, routine_stops}
+use Rattle.inform_logic.proofs.Statements.{end, next, breaks, assign, break, if_true, if_false}
+use Rattle.inform_logic.proofs.Loops.{turn, turn_goes_on, turn_ends, for_once_more, for_ends, loop_breaks}
+use Rattle.inform_logic.proofs.Stops.{later, handed_up, step_stops, called_stops}
 use Rattle.inform_codes.specs.Grown.{body_of}
 use Rattle.scott_types.specs.declared.states.State.{State}
 use Rattle.scott_types.specs.declared.styles.Style.{Style}
@@ -26,26 +22,21 @@ use Rattle.scott_types.specs.declared.parts.Item.{Item}
 use Rattle.scott_types.specs.declared.endings.Found.{Found}
 use Rattle.scott_types.specs.declared.endings.Found.TheVariants.{NoMatch, Matched, Done, Over}
 use Rattle.scott_types.specs.declared.endings.Transfer.{Transfer}
-use Rattle.scott_types.specs.declared.endings.Transfer.TheVariants.{PickUp, PutDown}
-use Rattle.scott_types.specs.declared.phrases.Phrase.TheVariants.{TooMuch, DarkGet, ItemDone}
+use Rattle.scott_types.specs.declared.phrases.Phrase.TheVariants.{TooMuch, ItemDone}
 use Rattle.scott_types.specs.Phrase.{text_of, text_in}
 use Rattle.scott_types.specs.ItemText.{shown}
 use Rattle.scott_types.specs.Database.{Database}
 use Rattle.scott_types.specs.Style.{in_style}
-use Rattle.scott_types.specs.State.{is_dark}
-use Rattle.scott_rules.specs.Transfer.{verb_for, is_taken, is_refused, is_too_dark, transferred, AllOutcome, all_moved, all_after, all_item, all_items, all_from, all_transferred, none_taken}
-use Rattle.trans_rows.proofs.Lengths.{few}
+use Rattle.scott_rules.specs.Transfer.{verb_for, is_taken, is_refused, transferred, AllOutcome, all_moved, all_after, all_item, all_items}
 use Rattle.trans_rows.specs.Tables.{bit}
 use Rattle.trans_rows.specs.Views.{Shows}
 use Rattle.trans_rows.specs.Standing.{StandsFor}
-use Rattle.trans_rows.specs.Steps.{text_steps}
-use Rattle.trans_rows.specs.Calls.{StageLeft, CallEndsGame}
-use Rattle.trans_rows.specs.CommandRows.{search_steps, search_room}
-use Rattle.trans_commands.proofs.Left.{said_left, nothing_left, left_then}
+use Rattle.trans_rows.specs.Calls.{StageLeft}
+use Rattle.trans_rows.specs.CommandRows.{search_room}
+use Rattle.trans_commands.proofs.Left.{nothing_left, left_then}
 use Rattle.trans_commands.proofs.Spent.{item_steps}
-use Rattle.trans_commands.proofs.Acts.{CallActs, returns_acts, stops_within}
-use Rattle.trans_commands.proofs.Blocks.{first_of, rest_of, loop_of, test_of}
-use Rattle.trans_commands.proofs.Known.{Known, body}
+use Rattle.trans_commands.proofs.Blocks.{first_of, rest_of, loop_of}
+use Rattle.trans_commands.proofs.Known.{Known, body, few_items}
 use Rattle.trans_commands.proofs.Tabled.{bit_tells}
 use Rattle.trans_commands.proofs.OneItem.{can_take}
 use Rattle.trans_commands.proofs.MovedNext.{item_search, NextLeaves, NextActs, move_next}
@@ -57,9 +48,6 @@ or_true false = refl
 
 module _ {style : Style} {db : Database} {p : Program} (known : Known style db p)
     (typed : List ℕ) (t : Transfer) (d : ℕ) (room : search_room ≤ suc (suc d)) where
-  pub few_items : length db.items ≤ 255
-  few_items = few 255 db.items known.limits.sizes.items
-
   -- so many calls may be opened in the routine
   abbrev pub depth : ℕ
   depth = suc (suc (suc d))
@@ -112,7 +100,7 @@ module _ {style : Style} {db : Database} {p : Program} (known : Known style db p
   module _ (i : ℕ) (less : i < length db.items) where
     on : (m : Bool) (w : Stage) → TestsIfAny p depth move_loop.test (at_item i m) w true w 0
     unfolding body_of
-    on m w = compare (local refl) (valued (small_number p.width (omega (arith, few_items))) number)
+    on m w = compare (local refl) (valued (small_number p.width (omega (arith, few_items known))) number)
         under where
           under : nat_lt i (length db.items) ≡ true
           under = grind (arith, less)
@@ -135,7 +123,7 @@ module _ {style : Style} {db : Database} {p : Program} (known : Known style db p
             mark_is = more.mark_is ∙ same;
             after = more.after;
             turns = within (omega arith) (for_once_more (on m w) runs
-                (increment refl (counted_up p.width i (omega (arith, less, few_items))))
+                (increment refl (counted_up p.width i (omega (arith, less, few_items known))))
                 more.turns);
             leaves = left_then left more.leaves;
           }
@@ -145,7 +133,7 @@ module _ {style : Style} {db : Database} {p : Program} (known : Known style db p
             stops = later (λ e s'. within (omega arith)) (later (λ e s'. turn (on m w))
                 (later (λ e s'. turn_goes_on refl (λ j. tt) runs)
                 (later (λ e s'. turn_ends
-                (increment refl (counted_up p.width i (omega (arith, less, few_items)))))
+                (increment refl (counted_up p.width i (omega (arith, less, few_items known)))))
                 more.stops)));
             shows = more.shows;
             past_is = more.past_is ∙ ap (λ past. past ++ steps) left.past_is
@@ -160,14 +148,11 @@ module _ {style : Style} {db : Database} {p : Program} (known : Known style db p
       (stands : StandsFor db s typed w) (taken : is_taken t i item s ≡ true) (n : ℕ)
       (more : (s' : State) (w' : Stage) → StandsFor db s' typed w'
       → ItemsAct (i + 1) true w' (all_items t (in_style style db) typed (i + 1) rest s') n) where
-    s1 : State
-    s1 = (item_search known s typed w stands t d room i item rest left less).value.state
-
     moved : (b : Bool) → NextLeaves known s typed w stands t d room i item rest left less b
         → ItemsAct i m w
-        (after (item_search known s typed w stands t d room i item rest left less).events
+        (after (item_search style db typed t item s).events
         (all_moved b style t i item
-        (item_search known s typed w stands t d room i item rest left less).value.state
+        (item_search style db typed t item s).value.state
         (all_items t (in_style style db) typed (i + 1) rest))) (item_steps db + n)
     unfolding body_of
     moved true x = record {
@@ -183,17 +168,17 @@ module _ {style : Style} {db : Database} {p : Program} (known : Known style db p
             (next (assign (set_variable number refl)) (breaks (if_true (nonzero (call (argument
             (local refl) (argument (local refl) (called x.does)))) refl) (breaks break)))))));
         leaves = subst (λ steps. StageLeft db
-            (item_search known s typed w stands t d room i item rest left less).value.state typed
-            ((item_search known s typed w stands t d room i item rest left less).events ++ steps) w
+            (item_search style db typed t item s).value.state typed
+            ((item_search style db typed t item s).events ++ steps) w
             x.after) (sym (append-nil (said_steps (text_in style TooMuch)))) x.leaves;
       };
     }
     moved false x =
         let r : Traced Step AllOutcome = all_items t (in_style style db) typed (i + 1) rest
         (transferred t i
-        (item_search known s typed w stands t d room i item rest left less).value.state) in
+        (item_search style db typed t item s).value.state) in
         subst (λ steps. TurnsAct r.value.over i m true w r.value.state steps (item_steps db + n))
-        (append_assoc (item_search known s typed w stands t d room i item rest left less).events
+        (append_assoc (item_search style db typed t item s).events
         (said_steps (shown item.text ++ text_of ItemDone)) r.events)
         (turn_then i less m true true r.value.any_taken (within (omega arith) (next (if_true
         (nonzero (call (argument (local refl) (argument (local refl)
@@ -202,31 +187,31 @@ module _ {style : Style} {db : Database} {p : Program} (known : Known style db p
         (next (assign (set_variable number refl)) (next (if_false (nonzero (call (argument
         (local refl) (argument (local refl) (called x.does)))) refl) end) end))) end)) x.leaves
         (or_true r.value.any_taken) (λ h. refl) (more (transferred t i
-        (item_search known s typed w stands t d room i item rest left less).value.state) x.after
+        (item_search style db typed t item s).value.state) x.after
         x.leaves.stands))
 
     taken_turn : ItemsAct i m w
         (all_item true t (in_style style db) typed i item s
         (all_items t (in_style style db) typed (i + 1) rest)) (item_steps db + n)
     unfolding body_of
-    taken_turn = by (item_search known s typed w stands t d room i item rest left less).value.found
+    taken_turn = by (item_search style db typed t item s).value.found
         (move_next known s typed w stands t d room i item rest left less
         (is_refused t db
-        (item_search known s typed w stands t d room i item rest left less).value.state) refl) where
+        (item_search style db typed t item s).value.state) refl) where
           by : (found : Found) → NextActs known s typed w stands t d room i item rest left less found
               (is_refused t db
-              (item_search known s typed w stands t d room i item rest left less).value.state)
+              (item_search style db typed t item s).value.state)
               → ItemsAct i m w
-              (after (item_search known s typed w stands t d room i item rest left less).events
+              (after (item_search style db typed t item s).events
               (all_after found t (in_style style db) i item
-              (item_search known s typed w stands t d room i item rest left less).value.state
+              (item_search style db typed t item s).value.state
               (all_items t (in_style style db) typed (i + 1) rest))) (item_steps db + n)
           by NoMatch x = moved (is_refused t db
-              (item_search known s typed w stands t d room i item rest left less).value.state) x
+              (item_search style db typed t item s).value.state) x
           by Matched x = moved (is_refused t db
-              (item_search known s typed w stands t d room i item rest left less).value.state) x
+              (item_search style db typed t item s).value.state) x
           by Done x = moved (is_refused t db
-              (item_search known s typed w stands t d room i item rest left less).value.state) x
+              (item_search style db typed t item s).value.state) x
           by (Over ending) x = record {
             acts = record {
               any_is = refl;
@@ -242,7 +227,7 @@ module _ {style : Style} {db : Database} {p : Program} (known : Known style db p
                   (later (λ e s'. argument (local refl)) (called_stops x.stops)))))))))))));
               shows = x.shows;
               past_is = x.past_is ∙ ap (λ past. w.past ++ past) (sym (append-nil
-                  (item_search known s typed w stands t d room i item rest left less).events));
+                  (item_search style db typed t item s).events));
               over_is = x.over_is;
             };
           }
@@ -261,7 +246,7 @@ module _ {style : Style} {db : Database} {p : Program} (known : Known style db p
       mark_is = refl;
       after = w;
       turns = within (omega arith) (for_ends (compare (local refl)
-          (valued (small_number p.width (omega (arith, few_items))) number) over));
+          (valued (small_number p.width (omega (arith, few_items known))) number) over));
       leaves = nothing_left stands;
     };
   } where

@@ -1,10 +1,9 @@
 -- The search for the item of a class.
-use Rattle.std.proofs.Common.{◌≡◌, ◌∙◌, arith, ℕ, suc, ◌+◌, ◌*◌, ◌<◌, ◌≤◌, ℤ, pos, nat_eq, nat_lt, Bool, true, false, ◌&&◌, if◌then◌else◌, List, [], ◌∷◌, length, drop, codes, Option, Some, None, unwrap_or, refl, sym, ap, subst, subst₂}
-use Rattle.inform_tree.specs.declared.conditions.Relation.TheVariants.{Lt}
+use Rattle.std.proofs.Common.{◌≡◌, ◌∙◌, arith, ℕ, suc, ◌+◌, ◌*◌, ◌<◌, ◌≤◌, pos, nat_eq, nat_lt, Bool, true, false, ◌&&◌, if◌then◌else◌, List, [], ◌∷◌, length, drop, codes, Option, Some, None, unwrap_or, refl, sym, ap, subst, subst₂}
 use Rattle.inform_meaning.specs.Worlds.{Program, Scope}
 use Rattle.inform_meaning.specs.Frames.{Loop, Outcome, Normal, Returns}
 use Rattle.inform_logic.specs.Stages.{Stage}
-use Rattle.inform_logic.specs.Leading.{Does, Tests, TestsIfAny, Runs, Loops, by_return}
+use Rattle.inform_logic.specs.Leading.{Does, TestsIfAny, Runs, Loops, by_return}
 use Rattle.inform_logic.proofs.Lists.{after_rest}
 use Rattle.inform_logic.proofs.Words.{eq_is, small_number, counted_up}
 use Rattle.inform_logic.proofs.Values.{within, valued, number, local, entry, call, argument, called}
@@ -21,11 +20,10 @@ use Rattle.scott_types.specs.declared.endings.Transfer.{Transfer}
 use Rattle.scott_types.specs.Database.{Database}
 use Rattle.scott_rules.specs.Words.{root}
 use Rattle.scott_rules.specs.Transfer.{verb_for, is_at_hand, item_named}
-use Rattle.trans_rows.proofs.Lengths.{few}
 use Rattle.trans_rows.specs.Tables.{class_of, item_word, is_class, class_of_noun}
 use Rattle.trans_rows.specs.Standing.{StandsFor}
 use Rattle.trans_commands.proofs.Blocks.{first_of, rest_of, loop_of}
-use Rattle.trans_commands.proofs.Known.{Known, body}
+use Rattle.trans_commands.proofs.Known.{Known, body, few_items}
 use Rattle.trans_commands.proofs.Tabled.{bit_tells, tabled}
 use Rattle.trans_commands.proofs.Named.{classed, no_class, class_some, by_class}
 use Rattle.trans_commands.proofs.OneItem.{at_hand}
@@ -38,9 +36,6 @@ found_outcome (Some k) = Returns (pos k)
 
 module _ {style : Style} {db : Database} {p : Program} (known : Known style db p) (s : State)
     (typed : List ℕ) (w : Stage) (stands : StandsFor db s typed w) (t : Transfer) (d : ℕ) where
-  few_items : length db.items ≤ 255
-  few_items = few 255 db.items known.limits.sizes.items
-
   abbrev find_loop : Loop
   find_loop = loop_of (first_of (rest_of (body style db FIND_ITEM)))
 
@@ -58,8 +53,11 @@ module _ {style : Style} {db : Database} {p : Program} (known : Known style db p
   find_from : (c i : ℕ) (rest : List Item) → drop i db.items ≡ rest
       → i + length rest ≡ length db.items → Finds c i (classed db t s c i rest) (8 * length rest + 1)
   unfolding body_of
-  find_from c i [] left all = record { last = i; turns = for_ends (compare (local refl)
-      (valued (small_number p.width (omega (arith, few_items))) number) over) } where
+  find_from c i [] left all = record {
+    last = i;
+    turns = for_ends (compare (local refl)
+        (valued (small_number p.width (omega (arith, few_items known))) number) over);
+  } where
     over : nat_lt i (length db.items) ≡ false
     over = grind (arith, all)
   find_from c i (item ∷ rest) left all = by (is_at_hand t s i)
@@ -73,7 +71,7 @@ module _ {style : Style} {db : Database} {p : Program} (known : Known style db p
 
         on : TestsIfAny p (suc d) find_loop.test (at_item c i) w true w 0
         on = compare (local refl)
-            (valued (small_number p.width (omega (arith, few_items))) number) under
+            (valued (small_number p.width (omega (arith, few_items known))) number) under
 
         later : (o : Option ℕ) → Runs p (suc d) find_loop.body (at_item c i) w Normal
             (at_item c i) w 7 → Finds c (i + 1) o (8 * length rest + 1)
@@ -81,7 +79,7 @@ module _ {style : Style} {db : Database} {p : Program} (known : Known style db p
         later o runs more = record {
           last = more.last;
           turns = within (omega arith) (for_once_more on runs
-              (increment refl (counted_up p.width i (omega (arith, less, few_items))))
+              (increment refl (counted_up p.width i (omega (arith, less, few_items known))))
               more.turns);
         }
 
@@ -127,7 +125,7 @@ module _ {style : Style} {db : Database} {p : Program} (known : Known style db p
   unfolding body_of
   nothing_found = does_within (omega arith) (routine known.find_item (returns (if_true
       (compare (local refl) number refl) (returns (return
-      (valued (small_number p.width (omega (arith, few_items))) number))))) by_return)
+      (valued (small_number p.width (omega (arith, few_items known))) number))))) by_return)
 
   found_by_class : (c : ℕ) → nat_eq c 0 ≡ false → (o : Option ℕ)
       → Finds c 0 o (8 * length db.items + 1) → Gives c o
@@ -135,7 +133,7 @@ module _ {style : Style} {db : Database} {p : Program} (known : Known style db p
   found_by_class c some None finds = does_within (omega arith) (routine known.find_item (next
       (if_false (compare (local refl) number (eq_is c 0 ∙ some)) end)
       (next (for (set_variable number refl) finds.turns) (returns (return
-      (valued (small_number p.width (omega (arith, few_items))) number))))) by_return)
+      (valued (small_number p.width (omega (arith, few_items known))) number))))) by_return)
   found_by_class c some (Some k) finds = does_within (omega arith) (routine known.find_item (next
       (if_false (compare (local refl) number (eq_is c 0 ∙ some)) end)
       (returns (for (set_variable number refl) finds.turns))) by_return)

@@ -1,5 +1,5 @@
 -- What is known of a program that has the routines of commands.
-use Rattle.std.proofs.Common.{ℕ, List, [], ◌∷◌, length, codes}
+use Rattle.std.proofs.Common.{◌≤◌, List, [], ◌∷◌, length, codes}
 use Rattle.inform_meaning.specs.Worlds.{Program}
 use Rattle.inform_logic.specs.Holding.{Has}
 use Rattle.inform_tree.specs.Statements.{Statements}
@@ -11,6 +11,7 @@ use Rattle.scott_types.specs.Database.{Database}
 use Rattle.scott_types.specs.Limits.{KeepsLimits}
 use Rattle.scott_types.specs.Style.{in_style}
 use Rattle.scott_rules.specs.Laws.{WalkFits, TransferFits, WordNamesLeastMatch}
+use Rattle.trans_rows.proofs.Lengths.{few}
 use Rattle.trans_rows.specs.HelperRows.{HelperRows}
 use Rattle.trans_rows.specs.CommandRows.{SearchRow}
 use Rattle.trans_rows.specs.Laws.{ExitsStand, ClassesTell}
@@ -59,3 +60,8 @@ pub record Known (style : Style) (db : Database) (p : Program) : Type 0 where
   pub can_take : Own style db p (CAN_TAKE_NAME, VERB ∷ INDEX ∷ [], CAN_TAKE)
   pub is_refused : Own style db p (IS_REFUSED_NAME, VERB ∷ [], IS_REFUSED)
   pub put_item : Own style db p (PUT_ITEM_NAME, VERB ∷ INDEX ∷ [], PUT_ITEM)
+
+-- there are 255 items at most
+pub few_items : {style : Style} {db : Database} {p : Program} → Known style db p
+    → length db.items ≤ 255
+few_items {db = db} known = few 255 db.items known.limits.sizes.items

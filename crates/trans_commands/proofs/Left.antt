@@ -1,15 +1,11 @@
 -- What a part of a command leaves of the stage, and the parts of a command one after the other.
-use Rattle.std.proofs.Common.{◌≡◌, ◌∙◌, arith, ℕ, suc, ◌-◌, ◌≤◌, ℤ, pos, List, [], ◌∷◌, ◌++◌, codes, Option, Some, None, refl, sym, ap, subst, append_assoc, append-nil}
+use Rattle.std.proofs.Common.{◌≡◌, ◌∙◌, arith, ℕ, suc, ◌-◌, ◌≤◌, List, [], ◌++◌, refl, sym, ap, subst, append_assoc, append-nil}
 use Rattle.adv_io.specs.Steps.{Step, said_steps}
-use Rattle.inform_meaning.specs.Worlds.{Program}
-use Rattle.inform_meaning.specs.Frames.{Quits}
-use Rattle.inform_meaning.specs.Runs.{Halted}
 use Rattle.inform_logic.specs.Stages.{Stage, with_past, said}
 use Rattle.scott_types.specs.declared.states.State.{State}
 use Rattle.scott_types.specs.Database.{Database}
-use Rattle.trans_rows.specs.Views.{Shows}
 use Rattle.trans_rows.specs.Standing.{StandsFor}
-use Rattle.trans_rows.specs.Calls.{StageLeft, CallLeaves, CallEndsGame}
+use Rattle.trans_rows.specs.Calls.{StageLeft}
 
 -- a number of calls from which one was taken
 pub one_less : (P : ℕ → Type 0) (most d : ℕ) → suc most ≤ d → ((k : ℕ) → most ≤ k → P (suc k))

@@ -1,7 +1,7 @@
 pub mod Left
 pub mod Spent
 pub mod Searched
-pub mod FormedHere
+pub mod WellFormed
 pub mod Acts
 pub mod Known
 pub mod Tabled

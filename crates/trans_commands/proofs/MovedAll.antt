@@ -1,5 +1,5 @@
 -- Getting and dropping all items.
-use Rattle.std.proofs.Common.{◌≡◌, ◌∙◌, arith, ℕ, suc, ◌+◌, ◌*◌, ◌≤◌, ℤ, pos, Bool, true, false, not, ◌||◌, if◌then◌else◌, List, [], ◌∷◌, ◌++◌, length, codes, Option, Some, None, refl, sym, ap, subst, append-nil}
+use Rattle.std.proofs.Common.{◌≡◌, ◌∙◌, arith, ℕ, suc, ◌+◌, ◌≤◌, pos, Bool, true, false, if◌then◌else◌, List, [], ◌∷◌, ◌++◌, codes, Option, Some, None, refl, sym, ap, append-nil}
 use Rattle.std.specs.Ordering.{int_eq}
 use Rattle.adv_io.specs.Steps.{Step, Traced, said_steps}
 use Rattle.inform_meaning.specs.Worlds.{Program}
@@ -29,7 +29,6 @@ use Rattle.scott_rules.specs.Transfer.{verb_for, is_too_dark, AllOutcome, all_it
 use Rattle.trans_rows.specs.Tables.{bit}
 use Rattle.trans_rows.specs.Standing.{StandsFor}
 use Rattle.trans_rows.specs.Steps.{text_steps}
-use Rattle.trans_rows.specs.Calls.{StageLeft}
 use Rattle.trans_rows.specs.CommandRows.{search_room}
 use Rattle.trans_commands.proofs.Left.{said_left, nothing_left, left_then}
 use Rattle.trans_commands.proofs.Spent.{turns_steps, all_steps}
@@ -37,7 +36,7 @@ use Rattle.trans_commands.proofs.Acts.{CallActs, returns_acts, stops_within}
 use Rattle.trans_commands.proofs.Blocks.{first_of, rest_of, test_of, block_of}
 use Rattle.trans_commands.proofs.Known.{Known, body}
 use Rattle.trans_commands.proofs.Tabled.{bit_tells}
-use Rattle.trans_commands.proofs.EachMoved.{at_item, TurnsEnd, TurnsActBy, turns_from}
+use Rattle.trans_commands.proofs.EachMoved.{at_item, TurnsActBy, turns_from}
 use Rattle.trans_commands.specs.declared.transfers.TheConstants.{MOVE_ALL}
 
 -- ---- what depends on whether items are got or dropped

@@ -1,5 +1,5 @@
 -- One of all items, at its turn.
-use Rattle.std.proofs.Common.{◌≡◌, ◌∙◌, arith, ℕ, zero, suc, ◌+◌, ◌*◌, ◌<◌, ◌≤◌, ℤ, pos, Bool, true, false, List, [], ◌∷◌, ◌++◌, length, drop, map, codes, Option, Some, None, refl, sym, ap, subst, append_assoc, append-nil}
+use Rattle.std.proofs.Common.{◌≡◌, ◌∙◌, arith, ℕ, zero, suc, ◌<◌, ◌≤◌, ℤ, pos, Bool, true, false, List, [], ◌∷◌, ◌++◌, length, drop, codes, Option, Some, None, refl, sym, subst, append-nil}
 use Rattle.std.specs.Prelude.{slice_index_or, MatchOption}
 use Rattle.std.proofs.lemmas.List.{length-map, map-append}
 use Rattle.adv_io.specs.Steps.{Step, Said, Traced, said_steps}
@@ -7,7 +7,7 @@ use Rattle.inform_meaning.specs.Worlds.{Program}
 use Rattle.inform_logic.specs.Stages.{Stage, said}
 use Rattle.inform_logic.specs.Leading.{by_return}
 use Rattle.inform_logic.specs.Stopping.{in_block, in_call_alone}
-use Rattle.inform_logic.proofs.Values.{within, number, local, entry, call, argument, called}
+use Rattle.inform_logic.proofs.Values.{local, entry, call, argument, called}
 use Rattle.inform_logic.proofs.Conditions.{nonzero}
 use Rattle.inform_logic.proofs.Printing.{print_nothing, print_text}
 use Rattle.inform_logic.proofs.Statements.{end, next, returns, print, call_alone, if_true, if_false, return_true, return_false}
@@ -24,7 +24,7 @@ use Rattle.scott_types.specs.declared.endings.Transfer.{Transfer}
 use Rattle.scott_types.specs.declared.phrases.Phrase.TheVariants.{TooMuch, ItemDone}
 use Rattle.scott_types.specs.Phrase.{text_of, text_in}
 use Rattle.scott_types.specs.ItemText.{shown}
-use Rattle.scott_types.specs.Database.{Database, item_at}
+use Rattle.scott_types.specs.Database.{Database}
 use Rattle.scott_types.specs.Style.{in_style}
 use Rattle.scott_rules.specs.Words.{entries_of, column_of, which}
 use Rattle.scott_rules.specs.Groups.{groups}
@@ -70,35 +70,36 @@ twice_left {db} {s} {typed} {w} a b stands =
     (sym (map-append Said a b))
     (left_then (said_left a stands) (said_left b (said_left a stands).stands))
 
+-- the lines for an item are searched first, with the command's verb and the item's own noun
+abbrev pub item_search : Style → Database → List ℕ → Transfer → Item → State
+    → Traced Step SearchOutcome
+item_search style db typed t item s = search_result (in_style style db) typed (verb_for t)
+    (which db Nouns (item_word item)) (groups db) s
+
 module _ {style : Style} {db : Database} {p : Program} (known : Known style db p) (s : State)
     (typed : List ℕ) (w : Stage) (stands : StandsFor db s typed w) (t : Transfer) (d : ℕ)
     (room : search_room ≤ suc (suc d)) (i : ℕ) (item : Item) (rest : List Item)
     (left : drop i db.items ≡ item ∷ rest) (less : i < length db.items) where
-  -- the lines for the item are searched first
-  abbrev pub item_search : Traced Step SearchOutcome
-  item_search = search_result (in_style style db) typed (verb_for t)
-      (which db Nouns (item_word item)) (groups db) s
-
   abbrev searched_values : List ℤ
   searched_values = pos (verb_for t) ∷ pos (or_zero (which db Nouns (item_word item))) ∷ []
 
   -- where the game goes on: the item is moved, or the hands are full
   abbrev pub NextLeaves : Bool → Type 0
   NextLeaves true = CallLeaves p (suc (suc (suc d))) (codes "move_next")
-      (pos (verb_for t) ∷ pos i ∷ []) w (pos 1) db item_search.value.state typed
-      (item_search.events ++ said_steps (text_in style TooMuch)) (next_steps db)
+      (pos (verb_for t) ∷ pos i ∷ []) w (pos 1) db (item_search style db typed t item s).value.state typed
+      ((item_search style db typed t item s).events ++ said_steps (text_in style TooMuch)) (next_steps db)
   NextLeaves false = CallLeaves p (suc (suc (suc d))) (codes "move_next")
-      (pos (verb_for t) ∷ pos i ∷ []) w (pos 0) db (transferred t i item_search.value.state) typed
-      (item_search.events ++ said_steps (shown item.text ++ text_of ItemDone)) (next_steps db)
+      (pos (verb_for t) ∷ pos i ∷ []) w (pos 0) db (transferred t i (item_search style db typed t item s).value.state) typed
+      ((item_search style db typed t item s).events ++ said_steps (shown item.text ++ text_of ItemDone)) (next_steps db)
 
   abbrev pub NextActs : Found → Bool → Type 0
   NextActs (Over ending) b = CallEndsGame p (suc (suc (suc d))) (codes "move_next")
-      (pos (verb_for t) ∷ pos i ∷ []) w item_search.value.state item_search.events ending (next_steps db)
+      (pos (verb_for t) ∷ pos i ∷ []) w (item_search style db typed t item s).value.state (item_search style db typed t item s).events ending (next_steps db)
   NextActs found b = NextLeaves b
 
   after_search : (v : ℤ) → CallLeaves p (suc (suc d)) (codes "search") searched_values w v db
-      item_search.value.state typed item_search.events (search_steps db) → (b : Bool)
-      → is_refused t db item_search.value.state ≡ b → NextLeaves b
+      (item_search style db typed t item s).value.state typed (item_search style db typed t item s).events (search_steps db) → (b : Bool)
+      → is_refused t db (item_search style db typed t item s).value.state ≡ b → NextLeaves b
   unfolding body_of
   after_search v searched true is = record {
     after = said (text_in style TooMuch) searched.after;
@@ -106,14 +107,14 @@ module _ {style : Style} {db : Database} {p : Program} (known : Known style db p
         (local refl) (argument (entry (local refl) stands.ready.tables.item_nouns_are
         (tabled _ db.items i left)) (called searched.does))))
         (returns (if_true (nonzero (call (argument (local refl)
-        (called (refused known item_search.value.state typed searched.after searched.leaves.stands t
-        (suc d) (omega (arith, room)))))) (bit_tells (is_refused t db item_search.value.state) ∙ is))
+        (called (refused known (item_search style db typed t item s).value.state typed searched.after searched.leaves.stands t
+        (suc d) (omega (arith, room)))))) (bit_tells (is_refused t db (item_search style db typed t item s).value.state) ∙ is))
         (next (print (print_text print_nothing)) (returns return_true))))) by_return);
     leaves = left_then searched.leaves
         (said_left (text_in style TooMuch) searched.leaves.stands);
   }
   after_search v searched false is =
-      let s1 : State = item_search.value.state in
+      let s1 : State = (item_search style db typed t item s).value.state in
       let w1 : Stage = searched.after in
       let stands1 : StandsFor db s1 typed w1 = searched.leaves.stands in
       let says : CallSays p (suc (suc d)) (codes "say_item") (pos i ∷ []) w1 (shown item.text)
@@ -145,15 +146,15 @@ module _ {style : Style} {db : Database} {p : Program} (known : Known style db p
             (left_then twice (put_left known s1 typed w2 twice.stands t i less)));
       }
 
-  pub move_next : (b : Bool) → is_refused t db item_search.value.state ≡ b
-      → NextActs item_search.value.found b
+  pub move_next : (b : Bool) → is_refused t db (item_search style db typed t item s).value.state ≡ b
+      → NextActs (item_search style db typed t item s).value.found b
   unfolding body_of
-  move_next b is = by item_search.value.found (known.searches (verb_for t)
+  move_next b is = by (item_search style db typed t item s).value.found (known.searches (verb_for t)
       (which db Nouns (item_word item)) s typed w (suc (suc d)) room
       (is_noun db (item_word item) (which db Nouns (item_word item))
       (known.laws.least_match db Nouns (item_word item))) stands) where
         by : (found : Found) → SearchFinds found (in_style style db) p (suc (suc d))
-            (codes "search") searched_values w typed item_search → NextActs found b
+            (codes "search") searched_values w typed (item_search style db typed t item s) → NextActs found b
         by NoMatch searched = after_search (pos 0) searched b is
         by Matched searched = after_search (pos 1) searched b is
         by Done searched = after_search (pos 2) searched b is

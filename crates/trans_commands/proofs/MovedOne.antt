@@ -1,7 +1,7 @@
 -- Getting and dropping one item.
-use Rattle.std.proofs.Common.{◌≡◌, ◌∙◌, arith, ℕ, suc, ◌+◌, ◌*◌, ◌<◌, ◌≤◌, ℤ, pos, nat_eq, Bool, true, false, not, ◌&&◌, if◌then◌else◌, List, [], ◌∷◌, length, codes, Option, Some, None, refl, ap}
+use Rattle.std.proofs.Common.{◌≡◌, ◌∙◌, arith, ℕ, suc, ◌+◌, ◌<◌, ◌≤◌, pos, nat_eq, Bool, true, false, not, ◌&&◌, if◌then◌else◌, List, [], ◌∷◌, length, codes, Option, Some, None, refl, ap}
 use Rattle.std.proofs.lemmas.List.{length-map}
-use Rattle.adv_io.specs.Steps.{Step, Traced, said_steps}
+use Rattle.adv_io.specs.Steps.{Step, Traced}
 use Rattle.inform_meaning.specs.Worlds.{Program}
 use Rattle.inform_logic.specs.Stages.{Stage}
 use Rattle.inform_logic.specs.Leading.{by_return, at_end}
@@ -25,21 +25,19 @@ use Rattle.scott_types.specs.ItemText.{get_word}
 use Rattle.scott_types.specs.Style.{in_style}
 use Rattle.scott_rules.specs.Words.{is_empty, is_typed, entries_of, column_of, root}
 use Rattle.scott_rules.specs.Outcomes.{Outcome}
-use Rattle.scott_rules.specs.Transfer.{verb_for, is_at_hand, is_refused, item_named, one_moved, one_from, one_transferred, transferred}
-use Rattle.trans_rows.proofs.Lengths.{few}
+use Rattle.scott_rules.specs.Transfer.{verb_for, is_at_hand, is_refused, item_named, one_moved, one_from, one_transferred}
 use Rattle.trans_rows.specs.Tables.{or_zero, class_of_noun}
 use Rattle.trans_rows.specs.Standing.{StandsFor}
 use Rattle.trans_rows.specs.DataRows.{text_room}
-use Rattle.trans_rows.specs.Calls.{StageLeft}
 use Rattle.trans_rows.specs.CommandRows.{IsNoun}
 use Rattle.trans_commands.proofs.Left.{said_left, left_then}
 use Rattle.trans_commands.proofs.Spent.{one_steps}
 use Rattle.trans_commands.proofs.Acts.{CallActs, returns_acts}
-use Rattle.trans_commands.proofs.Known.{Known}
-use Rattle.trans_commands.proofs.Tabled.{bit_tells}
+use Rattle.trans_commands.proofs.Known.{Known, few_items}
+use Rattle.trans_commands.proofs.Tabled.{bit_tells, some_noun}
 use Rattle.trans_commands.proofs.Named.{class_at}
 use Rattle.trans_commands.proofs.Found.{Gives, find_item}
-use Rattle.trans_commands.proofs.OneItem.{refused, put_stage, put_item, put_left}
+use Rattle.trans_commands.proofs.OneItem.{refused, put_item, put_left}
 
 -- the item that is named is one of those
 named_less : (t : Transfer) (size : ℕ) (word : List ℕ) (s : State) (i : ℕ) (items : List Item)
@@ -58,16 +56,9 @@ named_less t size word s i (item ∷ items) k h =
 module _ {style : Style} {db : Database} {p : Program} (known : Known style db p) (s : State)
     (typed : List ℕ) (w : Stage) (stands : StandsFor db s typed w) (t : Transfer) (d : ℕ)
     (room : text_room ≤ d) where
-  few_items : length db.items ≤ 255
-  few_items = few 255 db.items known.limits.sizes.items
-
   abbrev Moves : Option ℕ → Traced Step Outcome → Type 0
   Moves noun r = CallActs r.value.over db p (suc (suc (suc d))) (codes "move_one")
       (pos (verb_for t) ∷ pos (or_zero noun) ∷ []) w typed r.value.state r.events (one_steps db)
-
-  -- a number that isn't 0
-  some_noun : (noun : ℕ) → 1 ≤ noun → nat_eq noun 0 ≡ false
-  some_noun noun some = grind (arith, some)
 
   itself : (n : ℕ) → nat_eq n n ≡ true
   itself n = grind arith
@@ -91,7 +82,7 @@ module _ {style : Style} {db : Database} {p : Program} (known : Known style db p
       stands.ready.tables.noun_classes_are (class_at db (entries_of db Nouns) noun some
       (omega (arith, there, length-map db.words (column_of Nouns))))) (called finds)))) refl))
       (returns (if_true (compare (local refl)
-      (valued (small_number p.width (omega (arith, few_items))) number)
+      (valued (small_number p.width (omega (arith, few_items known))) number)
       (eq_is (length db.items) (length db.items) ∙ itself (length db.items)))
       (next (print (print_text print_nothing)) (returns return_true))))))) by_return))
       (said_left (text_in style BeyondPower) stands)
@@ -105,7 +96,7 @@ module _ {style : Style} {db : Database} {p : Program} (known : Known style db p
       stands.ready.tables.noun_classes_are (class_at db (entries_of db Nouns) noun some
       (omega (arith, there, length-map db.words (column_of Nouns))))) (called finds)))) refl))
       (next (if_false (compare (local refl)
-      (valued (small_number p.width (omega (arith, few_items))) number)
+      (valued (small_number p.width (omega (arith, few_items known))) number)
       (eq_is k (length db.items) ∙ another k (length db.items) less)) end)
       (next (call_alone (argument (local refl) (argument (local refl)
       (called (put_item known s typed w stands t k (suc d) less)))))

@@ -1,12 +1,12 @@
 -- What a verb does: the lines for it, getting and dropping, and refusals.
-use Rattle.std.proofs.Common.{◌≡◌, ◌∙◌, arith, ℕ, suc, ◌+◌, ◌≤◌, ℤ, pos, nat_eq, Bool, true, false, not, if◌then◌else◌, List, [], ◌∷◌, ◌++◌, codes, Option, Some, None, refl, sym, ap, subst, append-nil}
-use Rattle.adv_io.specs.Steps.{Step, Traced, after, said_steps, traced_text}
+use Rattle.std.proofs.Common.{◌≡◌, ◌∙◌, arith, ℕ, suc, ◌+◌, ◌≤◌, ℤ, pos, nat_eq, Bool, true, false, if◌then◌else◌, List, [], ◌∷◌, ◌++◌, codes, Option, refl, sym, ap, subst, append-nil}
+use Rattle.adv_io.specs.Steps.{Step, Traced, after, traced_text}
 use Rattle.inform_tree.specs.declared.conditions.Relation.TheVariants.{Eq}
 use Rattle.inform_meaning.specs.Words.{compares}
 use Rattle.inform_meaning.specs.Worlds.{Program, Scope}
 use Rattle.inform_meaning.specs.Frames.{Normal}
 use Rattle.inform_logic.specs.Stages.{Stage, said}
-use Rattle.inform_logic.specs.Leading.{Executes, Runs, Tests, by_return, at_end}
+use Rattle.inform_logic.specs.Leading.{Executes, Tests, by_return, at_end}
 use Rattle.inform_logic.specs.Stopping.{in_block, in_assignment, in_set, in_call}
 use Rattle.inform_logic.proofs.Words.{eq_is}
 use Rattle.inform_logic.proofs.Values.{within, number, local, call, argument, called}
@@ -23,8 +23,6 @@ use Rattle.scott_types.specs.declared.endings.Found.{Found}
 use Rattle.scott_types.specs.declared.endings.Found.TheVariants.{NoMatch, Matched, Done, Over}
 use Rattle.scott_types.specs.declared.endings.Transfer.{Transfer}
 use Rattle.scott_types.specs.declared.endings.Transfer.TheVariants.{PickUp, PutDown}
-use Rattle.scott_types.specs.declared.phrases.Phrase.TheVariants.{NotYet, NotUnderstood}
-use Rattle.scott_types.specs.Phrase.{text_of, text_in}
 use Rattle.scott_types.specs.Database.{Database}
 use Rattle.scott_types.specs.Style.{in_style}
 use Rattle.scott_rules.specs.Commands.{get_verb, drop_verb}
@@ -35,7 +33,7 @@ use Rattle.scott_rules.specs.Transfer.{verb_for, is_all, all_transferred, one_tr
 use Rattle.scott_rules.specs.Rounds.{not_done, unmatched, by_found, by_actions}
 use Rattle.trans_rows.specs.Tables.{bit, or_zero}
 use Rattle.trans_rows.specs.Standing.{StandsFor}
-use Rattle.trans_rows.specs.Calls.{StageLeft, CallLeaves}
+use Rattle.trans_rows.specs.Calls.{CallLeaves}
 use Rattle.trans_rows.specs.CommandRows.{IsNoun, SearchFinds, search_steps, search_room}
 use Rattle.trans_commands.proofs.Left.{said_left, nothing_left, left_then}
 use Rattle.trans_commands.proofs.Spent.{transfer_steps, obey_steps}
@@ -191,24 +189,24 @@ module _ {style : Style} {db : Database} {p : Program} (known : Known style db p
   unfolding body_of
   obey_acts = by searched.value.found (known.searches verb noun s typed w
       (suc (suc (suc (suc (suc d))))) (omega (arith, room)) there stands) where
-    by : (found : Found) → SearchFinds found (in_style style db) p (suc (suc (suc (suc (suc d)))))
-        (codes "search") values w typed searched
-        → Obeys (after searched.events
-        (by_found found (in_style style db) typed verb noun searched.value.state))
-    by NoMatch left = unpassed_acts false left
-    by Matched left = unpassed_acts true left
-    by Done left = returns_acts (does_within (omega arith) (routine known.obey (next (marked 2 left)
-        (returns (if_true (compare (local refl) number refl) (returns return_true)))) by_return))
-        (left_then left.leaves (nothing_left left.leaves.stands))
-    by (Over ending) x = record {
-      acts = record {
-        after = x.after;
-        stops = stops_within (omega arith) (routine_stops known.obey (handed_up in_block (step_stops
-            (handed_up in_assignment (handed_up in_set (handed_up in_call
-            (later (λ e s'. argument (local refl)) (later (λ e s'. argument (local refl))
-            (called_stops x.stops)))))))));
-        shows = x.shows;
-        past_is = x.past_is ∙ ap (λ past. w.past ++ past) (sym (append-nil searched.events));
-        over_is = x.over_is;
-      };
-    }
+        by : (found : Found) → SearchFinds found (in_style style db) p (suc (suc (suc (suc (suc d)))))
+            (codes "search") values w typed searched
+            → Obeys (after searched.events
+            (by_found found (in_style style db) typed verb noun searched.value.state))
+        by NoMatch left = unpassed_acts false left
+        by Matched left = unpassed_acts true left
+        by Done left = returns_acts (does_within (omega arith) (routine known.obey (next (marked 2 left)
+            (returns (if_true (compare (local refl) number refl) (returns return_true)))) by_return))
+            (left_then left.leaves (nothing_left left.leaves.stands))
+        by (Over ending) x = record {
+          acts = record {
+            after = x.after;
+            stops = stops_within (omega arith) (routine_stops known.obey (handed_up in_block (step_stops
+                (handed_up in_assignment (handed_up in_set (handed_up in_call
+                (later (λ e s'. argument (local refl)) (later (λ e s'. argument (local refl))
+                (called_stops x.stops)))))))));
+            shows = x.shows;
+            past_is = x.past_is ∙ ap (λ past. w.past ++ past) (sym (append-nil searched.events));
+            over_is = x.over_is;
+          };
+        }

@@ -1,6 +1,5 @@
 -- One item: whether it can be taken, and where it goes.
-use Rattle.std.proofs.Common.{◌≡◌, ◌∙◌, arith, ℕ, suc, ◌+◌, ◌<◌, ◌≤◌, ℤ, pos, Bool, true, false, not, ◌&&◌, List, [], ◌∷◌, ◌++◌, length, drop, set, codes, Option, Some, is_some, refl, sym, ap, subst, append-nil, if◌then◌else◌}
-use Rattle.std.specs.Prelude.{slice_index}
+use Rattle.std.proofs.Common.{◌≡◌, ◌∙◌, arith, ℕ, suc, ◌+◌, ◌<◌, ◌≤◌, pos, Bool, true, false, not, ◌&&◌, List, [], ◌∷◌, ◌++◌, length, drop, set, codes, Some, is_some, refl, sym, ap, append-nil, if◌then◌else◌}
 use Rattle.inform_meaning.specs.Worlds.{Program}
 use Rattle.inform_logic.specs.Stages.{Stage, with_global, with_array}
 use Rattle.inform_logic.specs.Leading.{Does, by_return, at_end}

@@ -1,13 +1,10 @@
 -- The search where there is no head.
-use Rattle.std.proofs.Common.{◌≡◌, arith, ℕ, suc, pos, List, [], ◌∷◌, codes, Option, refl, sym, subst}
-use Rattle.inform_meaning.specs.Worlds.{Program}
+use Rattle.std.proofs.Common.{arith, pos, List, [], ◌∷◌, codes, sym, subst}
 use Rattle.inform_logic.specs.Leading.{by_return}
-use Rattle.inform_logic.specs.Holding.{Has}
 use Rattle.inform_logic.proofs.Statements.{returns, return_false}
 use Rattle.inform_logic.proofs.Routines.{does_within, routine}
 use Rattle.inform_logic.proofs.Holding.{has}
 use Rattle.inform_codes.specs.Grown.{body_of}
-use Rattle.inform_codes.specs.Routines.{row_routine}
 use Rattle.scott_types.specs.Style.{in_style}
 use Rattle.scott_rules.specs.Groups.{Group}
 use Rattle.scott_rules.specs.Search.{search_result}

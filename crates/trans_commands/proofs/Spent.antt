@@ -1,5 +1,5 @@
 -- How many steps the parts of a command may take.
-use Rattle.std.proofs.Common.{◌≡◌, arith, ℕ, ◌+◌, ◌-◌, ◌*◌, ◌≤◌, length, subst}
+use Rattle.std.proofs.Common.{◌≡◌, arith, ℕ, ◌+◌, ◌*◌, ◌≤◌, length, subst}
 use Rattle.std.proofs.Math.Nat.{mul-le-mul_left}
 use Rattle.scott_types.specs.Database.{Database}
 use Rattle.trans_rows.specs.Steps.{highest, share, text_steps}

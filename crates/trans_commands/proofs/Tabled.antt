@@ -1,5 +1,5 @@
 -- Entries of the tables of items and nouns.
-use Rattle.std.proofs.Common.{◌≡◌, ◌∙◌, arith, ℕ, zero, suc, ◌+◌, ◌<◌, ◌≤◌, ℤ, pos, Bool, true, false, not, List, [], ◌∷◌, ◌++◌, map, length, drop, slice_get, Some, refl, ap}
+use Rattle.std.proofs.Common.{◌≡◌, arith, ℕ, zero, suc, ◌<◌, ℤ, pos, nat_eq, Bool, true, false, not, List, [], ◌∷◌, ◌++◌, map, length, drop, slice_get, Some, refl}
 use Rattle.std.specs.Prelude.{slice_index, slice_index_or}
 use Rattle.std.specs.Ordering.{int_eq}
 use Rattle.trans_rows.specs.Tables.{bit, guarded}
@@ -9,6 +9,10 @@ use Rattle.trans_rows.specs.Views.{naturals}
 pub bit_tells : (b : Bool) → not (int_eq (pos (bit b)) (pos 0)) ≡ b
 bit_tells true = refl
 bit_tells false = refl
+
+-- a noun from 1 on isn't 0
+pub some_noun : (noun : ℕ) → 0 < noun → nat_eq noun 0 ≡ false
+some_noun noun some = grind (arith, some)
 
 -- the entry of an item's place, with the guard after the last one
 pub place_at : (places : List ℕ) (guard : ℤ) (i : ℕ) → i < length places

@@ -1,11 +1,11 @@
 -- Walking in a direction.
-use Rattle.std.proofs.Common.{◌≡◌, ◌∙◌, arith, ℕ, suc, ◌+◌, ◌-◌, ◌*◌, ◌<◌, ◌≤◌, ℤ, pos, nat_eq, nat_le, nat_lt, Bool, true, false, if◌then◌else◌, List, [], ◌∷◌, ◌++◌, length, codes, Option, Some, is_some, refl, sym, ap, subst}
+use Rattle.std.proofs.Common.{◌≡◌, ◌∙◌, arith, ℕ, suc, ◌+◌, ◌-◌, ◌*◌, ◌<◌, ◌≤◌, pos, nat_eq, Bool, true, false, if◌then◌else◌, List, [], ◌∷◌, length, codes, Some, is_some, refl, sym, ap, subst}
 use Rattle.adv_io.specs.Steps.{Step, Traced, after, said_steps, traced_text}
 use Rattle.inform_tree.specs.Statements.{Statements}
 use Rattle.inform_meaning.specs.Worlds.{Program, Scope}
 use Rattle.inform_meaning.specs.Frames.{Normal}
 use Rattle.inform_logic.specs.Stages.{Stage, with_global, said}
-use Rattle.inform_logic.specs.Leading.{Executes, Tests, at_end}
+use Rattle.inform_logic.specs.Leading.{Executes, at_end}
 use Rattle.inform_logic.specs.Stopping.{in_block}
 use Rattle.inform_logic.proofs.Words.{eq_is, small_sum, small_difference, small_product}
 use Rattle.inform_logic.proofs.Values.{within, number, local, global, entry, call, called, sum_of_two, product_of_two}
@@ -27,7 +27,6 @@ use Rattle.scott_types.specs.State.{is_dark, Fits}
 use Rattle.scott_rules.specs.Outcomes.{Outcome, goes_on}
 use Rattle.scott_rules.specs.Rounds.{moved_to, no_way, walk_result}
 use Rattle.trans_rows.proofs.Lengths.{few}
-use Rattle.trans_rows.specs.Tables.{bit}
 use Rattle.trans_rows.specs.Standing.{StandsFor}
 use Rattle.trans_rows.specs.Steps.{text_steps}
 use Rattle.trans_rows.specs.DataRows.{text_room}

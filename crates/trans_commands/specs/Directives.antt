@@ -1,5 +1,5 @@
 -- The routines of commands, and the search of a game without heads, as they stand in a program.
-use Rattle.std.specs.Prelude.{ℕ, List, [], ◌∷◌, map, length}
+use Rattle.std.specs.Prelude.{List, [], ◌∷◌, map, length}
 use Rattle.inform_tree.specs.Programs.{DirectiveTree}
 use Rattle.inform_codes.specs.Routines.{rows_directives}
 use Rattle.scott_types.specs.declared.styles.Style.{Style}

@@ -1,7 +1,7 @@
 //! A command: going, and what any other verb does.
 use crate::names::{
-    MARK, NEED_DIRECTION, NNUM, NOT_UNDERSTOOD, NOT_YET, NOUN,
-    OBEY_NAME, SEARCH_NAME, TRANSFER_NAME, VERB, VNUM, WALK_NAME,
+    MARK, NEED_DIRECTION, NNUM, NOT_UNDERSTOOD, NOT_YET, NOUN, OBEY_NAME, SEARCH_NAME,
+    TRANSFER_NAME, VERB, VNUM, WALK_NAME,
 };
 use inform_codes::Code;
 use inform_tree::Relation;

@@ -1,8 +1,6 @@
 //! One item: whether it can be taken, and where it goes. The verb says whether items are got or
 //! dropped.
-use crate::names::{
-    AT_HAND_NAME, CLASS, FULL, HERE, ICLASS, IGET, INDEX, ITEM, REDRAW, VERB,
-};
+use crate::names::{AT_HAND_NAME, CLASS, FULL, HERE, ICLASS, IGET, INDEX, ITEM, REDRAW, VERB};
 use inform_codes::Code;
 use inform_tree::Relation;
 use scott_types::places::CARRIED;

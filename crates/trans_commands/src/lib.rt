@@ -6,8 +6,8 @@ mod names;
 
 // The routines, those that call others first.
 mod commanding;
-mod transfers;
 mod items;
+mod transfers;
 mod walking;
 
 // The routine that searches the lines for a command, in a game without such lines.
@@ -16,6 +16,8 @@ mod searching;
 // All of them as directives, and what they owe.
 pub mod laws;
 mod table;
+#[cfg(test)]
+mod tests;
 
 pub use searching::search;
 pub use table::commands;

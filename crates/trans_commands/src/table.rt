@@ -43,5 +43,10 @@ pub fn commands(alloc: Global, db: &Db, style: Style) -> Result<Vec<Directive>, 
         ≡ command_directives style db.now) }
 {
     let names = names(alloc, style)?;
-    routines(alloc, names.as_slice(), &[db.items().len() as u32], &ROUTINES)
+    routines(
+        alloc,
+        names.as_slice(),
+        &[db.items().len() as u32],
+        &ROUTINES,
+    )
 }

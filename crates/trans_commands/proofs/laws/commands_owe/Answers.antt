@@ -1,4 +1,3 @@
-use Rattle.trans_commands.proofs.Known.{Laws}
 use Rattle.trans_commands.proofs.Commanded.{commands_owe as law}
 use Rattle.trans_commands.proofs.laws.commands_owe.Goals as goal
 

@@ -2,7 +2,6 @@ use Rattle.std.proofs.Common.{◌≡◌, ◌∙◌, IfOk, map, length, ap, subst
 use Rattle.inform_tree.specs.Programs.{directive_of}
 use Rattle.inform_codes.specs.Routines.{rows_directives}
 use Rattle.trans_commands.specs.declared.table.TheConstants.{ROUTINES}
-use Rattle.trans_commands.specs.Directives.{command_directives}
 use Rattle.trans_commands.proofs.table.commands.Goals as goal
 
 -- the names and the count are those of the definition

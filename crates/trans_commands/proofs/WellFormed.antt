@@ -1,10 +1,9 @@
 -- What is computed of the routines: they are well formed.
-use Rattle.std.proofs.Common.{◌≡◌, arith, ℕ, ◌≤◌, Bool, true, false, length, nat_le, refl, [], ◌∷◌, map, List}
+use Rattle.std.proofs.Common.{◌≡◌, arith, ℕ, Bool, true, false, length, refl, [], ◌∷◌, map}
 use Rattle.inform_tree.specs.Formed.{is_well_formed}
 use Rattle.inform_tree.specs.Words.{is_number}
 use Rattle.inform_codes.specs.Grown.{body_of}
 use Rattle.inform_codes.specs.Routines.{rows_directives}
-use Rattle.scott_types.specs.declared.styles.Style.{Style}
 use Rattle.scott_types.specs.Phrase.{text_of, second_person}
 use Rattle.trans_rows.proofs.Lengths.{few}
 use Rattle.trans_commands.specs.declared.table.TheConstants.{ROUTINES}
