@@ -75,8 +75,8 @@ pub record BlockActs (over : Option ℕ) (db : Database) (p : Program) (d : ℕ)
   pub acts : BlockActsBy over db p d block scope w typed s steps most
 
 -- a call that stops the run, within a greater bound
-pub stops_within : {p : Program} {d : ℕ} {name : List ℕ} {values : List ℤ} {w w' : Stage} {stop : Stop}
-    {n most : ℕ} → n ≤ most → CallStops p d name values w stop w' n
+pub stops_within : {p : Program} {d : ℕ} {name : List ℕ} {values : List ℤ} {w w' : Stage}
+    {stop : Stop} {n most : ℕ} → n ≤ most → CallStops p d name values w stop w' n
     → CallStops p d name values w stop w' most
 stops_within {p} {d} {name} {values} few x = record {
   ends = λ s. let inner = x.ends s in with_takes inner (takes_within few inner.takes);

@@ -39,8 +39,8 @@ module _ {style : Style} {db : Database} {p : Program} (known : Known style db p
     (verb_is : w.globals (codes "vnum") ≡ Some (pos verb)) (d : ℕ)
     (room : search_room ≤ suc (suc d)) where
   abbrev Commands : Traced Step Outcome → Type 0
-  Commands r = CallActs r.value.over db p (suc (suc (suc (suc (suc (suc (suc d))))))) (codes "command")
-      [] w typed r.value.state r.events (obey_steps db + walk_steps db + 30)
+  Commands r = CallActs r.value.over db p (suc (suc (suc (suc (suc (suc (suc d)))))))
+      (codes "command") [] w typed r.value.state r.events (obey_steps db + walk_steps db + 30)
 
   -- the verb is obeyed, whatever it is
   abbrev Obeys : Option ℕ → Traced Step Outcome → Type 0
@@ -119,8 +119,8 @@ ends_by : (style : Style) {db : Database} {p : Program} {d : ℕ} {w : Stage} {t
     → CommandEnds over (in_style style db) p d (codes "command") w typed t
 ends_by style {db} {p} {d} {w} {typed} {over} t x = by over x.acts where
   by : (over : Option ℕ)
-      → CallActsBy over db p d (codes "command") [] w typed t.value.state t.events (command_steps db)
-      → CommandEnds over (in_style style db) p d (codes "command") w typed t
+      → CallActsBy over db p d (codes "command") [] w typed t.value.state t.events
+      (command_steps db) → CommandEnds over (in_style style db) p d (codes "command") w typed t
   by None x = record { value = x.value; leaves = x.leaves }
   by (Some ending) x = x
 

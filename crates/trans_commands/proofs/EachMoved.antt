@@ -27,6 +27,7 @@ use Rattle.scott_types.specs.Phrase.{text_of, text_in}
 use Rattle.scott_types.specs.ItemText.{shown}
 use Rattle.scott_types.specs.Database.{Database}
 use Rattle.scott_types.specs.Style.{in_style}
+use Rattle.scott_rules.specs.Search.{SearchOutcome}
 use Rattle.scott_rules.specs.Transfer.{verb_for, is_taken, is_refused, transferred, AllOutcome, all_moved, all_after, all_item, all_items}
 use Rattle.trans_rows.specs.Tables.{bit}
 use Rattle.trans_rows.specs.Views.{Shows}
@@ -100,8 +101,8 @@ module _ {style : Style} {db : Database} {p : Program} (known : Known style db p
   module _ (i : ℕ) (less : i < length db.items) where
     on : (m : Bool) (w : Stage) → TestsIfAny p depth move_loop.test (at_item i m) w true w 0
     unfolding body_of
-    on m w = compare (local refl) (valued (small_number p.width (omega (arith, few_items known))) number)
-        under where
+    on m w = compare (local refl)
+        (valued (small_number p.width (omega (arith, few_items known))) number) under where
           under : nat_lt i (length db.items) ≡ true
           under = grind (arith, less)
 
@@ -148,11 +149,14 @@ module _ {style : Style} {db : Database} {p : Program} (known : Known style db p
       (stands : StandsFor db s typed w) (taken : is_taken t i item s ≡ true) (n : ℕ)
       (more : (s' : State) (w' : Stage) → StandsFor db s' typed w'
       → ItemsAct (i + 1) true w' (all_items t (in_style style db) typed (i + 1) rest s') n) where
+    abbrev sought : Traced Step SearchOutcome
+    sought = item_search style db typed t item s
+
     moved : (b : Bool) → NextLeaves known s typed w stands t d room i item rest left less b
         → ItemsAct i m w
-        (after (item_search style db typed t item s).events
+        (after sought.events
         (all_moved b style t i item
-        (item_search style db typed t item s).value.state
+        sought.value.state
         (all_items t (in_style style db) typed (i + 1) rest))) (item_steps db + n)
     unfolding body_of
     moved true x = record {
@@ -168,17 +172,17 @@ module _ {style : Style} {db : Database} {p : Program} (known : Known style db p
             (next (assign (set_variable number refl)) (breaks (if_true (nonzero (call (argument
             (local refl) (argument (local refl) (called x.does)))) refl) (breaks break)))))));
         leaves = subst (λ steps. StageLeft db
-            (item_search style db typed t item s).value.state typed
-            ((item_search style db typed t item s).events ++ steps) w
+            sought.value.state typed
+            (sought.events ++ steps) w
             x.after) (sym (append-nil (said_steps (text_in style TooMuch)))) x.leaves;
       };
     }
     moved false x =
         let r : Traced Step AllOutcome = all_items t (in_style style db) typed (i + 1) rest
         (transferred t i
-        (item_search style db typed t item s).value.state) in
+        sought.value.state) in
         subst (λ steps. TurnsAct r.value.over i m true w r.value.state steps (item_steps db + n))
-        (append_assoc (item_search style db typed t item s).events
+        (append_assoc sought.events
         (said_steps (shown item.text ++ text_of ItemDone)) r.events)
         (turn_then i less m true true r.value.any_taken (within (omega arith) (next (if_true
         (nonzero (call (argument (local refl) (argument (local refl)
@@ -187,31 +191,32 @@ module _ {style : Style} {db : Database} {p : Program} (known : Known style db p
         (next (assign (set_variable number refl)) (next (if_false (nonzero (call (argument
         (local refl) (argument (local refl) (called x.does)))) refl) end) end))) end)) x.leaves
         (or_true r.value.any_taken) (λ h. refl) (more (transferred t i
-        (item_search style db typed t item s).value.state) x.after
+        sought.value.state) x.after
         x.leaves.stands))
 
     taken_turn : ItemsAct i m w
         (all_item true t (in_style style db) typed i item s
         (all_items t (in_style style db) typed (i + 1) rest)) (item_steps db + n)
     unfolding body_of
-    taken_turn = by (item_search style db typed t item s).value.found
+    taken_turn = by sought.value.found
         (move_next known s typed w stands t d room i item rest left less
         (is_refused t db
-        (item_search style db typed t item s).value.state) refl) where
-          by : (found : Found) → NextActs known s typed w stands t d room i item rest left less found
+        sought.value.state) refl) where
+          by : (found : Found)
+              → NextActs known s typed w stands t d room i item rest left less found
               (is_refused t db
-              (item_search style db typed t item s).value.state)
+              sought.value.state)
               → ItemsAct i m w
-              (after (item_search style db typed t item s).events
+              (after sought.events
               (all_after found t (in_style style db) i item
-              (item_search style db typed t item s).value.state
+              sought.value.state
               (all_items t (in_style style db) typed (i + 1) rest))) (item_steps db + n)
           by NoMatch x = moved (is_refused t db
-              (item_search style db typed t item s).value.state) x
+              sought.value.state) x
           by Matched x = moved (is_refused t db
-              (item_search style db typed t item s).value.state) x
+              sought.value.state) x
           by Done x = moved (is_refused t db
-              (item_search style db typed t item s).value.state) x
+              sought.value.state) x
           by (Over ending) x = record {
             acts = record {
               any_is = refl;
@@ -227,7 +232,7 @@ module _ {style : Style} {db : Database} {p : Program} (known : Known style db p
                   (later (λ e s'. argument (local refl)) (called_stops x.stops)))))))))))));
               shows = x.shows;
               past_is = x.past_is ∙ ap (λ past. w.past ++ past) (sym (append-nil
-                  (item_search style db typed t item s).events));
+                  sought.events));
               over_is = x.over_is;
             };
           }

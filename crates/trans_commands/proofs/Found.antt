@@ -51,7 +51,8 @@ module _ {style : Style} {db : Database} {p : Program} (known : Known style db p
     turns : Loops p (suc d) find_loop (at_item c i) w (found_outcome o) (at_item c last) w most
 
   find_from : (c i : ℕ) (rest : List Item) → drop i db.items ≡ rest
-      → i + length rest ≡ length db.items → Finds c i (classed db t s c i rest) (8 * length rest + 1)
+      → i + length rest ≡ length db.items
+      → Finds c i (classed db t s c i rest) (8 * length rest + 1)
   unfolding body_of
   find_from c i [] left all = record {
     last = i;

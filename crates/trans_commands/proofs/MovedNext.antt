@@ -80,26 +80,29 @@ module _ {style : Style} {db : Database} {p : Program} (known : Known style db p
     (typed : List ℕ) (w : Stage) (stands : StandsFor db s typed w) (t : Transfer) (d : ℕ)
     (room : search_room ≤ suc (suc d)) (i : ℕ) (item : Item) (rest : List Item)
     (left : drop i db.items ≡ item ∷ rest) (less : i < length db.items) where
+  abbrev sought : Traced Step SearchOutcome
+  sought = item_search style db typed t item s
+
   abbrev searched_values : List ℤ
   searched_values = pos (verb_for t) ∷ pos (or_zero (which db Nouns (item_word item))) ∷ []
 
   -- where the game goes on: the item is moved, or the hands are full
   abbrev pub NextLeaves : Bool → Type 0
   NextLeaves true = CallLeaves p (suc (suc (suc d))) (codes "move_next")
-      (pos (verb_for t) ∷ pos i ∷ []) w (pos 1) db (item_search style db typed t item s).value.state typed
-      ((item_search style db typed t item s).events ++ said_steps (text_in style TooMuch)) (next_steps db)
+      (pos (verb_for t) ∷ pos i ∷ []) w (pos 1) db sought.value.state typed
+      (sought.events ++ said_steps (text_in style TooMuch)) (next_steps db)
   NextLeaves false = CallLeaves p (suc (suc (suc d))) (codes "move_next")
-      (pos (verb_for t) ∷ pos i ∷ []) w (pos 0) db (transferred t i (item_search style db typed t item s).value.state) typed
-      ((item_search style db typed t item s).events ++ said_steps (shown item.text ++ text_of ItemDone)) (next_steps db)
+      (pos (verb_for t) ∷ pos i ∷ []) w (pos 0) db (transferred t i sought.value.state) typed
+      (sought.events ++ said_steps (shown item.text ++ text_of ItemDone)) (next_steps db)
 
   abbrev pub NextActs : Found → Bool → Type 0
   NextActs (Over ending) b = CallEndsGame p (suc (suc (suc d))) (codes "move_next")
-      (pos (verb_for t) ∷ pos i ∷ []) w (item_search style db typed t item s).value.state (item_search style db typed t item s).events ending (next_steps db)
+      (pos (verb_for t) ∷ pos i ∷ []) w sought.value.state sought.events ending (next_steps db)
   NextActs found b = NextLeaves b
 
   after_search : (v : ℤ) → CallLeaves p (suc (suc d)) (codes "search") searched_values w v db
-      (item_search style db typed t item s).value.state typed (item_search style db typed t item s).events (search_steps db) → (b : Bool)
-      → is_refused t db (item_search style db typed t item s).value.state ≡ b → NextLeaves b
+      sought.value.state typed sought.events (search_steps db) → (b : Bool)
+      → is_refused t db sought.value.state ≡ b → NextLeaves b
   unfolding body_of
   after_search v searched true is = record {
     after = said (text_in style TooMuch) searched.after;
@@ -107,14 +110,14 @@ module _ {style : Style} {db : Database} {p : Program} (known : Known style db p
         (local refl) (argument (entry (local refl) stands.ready.tables.item_nouns_are
         (tabled _ db.items i left)) (called searched.does))))
         (returns (if_true (nonzero (call (argument (local refl)
-        (called (refused known (item_search style db typed t item s).value.state typed searched.after searched.leaves.stands t
-        (suc d) (omega (arith, room)))))) (bit_tells (is_refused t db (item_search style db typed t item s).value.state) ∙ is))
+        (called (refused known sought.value.state typed searched.after searched.leaves.stands t
+        (suc d) (omega (arith, room)))))) (bit_tells (is_refused t db sought.value.state) ∙ is))
         (next (print (print_text print_nothing)) (returns return_true))))) by_return);
     leaves = left_then searched.leaves
         (said_left (text_in style TooMuch) searched.leaves.stands);
   }
   after_search v searched false is =
-      let s1 : State = (item_search style db typed t item s).value.state in
+      let s1 : State = sought.value.state in
       let w1 : Stage = searched.after in
       let stands1 : StandsFor db s1 typed w1 = searched.leaves.stands in
       let says : CallSays p (suc (suc d)) (codes "say_item") (pos i ∷ []) w1 (shown item.text)
@@ -146,15 +149,15 @@ module _ {style : Style} {db : Database} {p : Program} (known : Known style db p
             (left_then twice (put_left known s1 typed w2 twice.stands t i less)));
       }
 
-  pub move_next : (b : Bool) → is_refused t db (item_search style db typed t item s).value.state ≡ b
-      → NextActs (item_search style db typed t item s).value.found b
+  pub move_next : (b : Bool) → is_refused t db sought.value.state ≡ b
+      → NextActs sought.value.found b
   unfolding body_of
-  move_next b is = by (item_search style db typed t item s).value.found (known.searches (verb_for t)
+  move_next b is = by sought.value.found (known.searches (verb_for t)
       (which db Nouns (item_word item)) s typed w (suc (suc d)) room
       (is_noun db (item_word item) (which db Nouns (item_word item))
       (known.laws.least_match db Nouns (item_word item))) stands) where
         by : (found : Found) → SearchFinds found (in_style style db) p (suc (suc d))
-            (codes "search") searched_values w typed (item_search style db typed t item s) → NextActs found b
+            (codes "search") searched_values w typed sought → NextActs found b
         by NoMatch searched = after_search (pos 0) searched b is
         by Matched searched = after_search (pos 1) searched b is
         by Done searched = after_search (pos 2) searched b is

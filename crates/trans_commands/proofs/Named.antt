@@ -58,8 +58,8 @@ starred_untyped (suc n) (x ∷ xs) (y ∷ ys) some plain starred =
     let star : y ≡ 42 = grind (arith, starred) in
     let other : nat_eq (to_ascii_lowercase x) (to_ascii_lowercase y) ≡ false =
     ap (λ y. nat_eq (to_ascii_lowercase x) (to_ascii_lowercase y)) star ∙ other_letter x plain in
-    ap (λ b. b && bytes_eq (map to_ascii_lowercase (take n xs)) (map to_ascii_lowercase (take n ys)))
-    other
+    ap (λ b. b
+    && bytes_eq (map to_ascii_lowercase (take n xs)) (map to_ascii_lowercase (take n ys))) other
 
 -- ---- the item
 
@@ -165,7 +165,8 @@ module _ (law : ClassesTell) (db : Database) (limits : KeepsLimits db) (t : Tran
     by_class = same_item db t s db.header.length (class_of_noun db (root db noun)) (root db noun)
         tells 0 db.items where
           filled : not (is_empty (root db noun)) ≡ true
-          filled = (and_parts (not (is_starred (root db noun))) (not (is_empty (root db noun))) is).1
+          filled =
+              (and_parts (not (is_starred (root db noun))) (not (is_empty (root db noun))) is).1
 
           tells : (item : Item)
               → nat_eq (class_of db (item_word item)) (class_of_noun db (root db noun))

@@ -57,14 +57,16 @@ module _ {style : Style} {db : Database} {p : Program} (known : Known style db p
   pub transfer_acts : (noun : Option ℕ) → IsNoun db noun
       → let r = transfer t (in_style style db) typed noun s in CallActs r.value.over db p
       (suc (suc (suc (suc (suc d))))) (codes "transfer")
-      (pos (verb_for t) ∷ pos (or_zero noun) ∷ []) w typed r.value.state r.events (transfer_steps db)
+      (pos (verb_for t) ∷ pos (or_zero noun) ∷ []) w typed r.value.state r.events
+      (transfer_steps db)
   unfolding body_of
   transfer_acts noun there = by (is_all typed) refl where
     by : (b : Bool) → is_all typed ≡ b
         → let r = if b then all_transferred t (in_style style db) typed s else
         one_transferred t (in_style style db) noun s in CallActs r.value.over db p
         (suc (suc (suc (suc (suc d))))) (codes "transfer")
-        (pos (verb_for t) ∷ pos (or_zero noun) ∷ []) w typed r.value.state r.events (transfer_steps db)
+        (pos (verb_for t) ∷ pos (or_zero noun) ∷ []) w typed r.value.state r.events
+        (transfer_steps db)
     by true is = acts_within (omega arith) (acts_routine known.transfer (acts_if
         (nonzero (call (called (all_asked known s w (suc (suc (suc d))) typed stands)))
         (bit_tells (is_all typed) ∙ is))
@@ -109,8 +111,8 @@ module _ {style : Style} {db : Database} {p : Program} (known : Known style db p
 
   module _ (m : ℕ) (left : CallLeaves p (suc (suc (suc (suc (suc d))))) (codes "search") values w
       (pos m) db searched.value.state typed searched.events (search_steps db)) where
-    marked : Executes p (suc (suc (suc (suc (suc d))))) (first_of (body style db OBEY)) (with_mark 0)
-        w Normal (with_mark m) left.after (search_steps db + 2)
+    marked : Executes p (suc (suc (suc (suc (suc d))))) (first_of (body style db OBEY))
+        (with_mark 0) w Normal (with_mark m) left.after (search_steps db + 2)
     unfolding body_of
     marked = within (omega arith) (assign (set_variable (call (argument (local refl)
         (argument (local refl) (called left.does)))) refl))
@@ -189,20 +191,21 @@ module _ {style : Style} {db : Database} {p : Program} (known : Known style db p
   unfolding body_of
   obey_acts = by searched.value.found (known.searches verb noun s typed w
       (suc (suc (suc (suc (suc d))))) (omega (arith, room)) there stands) where
-        by : (found : Found) → SearchFinds found (in_style style db) p (suc (suc (suc (suc (suc d)))))
-            (codes "search") values w typed searched
+        by : (found : Found) → SearchFinds found (in_style style db) p
+            (suc (suc (suc (suc (suc d))))) (codes "search") values w typed searched
             → Obeys (after searched.events
             (by_found found (in_style style db) typed verb noun searched.value.state))
         by NoMatch left = unpassed_acts false left
         by Matched left = unpassed_acts true left
-        by Done left = returns_acts (does_within (omega arith) (routine known.obey (next (marked 2 left)
-            (returns (if_true (compare (local refl) number refl) (returns return_true)))) by_return))
+        by Done left = returns_acts (does_within (omega arith) (routine known.obey
+            (next (marked 2 left) (returns (if_true (compare (local refl) number refl)
+            (returns return_true)))) by_return))
             (left_then left.leaves (nothing_left left.leaves.stands))
         by (Over ending) x = record {
           acts = record {
             after = x.after;
-            stops = stops_within (omega arith) (routine_stops known.obey (handed_up in_block (step_stops
-                (handed_up in_assignment (handed_up in_set (handed_up in_call
+            stops = stops_within (omega arith) (routine_stops known.obey (handed_up in_block
+                (step_stops (handed_up in_assignment (handed_up in_set (handed_up in_call
                 (later (λ e s'. argument (local refl)) (later (λ e s'. argument (local refl))
                 (called_stops x.stops)))))))));
             shows = x.shows;

@@ -17,11 +17,12 @@ use Rattle.trans_commands.proofs.Left.{one_less, nothing_left}
 pub search_owes : SearchOwes
 unfolding body_of
 search_owes style width db p none serves verb noun s typed w d room is_noun stands =
-    subst (λ (gs : List Group). SearchFinds (search_result (in_style style db) typed verb noun gs s).value.found
-    (in_style style db) p d (codes "search") (pos verb ∷ pos (or_zero noun) ∷ []) w typed
+    subst (λ (gs : List Group). SearchFinds
+    (search_result (in_style style db) typed verb noun gs s).value.found (in_style style db) p d
+    (codes "search") (pos verb ∷ pos (or_zero noun) ∷ []) w typed
     (search_result (in_style style db) typed verb noun gs s)) (sym none)
-    (one_less (λ d. CallLeaves p d (codes "search") (pos verb ∷ pos (or_zero noun) ∷ []) w (pos 0) db
-    s typed [] (search_steps db)) 124 d room
+    (one_less (λ d. CallLeaves p d (codes "search") (pos verb ∷ pos (or_zero noun) ∷ []) w
+    (pos 0) db s typed [] (search_steps db)) 124 d room
     (λ k few. record {
       after = w;
       does = does_within (omega arith) (routine (has p serves.holds.0
