@@ -1,0 +1,4 @@
+mod Served
+mod Lists
+mod Places
+mod HelpersOwed

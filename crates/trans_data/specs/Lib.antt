@@ -1,3 +1,4 @@
 pub mod Numbers
 pub mod Routines
 pub mod Texts
+pub mod Laws

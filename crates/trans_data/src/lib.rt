@@ -17,3 +17,6 @@ mod routines;
 // The texts of the database.
 mod messages;
 mod choices;
+
+// What the routines owe.
+pub mod laws;

@@ -1,0 +1,4 @@
+use Rattle.trans_data.specs.Laws.{HelpersOwe}
+
+pub helpers_owe : HelpersOwe
+helpers_owe = ?

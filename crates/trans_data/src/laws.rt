@@ -1,0 +1,12 @@
+//! The laws of the routines. Each is the contract of a function that does nothing else.
+ghost use Rattle.trans_data.specs.Laws.{PartsAreServed, HelpersOwe};
+
+/// A program that has some directives and then others has each of the two.
+pub fn parts_are_served()
+    ensures { PartsAreServed }
+{}
+
+/// The routines of items and places do what they owe.
+pub fn helpers_owe()
+    ensures { HelpersOwe }
+{}
