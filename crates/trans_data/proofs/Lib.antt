@@ -1,4 +1,11 @@
 mod Served
 mod Lists
 mod Places
+mod Rooms
+mod Spoken
+mod Chosen
 mod HelpersOwed
+mod Listed
+mod Exits
+mod Looks
+mod Owed

@@ -46,7 +46,7 @@ count_loop items = for_loop (Some (item_below items)) (Some (t.Inc (codes "i")))
     (t.statements (t.If count_test (t.statements (t.Assign (t.Inc (codes "n")) ∷ [])) t.NoStatements
     ∷ []))
 
-abbrev counting : ℕ → ℕ → ℕ → ℕ → Scope
+abbrev pub counting : ℕ → ℕ → ℕ → ℕ → Scope
 counting r a i n = record {
   directive = r;
   locals = (codes "at", pos a) ∷ (codes "i", pos i) ∷ (codes "n", pos n) ∷ [];

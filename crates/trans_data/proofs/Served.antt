@@ -18,7 +18,7 @@ use Rattle.trans_data.specs.declared.scoring.TheConstants as c
 use Rattle.trans_data.specs.declared.lights.TheConstants as b
 use Rattle.trans_data.specs.Numbers.{numbers}
 use Rattle.trans_data.specs.Routines.{routine_names, table_rows, chosen_rows, fixed_directives, hundredths_codes, light_codes, out_codes}
-use Rattle.trans_data.specs.Texts.{text_directive, message_directives, item_texts, room_texts, spoken_directives, text_directives}
+use Rattle.trans_data.specs.Texts.{text_routine, message_directives, item_texts, room_texts, spoken_directives, text_directives}
 use Rattle.trans_data.specs.Laws.{PartsAreServed}
 
 -- ---- two lists
@@ -82,8 +82,8 @@ pub record HasAll (style : Style) (db : Database) (p : Program) : Type 0 where
       (hundredths_codes db.header.treasures))
   pub say_light : Has p (tree style db n.SAY_LIGHT [] (light_codes style.counted))
   pub light_out : Has p (tree style db n.LIGHT_OUT [] (out_codes style.vanish))
-  pub say_item : Held p (text_directive (codes "say_item") (item_texts db))
-  pub say_room : Held p (text_directive (codes "say_room") (room_texts style db))
+  pub say_item : Has p (text_routine (codes "say_item") (item_texts db))
+  pub say_room : Has p (text_routine (codes "say_room") (room_texts style db))
   pub messages : Holds p (message_directives 0 db.messages)
 
 pub all_of_them : (style : Style) (db : Database) (width : Width) (p : Program)
@@ -118,7 +118,7 @@ all_of_them style db width p serves =
       hundredths = has_it serves.notes_lines refl chosen.0;
       say_light = has_it serves.notes_lines refl chosen.1.0;
       light_out = has_it serves.notes_lines refl chosen.1.1.0;
-      say_item = spoken.0;
-      say_room = spoken.1.0;
+      say_item = has_it serves.notes_lines refl spoken.0;
+      say_room = has_it serves.notes_lines refl spoken.1.0;
       messages = spoken.1.1;
     }

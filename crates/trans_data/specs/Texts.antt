@@ -4,7 +4,7 @@ use Rattle.inform_tree.specs.declared.values.Const.TheVariants as k
 use Rattle.inform_tree.specs.Values as v
 use Rattle.inform_tree.specs.Statements as s
 use Rattle.inform_tree.specs.Statements.{Choice, Statements, Cases, statements}
-use Rattle.inform_tree.specs.Programs.{DirectiveTree, Routine}
+use Rattle.inform_tree.specs.Programs.{RoutineTree, DirectiveTree, Routine}
 use Rattle.inform_codes.specs.Grown.{body_of}
 use Rattle.scott_types.specs.declared.parts.Item.{Item}
 use Rattle.scott_types.specs.declared.parts.Room.{Room}
@@ -42,12 +42,12 @@ text_cases n [] = s.NoCases
 text_cases n (text ∷ texts) =
     s.MoreCases (text_case n text).0 (text_case n text).1 (text_cases (n + 1) texts)
 
-abbrev pub text_directive : List ℕ → List (List ℕ) → DirectiveTree
-text_directive name texts = Routine (record {
+abbrev pub text_routine : List ℕ → List (List ℕ) → RoutineTree
+text_routine name texts = record {
   name = name;
   locals = codes "i" ∷ [];
   body = statements (s.Switch (v.Name (codes "i")) (text_cases 0 texts) s.NoDefault ∷ []);
-})
+}
 
 -- what is shown of each item, and how each room is described
 abbrev pub item_texts : Database → List (List ℕ)
@@ -59,8 +59,9 @@ room_texts style db = map (λ room. described style room.text) db.rooms
 -- ---- all of the routines
 
 abbrev pub spoken_directives : Style → Database → List DirectiveTree
-spoken_directives style db = text_directive (codes "say_item") (item_texts db)
-    ∷ text_directive (codes "say_room") (room_texts style db) ∷ message_directives 0 db.messages
+spoken_directives style db = Routine (text_routine (codes "say_item") (item_texts db))
+    ∷ Routine (text_routine (codes "say_room") (room_texts style db))
+    ∷ message_directives 0 db.messages
 
 abbrev pub text_directives : Style → Database → List DirectiveTree
 text_directives style db = fixed_directives style db ++ spoken_directives style db

@@ -2,8 +2,9 @@
 ghost use Rattle.std.specs.Prelude.{◌≡◌, ◌<◌, ◌+◌, ◌^◌, IfOk, map, length, [], ◌∷◌};
 ghost use Rattle.inform_tree.specs.Statements.{cases_of, case_of, statement_of};
 ghost use Rattle.inform_tree.specs.Statements as s;
+ghost use Rattle.inform_tree.specs.Programs as d;
 ghost use Rattle.inform_tree.specs.Programs.{directive_of};
-ghost use Rattle.trans_data.specs.Texts.{text_case, text_cases, text_directive};
+ghost use Rattle.trans_data.specs.Texts.{text_case, text_cases, text_routine as the_routine};
 
 use adv_io::Memory;
 use inform_tree::{Case, Const, Directive, Expr, Item, Name, Routine, Stmt, Text};
@@ -49,7 +50,7 @@ fn cases(alloc: Global, number: u32, texts: &[Vec<u8>]) -> Result<Vec<Case>, Mem
 pub fn text_routine(alloc: Global, name: &[u8], texts: &[Vec<u8>]) -> Result<Directive, Memory>
     requires { length texts.now < 2 ^ 31 }
     ensures { IfOk result (λ directive. directive_of directive
-        ≡ text_directive name.now (map (λ text. text.items) texts.now)) }
+        ≡ d.Routine (the_routine name.now (map (λ text. text.items) texts.now))) }
 {
     let number = Expr::Name(Name::of(Vec::from_slice(alloc, b"i")?));
     let choice = Stmt::Switch(number, cases(alloc, 0, texts)?, None);
