@@ -44,6 +44,9 @@ use Rattle.trans_data.proofs.Chosen.{chosen_count, rest_joined, all_joined}
 use Rattle.trans_data.proofs.Listed.{last_said, some_said, list_does}
 use Rattle.trans_data.proofs.Exits.{few_rooms, exits_do}
 
+some_there : {X : Type 0} (x : X) (xs : List X) → not (nat_eq (length (x ∷ xs)) 0) ≡ true
+some_there x xs = grind arith
+
 -- three texts one after the other
 pub said_three : (a b c : List ℕ) (w : Stage) → said c (said b (said a w)) ≡ said (a ++ (b ++ c)) w
 said_three a b c w = said_twice b c (said a w) ∙ said_twice a (b ++ c) w
@@ -66,7 +69,7 @@ module _ (style : Style) (db : Database) (limits : KeepsLimits db) (p : Program)
         many = length-map db.rooms _
 
   -- as many items are at a place as texts are listed
-  count_is : (a : ℕ) → there_count style db limits p has s a ≡ length (items_at db s a)
+  count_is : (a : ℕ) → there_count s a ≡ length (items_at db s a)
   count_is a = chosen_count (λ at. at == a) (λ (item : Item). shown item.text) db.items
       s.places.items 0 fits.places.count ∙ omega arith
 
@@ -126,7 +129,7 @@ module _ (style : Style) (db : Database) (limits : KeepsLimits db) (p : Program)
         (said_three (text_in style AlsoSee) (joined (text_of BetweenItems) (x ∷ xs))
         (text_of Newline) w)
         (within (omega arith) (if_true (nonzero (call (argument (global refl here) (called counts)))
-        (ap (λ n. not (int_eq (pos n) (pos 0))) is ∙ ap not (equal_is (length (x ∷ xs)) 0)))
+        (ap (λ n. not (int_eq (pos n) (pos 0))) is ∙ ap not (equal_is (length (x ∷ xs)) 0) ∙ some_there x xs))
         (next (print (print_text print_nothing))
         (next (call_alone (argument (global refl here) (called lists)))
         (next (print (print_text print_nothing)) end)))))
@@ -150,7 +153,7 @@ module _ (style : Style) (db : Database) (limits : KeepsLimits db) (p : Program)
         (ap (λ n. not (int_eq (pos n) (pos 0))) is)) (next (print (print_text print_nothing)) end))
     carried_chosen w n (x ∷ xs) is counts lists =
         within (omega arith) (if_true (nonzero (call (argument number (called counts)))
-        (ap (λ n. not (int_eq (pos n) (pos 0))) is ∙ ap not (equal_is (length (x ∷ xs)) 0)))
+        (ap (λ n. not (int_eq (pos n) (pos 0))) is ∙ ap not (equal_is (length (x ∷ xs)) 0) ∙ some_there x xs))
         (next (call_alone (argument number (called lists))) end))
 
   pub look_does : (d : ℕ) (w : Stage) → Shows s w → HasTables db w
@@ -177,7 +180,7 @@ module _ (style : Style) (db : Database) (limits : KeepsLimits db) (p : Program)
         (next (exits_chosen (suc d) has.look.at _ (exit_names db s.room)
         (exits_do style db limits p has s fits (suc d) _ shows.room_is tables.exits_are))
         (next (print (print_text print_nothing))
-        (next (seen_chosen (suc d) has.look.at _ (there_count style db limits p has s s.room)
+        (next (seen_chosen (suc d) has.look.at _ (there_count s s.room)
         (items_at db s s.room) (count_is s.room) shows.room_is
         (count_does style db limits p has s _ shows fits (suc (suc d)) s.room)
         (list_does style db limits p has s fits (suc d) s.room _ shows)) (returns return_true))))))) by_return)) where
@@ -202,7 +205,7 @@ module _ (style : Style) (db : Database) (limits : KeepsLimits db) (p : Program)
       (joined_or (text_of NothingCarried) (text_of BetweenItems) (items_at db s carried_place))
       (text_of ListEnd) w)
       (does_within (omega arith) (routine has.inventory (next (print (print_text print_nothing))
-      (next (carried_chosen d has.inventory.at _ (there_count style db limits p has s 255)
+      (next (carried_chosen d has.inventory.at _ (there_count s 255)
       (items_at db s carried_place) (count_is 255)
       (count_does style db limits p has s _ shows fits (suc d) 255)
       (list_does style db limits p has s fits d 255 _ shows))

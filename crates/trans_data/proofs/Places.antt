@@ -55,6 +55,10 @@ counting r a i n = record {
 abbrev more : ℕ → ℕ → List ℕ → ℕ
 more a n xs = fold (λ n x. n + cond (nat_eq x a) 1 0) n xs
 
+-- how many items are at a place
+abbrev pub there_count : State → ℕ → ℕ
+there_count s a = count_by (λ place. place == a) s.places.items
+
 pub few_items : (db : Database) → KeepsLimits db → length db.items ≤ 255
 few_items db limits = at_most (length db.items) 255
     (and_parts (nat_le 1 (length db.items)) (nat_le (length db.items) 255) limits.sizes.items).1
@@ -182,11 +186,8 @@ module _ (style : Style) (db : Database) (limits : KeepsLimits db) (p : Program)
               (subst (λ m. Counts (i + 1) n (more a m rest) (3 * length rest + 1)) (sym (add-zero n))
               (after n (omega (arith, few)))))
 
-  abbrev pub there_count : ℕ → ℕ
-  there_count a = count_by (λ place. place == a) s.places.items
-
   pub count_does : (d a : ℕ) → Does p (suc d) (codes "count_at") (pos a ∷ []) w
-      (pos (there_count a)) w (3 * length db.items + 3)
+      (pos (there_count s a)) w (3 * length db.items + 3)
   unfolding body_of routine_names numbers
   count_does d a = does_within (omega (arith, fits.places.count)) (routine has.count
       (next (for (set_variable number refl)
@@ -199,7 +200,7 @@ module _ (style : Style) (db : Database) (limits : KeepsLimits db) (p : Program)
   carried_does d = does_within (omega arith) (routine has.carried
       (returns (return (call (argument number (called (count_does d 255)))))) by_return)
 
-  pub few_there : (a : ℕ) → there_count a ≤ 255
+  pub few_there : (a : ℕ) → there_count s a ≤ 255
   few_there a = omega (arith, count_few (λ place. place == a) s.places.items 0, fits.places.count,
       few_items db limits)
 
