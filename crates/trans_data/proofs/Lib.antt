@@ -8,4 +8,5 @@ mod HelpersOwed
 mod Listed
 mod Exits
 mod Looks
+mod Scored
 mod Owed
