@@ -9,4 +9,8 @@ mod Listed
 mod Exits
 mod Looks
 mod Scored
+mod Rated
+mod Kept
+mod Burnt
+mod Burning
 mod Owed

@@ -154,7 +154,7 @@ module _ (style : Style) (db : Database) (limits : KeepsLimits db) (p : Program)
             (next (if_false (all_of (one_fails (gold h))) end) end)
             (increment refl (counted_up p.width i next_item)) (after_no after))
 
-  stored_does : (d : ℕ) → Does p (suc d) (codes "stored") [] w (pos (stored_count db s)) w
+  pub stored_does : (d : ℕ) → Does p (suc d) (codes "stored") [] w (pos (stored_count db s)) w
       (3 * length db.items + 3)
   unfolding body_of routine_names numbers
   stored_does d = does_within (omega arith) (routine has.stored (next (for (set_variable number refl)
