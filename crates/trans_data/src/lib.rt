@@ -18,5 +18,13 @@ mod routines;
 mod messages;
 mod choices;
 
+// The globals and arrays.
+mod entries;
+mod state_tables;
+mod classes;
+mod item_tables;
+mod exit_tables;
+mod word_tables;
+
 // What the routines owe.
 pub mod laws;
