@@ -14,3 +14,4 @@ mod Kept
 mod Burnt
 mod Burning
 mod Owed
+mod Zeros

@@ -4,7 +4,8 @@ ghost use Rattle.scott_types.specs.Database.{place_of_item};
 ghost use Rattle.scott_types.specs.ItemText.{is_treasure as is_treasure_text};
 ghost use Rattle.scott_rules.specs.Words.{is_empty, which as the_which};
 ghost use Rattle.scott_types.specs.declared.commands.Column.TheVariants.{Nouns};
-ghost use Rattle.trans_rows.specs.Tables.{bit, or_zero, item_word, class_of as the_class};
+ghost use Rattle.trans_rows.specs.Tables.{bit, or_zero, item_word};
+ghost use Rattle.trans_data.specs.Items.{class_of_item as the_item_class};
 
 use crate::classes::class_of;
 use adv_io::Memory;
@@ -69,14 +70,21 @@ pub fn item_nouns(alloc: Global, db: &Db, items: &[Item]) -> Result<Vec<u32>, Me
     Ok(numbers)
 }
 
+// The class of the word of an item.
+#[tactic(auto, unfolding(crate::specs::Items::class_of_item))]
+fn class_of_item(db: &Db, item: &Item) -> u32
+    ensures { result ≡ the_item_class db.now item.now }
+{
+    class_of(db, get_word(&item.text))
+}
+
 /// The class of the word of each item.
 pub fn item_classes(alloc: Global, db: &Db, items: &[Item]) -> Result<Vec<u32>, Memory>
-    ensures { IfOk result (λ numbers. numbers.items
-        ≡ map (λ item. the_class db.now (item_word item)) items.now) }
+    ensures { IfOk result (λ numbers. numbers.items ≡ map (the_item_class db.now) items.now) }
 {
     let mut numbers = Vec::with_capacity(alloc, items.len())?;
     for item in items {
-        numbers.push(class_of(db, get_word(&item.text)))?;
+        numbers.push(class_of_item(db, item))?;
     }
     Ok(numbers)
 }

@@ -25,6 +25,7 @@ mod classes;
 mod item_tables;
 mod exit_tables;
 mod word_tables;
+mod fixed_tables;
 
 // What the routines owe.
 pub mod laws;

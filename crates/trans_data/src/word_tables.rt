@@ -40,6 +40,7 @@ fn is_printed(word: &[u8]) -> bool
 }
 
 // Zeros after other numbers.
+#[tactic(auto, using(crate::proofs::Zeros::one_more))]
 fn with_zeros(numbers: Vec<u32>, count: usize) -> Result<Vec<u32>, Memory>
     ensures { IfOk result (λ all. all.items ≡ numbers.items ++ replicate count 0) }
 {
