@@ -1,0 +1,17 @@
+mod Served
+mod Lists
+mod Places
+mod Rooms
+mod Spoken
+mod Chosen
+mod HelpersOwed
+mod Listed
+mod Exits
+mod Looks
+mod Scored
+mod Rated
+mod Kept
+mod Burnt
+mod Burning
+mod Owed
+mod Zeros

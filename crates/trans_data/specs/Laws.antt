@@ -1,0 +1,39 @@
+-- The laws of the routines: what they owe.
+use Rattle.std.specs.Prelude.{List, ◌++◌, codes}
+use Rattle.inform_tree.specs.declared.widths.Width.{Width}
+use Rattle.inform_tree.specs.Programs.{DirectiveTree}
+use Rattle.inform_meaning.specs.Worlds.{Program}
+use Rattle.scott_types.specs.declared.styles.Style.{Style}
+use Rattle.scott_types.specs.Database.{Database}
+use Rattle.scott_types.specs.Style.{in_style}
+use Rattle.trans_rows.specs.Programs.{Serves}
+use Rattle.trans_rows.specs.HelperRows.{HelperNames, HelperRows}
+use Rattle.trans_rows.specs.Owed.{Translates, DataOwe}
+use Rattle.trans_data.specs.Texts.{text_directives}
+
+-- A program that has some directives and then others has each of the two.
+abbrev pub PartsAreServed : Type 0
+PartsAreServed = (width : Width) (xs ys : List DirectiveTree) (p : Program)
+    → Serves width (xs ++ ys) p → Serves width xs p × Serves width ys p
+
+abbrev pub helper_names : HelperNames
+helper_names = record {
+  place = codes "place";
+  near = codes "near";
+  dark = codes "dark";
+  carried = codes "carried";
+  full = codes "full";
+  item_text = codes "say_item";
+}
+
+-- The routines of items and places do what they owe.
+abbrev pub HelpersOwe : Type 0
+HelpersOwe = (style : Style) (width : Width) (db : Database) (p : Program)
+    → Translates width db → Serves width (text_directives style db) p
+    → HelperRows (in_style style db) p helper_names
+
+-- The routines of texts and of the light do what they owe.
+abbrev pub DataOwes : Type 0
+DataOwes = (style : Style) (width : Width) (db : Database)
+    → DataOwe width (in_style style db) (text_directives style db) (codes "look")
+    (codes "inventory") (codes "score") (codes "burn")

@@ -1,0 +1,5 @@
+pub mod Numbers
+pub mod Routines
+pub mod Texts
+pub mod Items
+pub mod Laws
