@@ -46,5 +46,6 @@ pub fn exits(alloc: Global, db: &Db) -> Result<Vec<u32>, Memory>
     ensures { IfOk result (λ numbers. numbers.items
         ≡ flat_map (exits_of_room db.now) db.now.rooms) }
 {
-    exits_of(alloc, db.rooms().len(), db.rooms())
+    let rooms = db.rooms();
+    exits_of(alloc, rooms.len(), rooms)
 }

@@ -17,6 +17,7 @@ mod routines;
 // The texts of the database.
 mod messages;
 mod choices;
+mod descriptions;
 
 // The globals and arrays.
 mod entries;
@@ -27,5 +28,10 @@ mod exit_tables;
 mod word_tables;
 mod fixed_tables;
 
+// All of them.
+mod game_tables;
+
 // What the routines owe.
 pub mod laws;
+
+pub use game_tables::tables;
