@@ -20,7 +20,8 @@ fn beyond(rooms: usize, number: i32) -> u32
 
 // The exits of a room, after those of other rooms.
 fn with_exits(numbers: Vec<u32>, rooms: usize, exits: &[i32]) -> Result<Vec<u32>, Memory>
-    ensures { IfOk result (λ all. all.items ≡ numbers.items ++ map (room_beyond rooms) exits.now) }
+    ensures { IfOk result (λ all. all.items
+        ≡ numbers.items ++ map (room_beyond rooms) exits.now) }
 {
     let mut all = numbers;
     for number in exits {

@@ -72,6 +72,9 @@ pub fn tables(
     ensures { IfOk result (λ directives. map directive_of directives.items
         ≡ table_directives style db.now state.now) }
 {
-    let routines = joined(fixed_directives(alloc, db, style)?, spoken(alloc, db, style)?)?;
+    let routines = joined(
+        fixed_directives(alloc, db, style)?,
+        spoken(alloc, db, style)?,
+    )?;
     joined(data(alloc, db, state)?, routines)
 }
