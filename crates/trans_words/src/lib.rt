@@ -1,4 +1,4 @@
-//! The word reader of a translated game: the routines that find in a typed line what the rules hear.
+//! The word reader of a translated game: the routines that find in a line what the rules hear.
 #![tactic(auto)]
 
 // The routines, as codes: those that read a line,
