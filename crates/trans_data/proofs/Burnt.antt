@@ -1,53 +1,37 @@
 -- The routines of the light.
-use Rattle.std.proofs.Common.{◌≡◌, ◌∙◌, arith, ℕ, suc, ◌+◌, ◌*◌, ◌<◌, ◌≤◌, ℤ, pos, negsuc, ◌-ℤ◌, int_lt, int_rem, nat_eq, ◌==◌, ◌&&◌, ◌||◌, not, Bool, true, false, if◌then◌else◌, List, [], ◌∷◌, ◌++◌, map, set, length, codes, Some, None, is_some, refl, sym, ap, subst, append-nil, append_assoc}
+use Rattle.std.proofs.Common.{◌≡◌, arith, ℕ, suc, ◌<◌, ℤ, pos, int_lt, int_rem, Bool, true, false, if◌then◌else◌, List, [], ◌∷◌, ◌++◌, map, set, length, codes, Some, refl, sym, subst}
 use Rattle.std.specs.Ordering.{int_eq}
 use Rattle.std.specs.Fmt.{signed_decimal}
 use Rattle.std.proofs.lemmas.List.{length-map, length-append}
-use Rattle.adv_io.specs.Steps.{Traced, said_steps, traced}
-use Rattle.inform_tree.specs.declared.widths.Width.{Width}
-use Rattle.inform_tree.specs.declared.conditions.Relation.TheVariants.{Lt, Eq}
-use Rattle.inform_tree.specs.Values as v
-use Rattle.inform_tree.specs.Conditions as c
-use Rattle.inform_tree.specs.Statements as t
-use Rattle.inform_meaning.specs.Worlds.{Program, Scope}
-use Rattle.inform_meaning.specs.Frames.{Normal}
-use Rattle.inform_logic.specs.Stages.{Stage, with_global, with_array, said}
-use Rattle.inform_logic.specs.Leading.{Tests, Executes, Does, by_return}
+use Rattle.inform_meaning.specs.Worlds.{Program}
+use Rattle.inform_logic.specs.Stages.{Stage, with_array, said}
+use Rattle.inform_logic.specs.Leading.{Does, by_return}
 use Rattle.inform_logic.specs.Holding.{Has}
 use Rattle.inform_logic.proofs.Lists.{is_there}
-use Rattle.inform_logic.proofs.Words.{negative_word, negation_is, remainder_is, eq_is}
-use Rattle.inform_logic.proofs.Values.{within, valued, number, local, global, negation, product_of_two, argument, called, call}
-use Rattle.inform_logic.proofs.Conditions.{compare, nonzero, any_of, this_holds, this_fails, none_holds}
-use Rattle.inform_logic.proofs.Changes.{set_entry, decrement}
-use Rattle.inform_logic.proofs.Printing.{print_nothing, print_text, print_number, said_nothing, said_twice}
-use Rattle.inform_logic.proofs.Statements.{end, next, returns, assign, print, call_alone, return_true, if_true, if_false}
+use Rattle.inform_logic.proofs.Words.{remainder_is}
+use Rattle.inform_logic.proofs.Values.{number, global, product_of_two}
+use Rattle.inform_logic.proofs.Conditions.{compare}
+use Rattle.inform_logic.proofs.Changes.{set_entry}
+use Rattle.inform_logic.proofs.Printing.{print_nothing, print_text, print_number, said_nothing}
+use Rattle.inform_logic.proofs.Statements.{end, next, returns, assign, print, return_true, if_true, if_false}
 use Rattle.inform_logic.proofs.Routines.{does_within, routine}
 use Rattle.inform_codes.specs.Grown.{body_of}
 use Rattle.scott_types.specs.declared.phrases.Phrase.TheVariants.{LightOut, LightDim, LightLasts, LightTurns}
 use Rattle.scott_types.specs.declared.states.State.{State}
 use Rattle.scott_types.specs.declared.styles.Style.{Style}
 use Rattle.scott_types.specs.Database.{Database}
-use Rattle.scott_types.specs.Limits.{KeepsLimits}
 use Rattle.scott_types.specs.Phrase.{text_of}
-use Rattle.scott_types.specs.Style.{in_style}
-use Rattle.scott_types.specs.State.{place_of, is_near, lamp, out_flag, with_flag, with_place, Fits}
-use Rattle.scott_rules.specs.Light.{is_burning, turns_text, dim_text, light_text, said_near, put_out, light_left, light_seen, light_counted}
-use Rattle.scott_rules.proofs.Fitting.{Fits-light_counted}
+use Rattle.scott_types.specs.State.{lamp, out_flag, with_flag, with_place}
+use Rattle.scott_rules.specs.Light.{turns_text, dim_text, light_text}
 use Rattle.trans_rows.specs.Tables.{bit}
-use Rattle.trans_rows.specs.Wide.{is_word_of}
 use Rattle.trans_rows.specs.Views.{naturals, Shows}
-use Rattle.trans_rows.specs.Standing.{StandsFor}
-use Rattle.trans_rows.specs.Calls.{CallLeaves}
-use Rattle.trans_rows.proofs.Writes.{globals_written, entries_written}
+use Rattle.trans_rows.proofs.Writes.{entries_written}
 use Rattle.trans_data.specs.declared.names.TheConstants as n
 use Rattle.trans_data.specs.declared.lights.TheConstants as l
-use Rattle.trans_data.specs.Numbers.{numbers}
 use Rattle.trans_data.specs.Routines.{routine_names}
-use Rattle.trans_data.proofs.Lists.{bit_nonzero}
 use Rattle.trans_data.proofs.Served.{HasAll, tree}
-use Rattle.trans_data.proofs.Places.{place_does, near_does}
 use Rattle.trans_data.proofs.Looks.{said_three}
-use Rattle.trans_data.proofs.Kept.{light_less, range_less, is_item, Kept, kept_then, kept, kept_said, kept_light, kept_flag, kept_item}
+use Rattle.trans_data.proofs.Kept.{Kept, kept_then, kept_flag, kept_item}
 
 module _ (style : Style) (db : Database) (p : Program) (has : HasAll style db p) where
   -- ---- what is said of the light

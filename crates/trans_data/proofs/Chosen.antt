@@ -1,5 +1,5 @@
 -- The texts that are chosen of lists, one after the other, and how they are joined.
-use Rattle.std.proofs.Common.{◌≡◌, ◌∙◌, arith, ℕ, ◌+◌, nat_eq, Bool, true, false, cond, if◌then◌else◌, List, [], ◌∷◌, ◌++◌, map, length, fold, count_by, refl, sym, ap, append_assoc, append-nil}
+use Rattle.std.proofs.Common.{◌≡◌, ◌∙◌, arith, ℕ, ◌+◌, nat_eq, Bool, true, false, cond, if◌then◌else◌, List, [], ◌∷◌, ◌++◌, map, length, fold, refl, sym, ap, append_assoc}
 use Rattle.std.specs.Prelude.{zip, filter, flat_map}
 use Rattle.adv_io.specs.Text.{joined, joined_or}
 use Rattle.scott_rules.specs.Looking.{chosen}

@@ -1,10 +1,8 @@
 -- The routine that lists the exits of the room.
-use Rattle.std.proofs.Common.{◌≡◌, ◌∙◌, arith, ℕ, zero, suc, ◌+◌, ◌*◌, ◌<◌, ◌≤◌, ℤ, pos, nat_eq, nat_le, ◌==◌, ◌&&◌, not, Bool, true, false, if◌then◌else◌, List, [], ◌∷◌, ◌++◌, map, length, drop, slice_get, slice_index, slice_index_or, flat_map, codes, Some, refl, sym, ap, subst, subst₂}
+use Rattle.std.proofs.Common.{◌≡◌, ◌∙◌, arith, ℕ, zero, suc, ◌+◌, ◌*◌, ◌<◌, ◌≤◌, ℤ, pos, nat_eq, nat_le, ◌==◌, ◌&&◌, not, Bool, true, false, if◌then◌else◌, List, [], ◌∷◌, map, length, drop, slice_get, slice_index, slice_index_or, flat_map, codes, Some, refl, sym, ap, subst, subst₂}
 use Rattle.std.specs.List.{list_all}
-use Rattle.std.specs.Ordering.{int_eq}
 use Rattle.std.proofs.lemmas.Bool.{and_parts}
 use Rattle.std.proofs.lemmas.List.{length-map, length-append}
-use Rattle.inform_tree.specs.declared.conditions.Relation.TheVariants.{Lt}
 use Rattle.inform_tree.specs.declared.values.SumOp.TheVariants.{Add}
 use Rattle.inform_tree.specs.declared.values.ProdOp.TheVariants.{Mul}
 use Rattle.inform_tree.specs.Values as v
@@ -15,7 +13,6 @@ use Rattle.inform_meaning.specs.Frames.{Loop, Normal}
 use Rattle.inform_meaning.specs.Statements.{for_loop}
 use Rattle.inform_logic.specs.Stages.{Stage, said}
 use Rattle.inform_logic.specs.Leading.{Tests, Loops, Does, by_return}
-use Rattle.inform_logic.specs.Holding.{Has}
 use Rattle.inform_logic.proofs.Lists.{after_rest}
 use Rattle.inform_logic.proofs.Words.{small_sum, small_product, counted_up, equal_is}
 use Rattle.inform_logic.proofs.Values.{within, number, local, global, entry, sum_of_two, product_of_two, argument, called}
@@ -34,17 +31,14 @@ use Rattle.scott_types.specs.declared.styles.Style.{Style}
 use Rattle.scott_types.specs.Database.{Database, room_at}
 use Rattle.scott_types.specs.Limits.{is_number, is_file_text, is_room, KeepsLimits}
 use Rattle.scott_types.specs.Phrase.{text_of}
-use Rattle.scott_types.specs.Room.{room_beyond, exit_of}
+use Rattle.scott_types.specs.Room.{room_beyond}
 use Rattle.scott_types.specs.State.{Fits}
 use Rattle.scott_rules.specs.Looking.{chosen, directions, exit_names}
 use Rattle.trans_rows.specs.Tables.{exits_of_room, exits}
-use Rattle.trans_rows.specs.Views.{naturals, Shows}
-use Rattle.trans_rows.specs.Standing.{HasTables}
+use Rattle.trans_rows.specs.Views.{naturals}
 use Rattle.trans_rows.proofs.Flat.{exits_stand}
-use Rattle.trans_data.specs.Numbers.{numbers}
 use Rattle.trans_data.specs.Routines.{routine_names}
-use Rattle.trans_data.specs.Texts.{text_routine}
-use Rattle.trans_data.proofs.Lists.{under, is_under, not_under, at_most}
+use Rattle.trans_data.proofs.Lists.{under, is_under, at_most}
 use Rattle.trans_data.proofs.Served.{HasAll}
 use Rattle.trans_data.proofs.Places.{item_below}
 use Rattle.trans_data.proofs.Spoken.{text_does}

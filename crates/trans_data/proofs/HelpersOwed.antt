@@ -1,18 +1,14 @@
 -- The routines of items and places do what they owe.
-use Rattle.std.proofs.Common.{◌≡◌, ◌∙◌, arith, ℕ, suc, ◌<◌, ◌≤◌, pos, List, [], ◌∷◌, map, length, codes, slice_index_or, refl, subst}
+use Rattle.std.proofs.Common.{◌≡◌, arith, ℕ, suc, ◌<◌, pos, [], ◌∷◌, length, codes, subst}
 use Rattle.std.proofs.lemmas.List.{length-map}
 use Rattle.inform_meaning.specs.Worlds.{Program}
 use Rattle.inform_logic.specs.Stages.{Stage, said}
 use Rattle.inform_logic.specs.Leading.{Does}
 use Rattle.scott_types.specs.declared.parts.Item.{Item}
-use Rattle.scott_types.specs.declared.states.State.{State}
 use Rattle.scott_types.specs.declared.styles.Style.{Style}
 use Rattle.scott_types.specs.Database.{Database, item_at}
 use Rattle.scott_types.specs.Limits.{KeepsLimits}
 use Rattle.scott_types.specs.ItemText.{shown}
-use Rattle.trans_rows.specs.Steps.{text_steps}
-use Rattle.trans_rows.specs.Standing.{StandsFor}
-use Rattle.trans_rows.specs.Names.{line_number}
 use Rattle.trans_data.specs.Texts.{item_texts}
 use Rattle.trans_data.specs.Laws.{HelpersOwe}
 use Rattle.trans_data.proofs.Lists.{share_items}

@@ -1,9 +1,8 @@
 -- Numbers of the light, and what a turn of it leaves as it was.
-use Rattle.std.proofs.Common.{◌≡◌, ◌∙◌, arith, ℕ, zero, suc, ◌+◌, ◌<◌, ◌≤◌, ℤ, pos, negsuc, ◌+ℤ◌, ◌-ℤ◌, ◌≤ℤ◌, int_le, nat_eq, nat_lt, ◌&&◌, not, Bool, true, false, cond, if◌then◌else◌, List, [], ◌∷◌, ◌++◌, map, length, set, find, slice_index, codes, Some, None, refl, sym, ap, append-nil, append_assoc}
+use Rattle.std.proofs.Common.{◌≡◌, ◌∙◌, arith, ℕ, zero, suc, ◌<◌, ℤ, pos, negsuc, ◌+ℤ◌, ◌-ℤ◌, ◌≤ℤ◌, nat_eq, not, Bool, true, false, cond, if◌then◌else◌, List, [], ◌∷◌, length, find, slice_index, codes, Some, None, refl, sym, ap}
 use Rattle.std.specs.Int as i
 use Rattle.std.specs.Ordering.{int_eq}
 use Rattle.std.proofs.lemmas.Int.{ints, int_wrap_fits}
-use Rattle.adv_io.specs.Steps.{Step, said_steps}
 use Rattle.inform_tree.specs.declared.widths.Width.{Width}
 use Rattle.inform_tree.specs.declared.widths.Width.TheVariants.{W16, W32}
 use Rattle.inform_meaning.specs.Words.{word_sum}
@@ -14,7 +13,6 @@ use Rattle.trans_rows.specs.Wide.{Placed, is_word_of, placed_actions, is_too_wid
 use Rattle.trans_rows.specs.Standing.{HasTables, CanWork, HasNoun}
 use Rattle.trans_rows.specs.Views.{shown_globals, shown_arrays}
 use Rattle.trans_rows.specs.Programs.{IsOther}
-use Rattle.trans_data.proofs.Lists.{past_the_end}
 
 -- ---- the light of the header is a word
 

@@ -1,12 +1,7 @@
 -- The routines that list the items at a place and the exits of the room.
-use Rattle.std.proofs.Common.{◌≡◌, ◌∙◌, arith, ℕ, zero, suc, ◌+◌, ◌*◌, ◌<◌, ◌≤◌, ℤ, pos, nat_eq, nat_lt, ◌==◌, ◌&&◌, not, Bool, true, false, if◌then◌else◌, List, [], ◌∷◌, ◌++◌, map, length, drop, slice_get, slice_index, slice_index_or, flat_map, codes, Some, refl, sym, ap, subst, subst₂, append_assoc}
-use Rattle.std.specs.List.{list_all}
+use Rattle.std.proofs.Common.{◌≡◌, ◌∙◌, arith, ℕ, zero, suc, ◌+◌, ◌*◌, ◌<◌, ℤ, pos, nat_eq, ◌==◌, not, Bool, true, false, if◌then◌else◌, List, [], ◌∷◌, ◌++◌, map, length, drop, slice_index_or, codes, Some, refl, sym, ap, subst, subst₂}
 use Rattle.std.specs.Ordering.{int_eq}
-use Rattle.std.proofs.lemmas.Bool.{and_parts}
-use Rattle.std.proofs.lemmas.List.{length-map, length-append}
-use Rattle.inform_tree.specs.declared.conditions.Relation.TheVariants.{Lt, Eq}
-use Rattle.inform_tree.specs.declared.values.SumOp.TheVariants.{Add}
-use Rattle.inform_tree.specs.declared.values.ProdOp.TheVariants.{Mul}
+use Rattle.inform_tree.specs.declared.conditions.Relation.TheVariants.{Eq}
 use Rattle.inform_tree.specs.Values as v
 use Rattle.inform_tree.specs.Conditions as c
 use Rattle.inform_tree.specs.Statements as t
@@ -15,42 +10,34 @@ use Rattle.inform_meaning.specs.Tables.{found}
 use Rattle.inform_meaning.specs.Frames.{Loop, Normal}
 use Rattle.inform_meaning.specs.Statements.{for_loop}
 use Rattle.inform_logic.specs.Stages.{Stage, said}
-use Rattle.inform_logic.specs.Leading.{Evaluates, Tests, Loops, Executes, Does, by_return}
-use Rattle.inform_logic.specs.Holding.{Has}
+use Rattle.inform_logic.specs.Leading.{Tests, Loops, Executes, Does, by_return}
 use Rattle.inform_logic.proofs.Lists.{after_rest}
-use Rattle.inform_logic.proofs.Words.{small_number, small_sum, small_product, counted_up, eq_is, equal_is}
-use Rattle.inform_logic.proofs.Values.{within, valued, number, local, global, entry, sum_of_two, product_of_two, argument, called}
+use Rattle.inform_logic.proofs.Words.{small_number, counted_up, eq_is, equal_is}
+use Rattle.inform_logic.proofs.Values.{within, valued, number, local, entry, argument, called}
 use Rattle.inform_logic.proofs.Conditions.{compare, nonzero}
 use Rattle.inform_logic.proofs.Changes.{set_variable, increment}
 use Rattle.inform_logic.proofs.Printing.{print_nothing, print_text, said_nothing, said_twice}
-use Rattle.inform_logic.proofs.Statements.{end, next, returns, assign, print, call_alone, return, return_true, if_true, if_false}
+use Rattle.inform_logic.proofs.Statements.{end, next, returns, assign, print, call_alone, return_true, if_true, if_false}
 use Rattle.inform_logic.proofs.Loops.{for, for_once_more, for_ends}
 use Rattle.inform_logic.proofs.Routines.{does_within, routine}
 use Rattle.inform_codes.specs.Grown.{body_of}
 use Rattle.adv_io.specs.Text.{joined}
 use Rattle.scott_types.specs.declared.parts.Item.{Item}
-use Rattle.scott_types.specs.declared.parts.Room.{Room}
-use Rattle.scott_types.specs.declared.phrases.Phrase.{Phrase}
-use Rattle.scott_types.specs.declared.phrases.Phrase.TheVariants.{BetweenExits, BetweenItems}
+use Rattle.scott_types.specs.declared.phrases.Phrase.TheVariants.{BetweenItems}
 use Rattle.scott_types.specs.declared.states.State.{State}
 use Rattle.scott_types.specs.declared.styles.Style.{Style}
-use Rattle.scott_types.specs.Database.{Database, room_at, item_at}
-use Rattle.scott_types.specs.Limits.{is_number, is_file_text, is_room, KeepsLimits}
+use Rattle.scott_types.specs.Database.{Database}
+use Rattle.scott_types.specs.Limits.{KeepsLimits}
 use Rattle.scott_types.specs.ItemText.{shown}
 use Rattle.scott_types.specs.Phrase.{text_of}
-use Rattle.scott_types.specs.Room.{room_beyond, exit_of}
 use Rattle.scott_types.specs.State.{Fits}
-use Rattle.scott_rules.specs.Looking.{chosen, directions, exit_names, items_at, items_at_place}
-use Rattle.trans_rows.specs.Tables.{exits_of_room, exits}
+use Rattle.scott_rules.specs.Looking.{items_at, items_at_place}
 use Rattle.trans_rows.specs.Views.{naturals, Shows}
-use Rattle.trans_rows.proofs.Flat.{exits_stand}
 use Rattle.trans_data.specs.Numbers.{numbers}
 use Rattle.trans_data.specs.Routines.{routine_names}
-use Rattle.trans_data.specs.Texts.{text_routine}
-use Rattle.trans_data.proofs.Lists.{entry_before, under, is_under, not_under, at_most}
+use Rattle.trans_data.proofs.Lists.{entry_before, under, not_under}
 use Rattle.trans_data.proofs.Served.{HasAll}
 use Rattle.trans_data.proofs.Places.{item_below, counting, few_items}
-use Rattle.trans_data.proofs.Spoken.{text_does}
 use Rattle.trans_data.proofs.HelpersOwed.{item_does}
 use Rattle.trans_data.proofs.Chosen.{with_first, chosen_first, rest_joined, all_joined}
 

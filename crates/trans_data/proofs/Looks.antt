@@ -1,5 +1,5 @@
 -- What a look and the inventory say.
-use Rattle.std.proofs.Common.{◌≡◌, ◌∙◌, arith, ℕ, suc, ◌+◌, ◌*◌, ◌<◌, ◌≤◌, pos, nat_eq, ◌==◌, not, Bool, true, false, if◌then◌else◌, List, [], ◌∷◌, ◌++◌, map, length, codes, slice_index_or, Some, refl, sym, ap, subst}
+use Rattle.std.proofs.Common.{◌≡◌, ◌∙◌, arith, ℕ, suc, ◌+◌, ◌*◌, ◌<◌, pos, nat_eq, ◌==◌, not, Bool, true, false, if◌then◌else◌, List, [], ◌∷◌, ◌++◌, length, codes, Some, refl, sym, ap, subst}
 use Rattle.std.specs.Ordering.{int_eq}
 use Rattle.std.proofs.lemmas.List.{length-map}
 use Rattle.inform_tree.specs.declared.conditions.Relation.TheVariants.{Eq}
@@ -30,10 +30,8 @@ use Rattle.scott_types.specs.Phrase.{text_of, text_in}
 use Rattle.scott_types.specs.Style.{in_style}
 use Rattle.scott_types.specs.State.{is_dark, carried_place, Fits}
 use Rattle.scott_rules.specs.Looking.{described, exit_names, exits_listed, items_at, items_seen, seen_in_light, looked, inventory}
-use Rattle.trans_rows.specs.Tables.{bit}
 use Rattle.trans_rows.specs.Views.{Shows}
 use Rattle.trans_rows.specs.Standing.{HasTables}
-use Rattle.trans_data.specs.Numbers.{numbers}
 use Rattle.trans_data.specs.Routines.{routine_names}
 use Rattle.trans_data.specs.Texts.{room_texts}
 use Rattle.trans_data.proofs.Lists.{is_under, bit_nonzero}

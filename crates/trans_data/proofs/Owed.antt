@@ -1,18 +1,6 @@
 -- The routines of texts and of the light do what they owe.
-use Rattle.std.proofs.Common.{◌≡◌, ◌∙◌, arith, ℕ, ◌<◌, ◌≤◌, pos, true, codes, length, subst, sym}
-use Rattle.inform_tree.specs.declared.widths.Width.{Width}
-use Rattle.inform_meaning.specs.Worlds.{Program}
-use Rattle.inform_logic.proofs.Routines.{does_within}
-use Rattle.scott_types.specs.declared.states.State.{State}
-use Rattle.scott_types.specs.declared.styles.Style.{Style}
-use Rattle.scott_types.specs.Database.{Database}
-use Rattle.scott_types.specs.Style.{in_style}
-use Rattle.scott_rules.specs.Light.{light_counted}
+use Rattle.std.proofs.Common.{◌≡◌, arith, pos, true, subst, sym}
 use Rattle.trans_rows.specs.Wide.{is_word_of}
-use Rattle.trans_rows.specs.Steps.{text_steps}
-use Rattle.trans_rows.specs.Standing.{StandsFor}
-use Rattle.trans_rows.specs.Calls.{CallLeaves}
-use Rattle.trans_rows.specs.DataRows.{text_room, LightCounted}
 use Rattle.trans_data.specs.Laws.{DataOwes}
 use Rattle.trans_data.proofs.Lists.{share_items}
 use Rattle.trans_data.proofs.Rooms.{with_calls, leaves_with_calls}

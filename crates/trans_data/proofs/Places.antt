@@ -1,5 +1,5 @@
 -- What the routines of items and places do.
-use Rattle.std.proofs.Common.{◌≡◌, ◌∙◌, arith, ℕ, suc, ◌+◌, ◌*◌, ◌<◌, ◌≤◌, pos, nat_eq, nat_le, nat_lt, ◌==◌, ◌||◌, ◌&&◌, not, Bool, true, false, List, [], ◌∷◌, ◌++◌, map, length, drop, fold, cond, slice_index_or, codes, count_by, Some, refl, sym, ap, subst, add-zero}
+use Rattle.std.proofs.Common.{◌≡◌, ◌∙◌, arith, ℕ, suc, ◌+◌, ◌*◌, ◌<◌, ◌≤◌, pos, nat_eq, nat_le, nat_lt, ◌==◌, ◌||◌, ◌&&◌, not, Bool, true, false, List, [], ◌∷◌, length, drop, fold, cond, codes, count_by, Some, refl, sym, ap, subst, add-zero}
 use Rattle.std.proofs.lemmas.Bool.{and_parts}
 use Rattle.inform_tree.specs.declared.conditions.Relation.TheVariants.{Lt, Eq}
 use Rattle.inform_tree.specs.Values as v
@@ -26,7 +26,7 @@ use Rattle.scott_types.specs.Limits.{KeepsLimits}
 use Rattle.scott_types.specs.State.{place_of, is_near, flag_of, is_dark, dark_flag, lamp, carried_count, Fits}
 use Rattle.scott_rules.specs.Opcodes.{is_full}
 use Rattle.trans_rows.specs.Tables.{bit}
-use Rattle.trans_rows.specs.Views.{naturals, Shows}
+use Rattle.trans_rows.specs.Views.{Shows}
 use Rattle.trans_data.specs.Numbers.{byte_or_more, numbers}
 use Rattle.trans_data.specs.Routines.{routine_names}
 use Rattle.trans_data.proofs.Lists.{entry_before, number_before, flag_there, past_the_end, count_few, under, is_under, not_under, at_most, same_byte, byte_small, bit_nonzero}
@@ -201,8 +201,12 @@ module _ (style : Style) (db : Database) (limits : KeepsLimits db) (p : Program)
       (returns (return (call (argument number (called (count_does d 255)))))) by_return)
 
   pub few_there : (a : ℕ) → there_count s a ≤ 255
-  few_there a = omega (arith, count_few (λ place. place == a) s.places.items 0, fits.places.count,
-      few_items db limits)
+  few_there a = omega (
+    arith,
+    count_few (λ place. place == a) s.places.items 0,
+    fits.places.count,
+    few_items db limits,
+  )
 
   pub full_does : (d : ℕ) → Does p (suc (suc (suc d))) (codes "full") [] w
       (pos (bit (is_full db s))) w (3 * length db.items + 9)

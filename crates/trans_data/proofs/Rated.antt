@@ -1,19 +1,16 @@
 -- What the score says.
-use Rattle.std.proofs.Common.{◌≡◌, ◌∙◌, arith, ℕ, zero, suc, ◌+◌, ◌*◌, ◌/◌, ◌<◌, ◌≤◌, ℤ, pos, negsuc, neg_ℤ, int_div, int_lt, nat_eq, nat_le, nat_lt, ◌&&◌, not, Bool, true, false, if◌then◌else◌, List, [], ◌∷◌, ◌++◌, length, codes, decimal, Some, refl, sym, ap, subst, div-le_self}
+use Rattle.std.proofs.Common.{◌≡◌, ◌∙◌, arith, ℕ, zero, suc, ◌+◌, ◌*◌, ◌/◌, ◌<◌, ◌≤◌, ℤ, pos, negsuc, neg_ℤ, int_lt, nat_eq, nat_lt, ◌&&◌, not, Bool, true, false, if◌then◌else◌, List, [], ◌∷◌, ◌++◌, length, codes, decimal, refl, sym, ap, subst, div-le_self}
 use Rattle.std.proofs.Math.Nat.{div-eq_of_lt}
 use Rattle.std.specs.Ordering.{int_eq}
 use Rattle.std.specs.Fmt.{signed_decimal}
-use Rattle.std.proofs.lemmas.Int.{ints}
 use Rattle.std.proofs.lemmas.List.Sums.{count_by-le-length}
-use Rattle.std.proofs.lemmas.Slice.Zip.{length-zip}
 use Rattle.std.specs.Prelude.{zip, unsigned_abs}
-use Rattle.inform_tree.specs.declared.conditions.Relation.TheVariants.{Eq}
-use Rattle.inform_meaning.specs.Worlds.{Program, Scope}
+use Rattle.inform_meaning.specs.Worlds.{Program}
 use Rattle.inform_logic.specs.Stages.{Stage, said}
 use Rattle.inform_logic.specs.Leading.{Does, by_return}
 use Rattle.inform_logic.specs.Holding.{Has}
 use Rattle.inform_logic.proofs.Words.{IsWord, not_zero, small_word, negative_word, small_number, small_product, small_quotient, negation_is, eq_is}
-use Rattle.inform_logic.proofs.Values.{within, valued, number, local, negation, product_of_two, argument, called, call}
+use Rattle.inform_logic.proofs.Values.{valued, number, local, negation, product_of_two, argument, called, call}
 use Rattle.inform_logic.proofs.Conditions.{compare}
 use Rattle.inform_logic.proofs.Changes.{set_variable}
 use Rattle.inform_logic.proofs.Printing.{print_nothing, print_text, print_number, said_nothing, said_twice}
@@ -29,7 +26,7 @@ use Rattle.scott_types.specs.Limits.{KeepsLimits}
 use Rattle.scott_types.specs.Phrase.{text_of, text_in}
 use Rattle.scott_types.specs.State.{Fits}
 use Rattle.scott_types.specs.Style.{in_style}
-use Rattle.scott_rules.specs.Looking.{is_stored, stored_count, rate, is_full_score, all_stored, praise, score_around, scored}
+use Rattle.scott_rules.specs.Looking.{is_stored, stored_count, rate, is_full_score, all_stored, score_around, scored}
 use Rattle.trans_rows.specs.Tables.{bit}
 use Rattle.trans_rows.specs.Views.{Shows}
 use Rattle.trans_rows.specs.Standing.{HasTables}
@@ -171,76 +168,76 @@ module _ (style : Style) (db : Database) (limits : KeepsLimits db) (p : Program)
 
   module _ (s : State) (w : Stage) (shows : Shows s w) (fits : Fits db s) (tables : HasTables db w)
     where
-    few_stored : stored_count db s ≤ 255
-    few_stored = omega (
-      arith,
-      count_by-le-length (λ (pair : Item × ℕ). is_stored db.header.home pair.0 pair.1)
-          (zip db.items s.places.items),
-      zipped db.items s.places.items,
-      few_items db limits,
-    ) where
-      zipped : (xs : List Item) (ys : List ℕ) → length (zip xs ys) ≤ length xs
-      zipped [] ys = omega arith
-      zipped (x ∷ xs) [] = omega arith
-      zipped (x ∷ xs) (y ∷ ys) = omega (arith, zipped xs ys)
+      few_stored : stored_count db s ≤ 255
+      few_stored = omega (
+        arith,
+        count_by-le-length (λ (pair : Item × ℕ). is_stored db.header.home pair.0 pair.1)
+            (zip db.items s.places.items),
+        zipped db.items s.places.items,
+        few_items db limits,
+      ) where
+        zipped : (xs : List Item) (ys : List ℕ) → length (zip xs ys) ≤ length xs
+        zipped [] ys = omega arith
+        zipped (x ∷ xs) [] = omega arith
+        zipped (x ∷ xs) (y ∷ ys) = omega (arith, zipped xs ys)
 
-    pub score_does : (d : ℕ) → Does p (suc (suc d)) (codes "score") []
-        w (pos (bit (all_stored db s))) (said (scored (in_style style db) s) w)
-        (3 * length db.items + 20)
-    unfolding body_of routine_names numbers
-    score_does d = from (all_stored db s) refl where
-      full : {b : Bool} → all_stored db s ≡ b
-          → nat_eq (stored_count db s) (goal db.header.treasures) ≡ b
-      full is = same_goal (stored_count db s) db.header.treasures few_stored ∙ is
-
-      texts : (rest : List ℕ) → said rest (said (text_of ListEnd) (said (signed_decimal (hundredths s))
-          (said (text_of Rating) (said (decimal (stored_count db s))
-          (said (text_in style Stored) w)))))
-          ≡ said (text_in style Stored ++ (decimal (stored_count db s) ++ (text_of Rating
-          ++ (signed_decimal (hundredths s) ++ (text_of ListEnd ++ rest))))) w
-      texts rest = said_twice (text_of ListEnd) rest (said (signed_decimal (hundredths s))
-          (said (text_of Rating) (said (decimal (stored_count db s)) (said (text_in style Stored) w))))
-          ∙ five (text_in style Stored) (decimal (stored_count db s)) (text_of Rating)
-          (signed_decimal (hundredths s)) (text_of ListEnd ++ rest) w
-
-      from : (b : Bool) → all_stored db s ≡ b → Does p (suc (suc d)) (codes "score") [] w (pos (bit b))
-          (said (score_around style (decimal (stored_count db s)) (signed_decimal (hundredths s)) b) w)
+      pub score_does : (d : ℕ) → Does p (suc (suc d)) (codes "score") []
+          w (pos (bit (all_stored db s))) (said (scored (in_style style db) s) w)
           (3 * length db.items + 20)
-      from true is = subst (λ w'. Does p (suc (suc d)) (codes "score") [] w (pos 1) w'
-          (3 * length db.items + 20))
-          (said_twice (text_of WellDone) (text_of GameOver) _
-          ∙ texts (text_of WellDone ++ text_of GameOver))
-          (does_within (omega arith) (routine has.score
-          (next (assign (set_variable
-          (call (called (stored_does style db limits p has s w shows fits tables d))) refl))
-          (next (print (print_text print_nothing))
-          (next (print (print_number (local refl) print_nothing))
-          (next (print (print_text print_nothing))
-          (next (print (print_number
-          (call (argument (local refl) (called (hundredths_do d (stored_count db s) _ few_stored))))
-          print_nothing))
-          (next (print (print_text print_nothing))
-          (returns (if_true (compare (local refl)
-          (valued (small_number p.width (goal_small db.header.treasures)) number)
-          (eq_is (stored_count db s) (goal db.header.treasures) ∙ full is))
-          (next (print (print_text print_nothing)) (next (print (print_text print_nothing))
-          (returns return_true)))))))))))
-          by_return))
-      from false is = subst (λ w'. Does p (suc (suc d)) (codes "score") [] w (pos 0) w'
-          (3 * length db.items + 20))
-          (sym (said_nothing _) ∙ texts [])
-          (does_within (omega arith) (routine has.score
-          (next (assign (set_variable
-          (call (called (stored_does style db limits p has s w shows fits tables d))) refl))
-          (next (print (print_text print_nothing))
-          (next (print (print_number (local refl) print_nothing))
-          (next (print (print_text print_nothing))
-          (next (print (print_number
-          (call (argument (local refl) (called (hundredths_do d (stored_count db s) _ few_stored))))
-          print_nothing))
-          (next (print (print_text print_nothing))
-          (next (if_false (compare (local refl)
-          (valued (small_number p.width (goal_small db.header.treasures)) number)
-          (eq_is (stored_count db s) (goal db.header.treasures) ∙ full is)) end)
-          (returns return_false))))))))
-          by_return))
+      unfolding body_of routine_names numbers
+      score_does d = from (all_stored db s) refl where
+        full : {b : Bool} → all_stored db s ≡ b
+            → nat_eq (stored_count db s) (goal db.header.treasures) ≡ b
+        full is = same_goal (stored_count db s) db.header.treasures few_stored ∙ is
+
+        texts : (rest : List ℕ) → said rest (said (text_of ListEnd) (said (signed_decimal (hundredths s))
+            (said (text_of Rating) (said (decimal (stored_count db s))
+            (said (text_in style Stored) w)))))
+            ≡ said (text_in style Stored ++ (decimal (stored_count db s) ++ (text_of Rating
+            ++ (signed_decimal (hundredths s) ++ (text_of ListEnd ++ rest))))) w
+        texts rest = said_twice (text_of ListEnd) rest (said (signed_decimal (hundredths s))
+            (said (text_of Rating) (said (decimal (stored_count db s)) (said (text_in style Stored) w))))
+            ∙ five (text_in style Stored) (decimal (stored_count db s)) (text_of Rating)
+            (signed_decimal (hundredths s)) (text_of ListEnd ++ rest) w
+
+        from : (b : Bool) → all_stored db s ≡ b → Does p (suc (suc d)) (codes "score") [] w (pos (bit b))
+            (said (score_around style (decimal (stored_count db s)) (signed_decimal (hundredths s)) b) w)
+            (3 * length db.items + 20)
+        from true is = subst (λ w'. Does p (suc (suc d)) (codes "score") [] w (pos 1) w'
+            (3 * length db.items + 20))
+            (said_twice (text_of WellDone) (text_of GameOver) _
+            ∙ texts (text_of WellDone ++ text_of GameOver))
+            (does_within (omega arith) (routine has.score
+            (next (assign (set_variable
+            (call (called (stored_does style db limits p has s w shows fits tables d))) refl))
+            (next (print (print_text print_nothing))
+            (next (print (print_number (local refl) print_nothing))
+            (next (print (print_text print_nothing))
+            (next (print (print_number
+            (call (argument (local refl) (called (hundredths_do d (stored_count db s) _ few_stored))))
+            print_nothing))
+            (next (print (print_text print_nothing))
+            (returns (if_true (compare (local refl)
+            (valued (small_number p.width (goal_small db.header.treasures)) number)
+            (eq_is (stored_count db s) (goal db.header.treasures) ∙ full is))
+            (next (print (print_text print_nothing)) (next (print (print_text print_nothing))
+            (returns return_true)))))))))))
+            by_return))
+        from false is = subst (λ w'. Does p (suc (suc d)) (codes "score") [] w (pos 0) w'
+            (3 * length db.items + 20))
+            (sym (said_nothing _) ∙ texts [])
+            (does_within (omega arith) (routine has.score
+            (next (assign (set_variable
+            (call (called (stored_does style db limits p has s w shows fits tables d))) refl))
+            (next (print (print_text print_nothing))
+            (next (print (print_number (local refl) print_nothing))
+            (next (print (print_text print_nothing))
+            (next (print (print_number
+            (call (argument (local refl) (called (hundredths_do d (stored_count db s) _ few_stored))))
+            print_nothing))
+            (next (print (print_text print_nothing))
+            (next (if_false (compare (local refl)
+            (valued (small_number p.width (goal_small db.header.treasures)) number)
+            (eq_is (stored_count db s) (goal db.header.treasures) ∙ full is)) end)
+            (returns return_false))))))))
+            by_return))

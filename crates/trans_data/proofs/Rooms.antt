@@ -1,5 +1,5 @@
 -- A call where more calls may be opened than it opens, within more steps than it takes.
-use Rattle.std.proofs.Common.{arith, ℕ, ◌≤◌, ℤ, List}
+use Rattle.std.proofs.Common.{ℕ, ◌≤◌, ℤ, List}
 use Rattle.adv_io.specs.Steps.{Step}
 use Rattle.inform_meaning.specs.Worlds.{Program}
 use Rattle.inform_logic.specs.Stages.{Stage, plus}

@@ -1,11 +1,9 @@
 -- The routines of the score.
-use Rattle.std.proofs.Common.{◌≡◌, ◌∙◌, arith, ℕ, zero, suc, ◌+◌, ◌*◌, ◌/◌, ◌<◌, ◌≤◌, ℤ, pos, negsuc, neg_ℤ, int_div, int_lt, nat_eq, nat_le, nat_lt, ◌&&◌, not, Bool, true, false, cond, if◌then◌else◌, List, [], ◌∷◌, ◌++◌, map, length, drop, fold, slice_get, codes, decimal, Some, refl, sym, ap, subst, add-zero}
+use Rattle.std.proofs.Common.{◌≡◌, ◌∙◌, arith, ℕ, zero, suc, ◌+◌, ◌*◌, ◌<◌, ◌≤◌, pos, ◌&&◌, Bool, true, false, cond, List, [], ◌∷◌, ◌++◌, map, length, drop, fold, slice_get, codes, Some, refl, sym, ap, subst, add-zero}
 use Rattle.std.specs.Prelude.{zip}
 use Rattle.std.specs.List.{list_all}
 use Rattle.std.specs.Ordering.{int_eq}
-use Rattle.std.specs.Fmt.{signed_decimal}
 use Rattle.std.proofs.lemmas.Bool.{and_parts}
-use Rattle.std.proofs.lemmas.Int.{ints}
 use Rattle.inform_tree.specs.declared.conditions.Relation.TheVariants.{Eq}
 use Rattle.inform_tree.specs.Values as v
 use Rattle.inform_tree.specs.Conditions as c
@@ -13,38 +11,32 @@ use Rattle.inform_tree.specs.Statements as t
 use Rattle.inform_meaning.specs.Worlds.{Program, Scope}
 use Rattle.inform_meaning.specs.Frames.{Loop, Normal}
 use Rattle.inform_meaning.specs.Statements.{for_loop}
-use Rattle.inform_logic.specs.Stages.{Stage, said}
+use Rattle.inform_logic.specs.Stages.{Stage}
 use Rattle.inform_logic.specs.Leading.{Tests, Loops, Does, by_return}
-use Rattle.inform_logic.specs.Holding.{Has}
 use Rattle.inform_logic.proofs.Lists.{after_rest}
-use Rattle.inform_logic.proofs.Words.{IsWord, small_number, small_product, small_quotient, negation_is, counted_up, eq_is, equal_is}
-use Rattle.inform_logic.proofs.Values.{within, valued, number, local, entry, negation, product_of_two, argument, called, call}
+use Rattle.inform_logic.proofs.Words.{small_number, counted_up, eq_is}
+use Rattle.inform_logic.proofs.Values.{within, valued, number, local, entry}
 use Rattle.inform_logic.proofs.Conditions.{compare, nonzero, all_of, all_hold, one_holds, one_fails}
 use Rattle.inform_logic.proofs.Changes.{set_variable, increment}
-use Rattle.inform_logic.proofs.Printing.{print_nothing, print_text, print_number, said_nothing, said_twice}
-use Rattle.inform_logic.proofs.Statements.{end, next, returns, assign, print, return, return_true, return_false, if_true, if_false}
+use Rattle.inform_logic.proofs.Statements.{end, next, returns, assign, return, if_true, if_false}
 use Rattle.inform_logic.proofs.Loops.{for, for_once_more, for_ends}
 use Rattle.inform_logic.proofs.Routines.{does_within, routine}
 use Rattle.inform_codes.specs.Grown.{body_of}
 use Rattle.scott_types.specs.declared.parts.Item.{Item}
-use Rattle.scott_types.specs.declared.phrases.Phrase.TheVariants.{Stored, Rating, WellDone, GameOver, ListEnd}
 use Rattle.scott_types.specs.declared.states.State.{State}
 use Rattle.scott_types.specs.declared.styles.Style.{Style}
 use Rattle.scott_types.specs.Database.{Database}
 use Rattle.scott_types.specs.Limits.{KeepsLimits}
 use Rattle.scott_types.specs.ItemText.{is_treasure}
-use Rattle.scott_types.specs.Phrase.{text_of, text_in}
 use Rattle.scott_types.specs.State.{is_place, Fits}
-use Rattle.scott_types.specs.Style.{in_style}
-use Rattle.scott_rules.specs.Looking.{is_stored, count_stored, stored_count, rate, is_full_score, all_stored, praise, score_around, scored}
-use Rattle.trans_rows.specs.Tables.{bit, treasures}
+use Rattle.scott_rules.specs.Looking.{is_stored, stored_count}
+use Rattle.trans_rows.specs.Tables.{bit}
 use Rattle.trans_rows.specs.Views.{naturals, Shows}
 use Rattle.trans_rows.specs.Standing.{HasTables}
-use Rattle.trans_data.specs.declared.names.TheConstants as n
-use Rattle.trans_data.specs.Numbers.{byte_or_more, divisor, goal, numbers}
-use Rattle.trans_data.specs.Routines.{routine_names, hundredths_codes}
-use Rattle.trans_data.proofs.Lists.{entry_before, under, not_under, at_most, same_byte, byte_small, bit_nonzero, count_few}
-use Rattle.trans_data.proofs.Served.{HasAll, tree}
+use Rattle.trans_data.specs.Numbers.{byte_or_more, numbers}
+use Rattle.trans_data.specs.Routines.{routine_names}
+use Rattle.trans_data.proofs.Lists.{entry_before, under, not_under, at_most, same_byte, byte_small, bit_nonzero}
+use Rattle.trans_data.proofs.Served.{HasAll}
 use Rattle.trans_data.proofs.Places.{item_below, few_items}
 
 -- ---- `for (i = 0: i < items: i++) if (gold-->i && item-->i == home) n++;`

@@ -1,8 +1,8 @@
 -- What a program that has the routines has of each.
-use Rattle.std.proofs.Common.{◌≡◌, ◌∙◌, ℕ, List, [], ◌∷◌, ◌++◌, map, codes, Some, None, refl}
+use Rattle.std.proofs.Common.{◌≡◌, ◌∙◌, ℕ, List, [], ◌∷◌, ◌++◌, codes, None, refl}
 use Rattle.std.specs.List.{AllByRecursion}
 use Rattle.inform_tree.specs.declared.widths.Width.{Width}
-use Rattle.inform_tree.specs.Programs.{RoutineTree, DirectiveTree, Routine}
+use Rattle.inform_tree.specs.Programs.{RoutineTree, Routine}
 use Rattle.inform_meaning.specs.Worlds.{Program}
 use Rattle.inform_logic.specs.Holding.{Held, Holds, Has}
 use Rattle.inform_codes.specs.declared.codes.Code.{Code}

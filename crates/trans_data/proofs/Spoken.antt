@@ -1,7 +1,6 @@
 -- What the routines that say a text by its number do, and those of the messages.
-use Rattle.std.proofs.Common.{◌≡◌, ◌∙◌, arith, ℕ, zero, suc, ◌+◌, ◌<◌, ◌≤◌, pos, nat_eq, Bool, None, true, false, if◌then◌else◌, List, [], ◌∷◌, ◌++◌, map, length, codes, slice_index_or, refl, sym, ap, subst}
+use Rattle.std.proofs.Common.{◌≡◌, ◌∙◌, arith, ℕ, zero, suc, ◌+◌, ◌<◌, ◌≤◌, pos, nat_eq, Bool, true, false, if◌then◌else◌, List, [], ◌∷◌, ◌++◌, map, length, slice_index_or, refl, sym, ap, subst}
 use Rattle.inform_tree.specs.Statements as t
-use Rattle.inform_tree.specs.Programs.{RoutineTree, DirectiveTree, Routine}
 use Rattle.inform_meaning.specs.Worlds.{Program, Scope}
 use Rattle.inform_meaning.specs.Frames.{Normal}
 use Rattle.inform_logic.specs.Stages.{Stage, said}

@@ -1,5 +1,6 @@
 pub mod Numbers
 pub mod Routines
 pub mod Texts
+pub mod Tables
 pub mod Items
 pub mod Laws

@@ -1,5 +1,5 @@
 -- The numbers of a database that its routines compare with.
-use Rattle.std.specs.Prelude.{ℕ, ◌==◌, ◌&&◌, nat_le, nat_lt, ℤ, pos, negsuc, unsigned_abs, if◌then◌else◌, List, [], ◌∷◌, length}
+use Rattle.std.specs.Prelude.{ℕ, ◌&&◌, nat_le, nat_lt, ℤ, pos, negsuc, unsigned_abs, if◌then◌else◌, List, [], ◌∷◌, length}
 use Rattle.std.specs.Ordering.{int_eq}
 use Rattle.scott_types.specs.Database.{Database}
 

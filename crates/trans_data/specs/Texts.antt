@@ -6,8 +6,6 @@ use Rattle.inform_tree.specs.Statements as s
 use Rattle.inform_tree.specs.Statements.{Choice, Statements, Cases, statements}
 use Rattle.inform_tree.specs.Programs.{RoutineTree, DirectiveTree, Routine}
 use Rattle.inform_codes.specs.Grown.{body_of}
-use Rattle.scott_types.specs.declared.parts.Item.{Item}
-use Rattle.scott_types.specs.declared.parts.Room.{Room}
 use Rattle.scott_types.specs.declared.styles.Style.{Style}
 use Rattle.scott_types.specs.Database.{Database}
 use Rattle.scott_types.specs.ItemText.{shown}

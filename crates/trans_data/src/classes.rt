@@ -21,7 +21,8 @@ fn is_class(noun: &[u8]) -> bool
 fn first_class(size: usize, word: &[u8], k: u32, words: &[Word]) -> u32
     requires short { size ≤ 20 }
     requires few { k + length words.now < 2 ^ 32 }
-    ensures { result ≡ or_zero (position_from (λ noun. the_test noun && the_typed size noun word.now) k
+    ensures { result
+        ≡ or_zero (position_from (λ noun. the_test noun && the_typed size noun word.now) k
         (map (column_of Nouns) words.now)) }
 {
     match words {
@@ -51,7 +52,11 @@ pub fn class_of(db: &Db, word: &[u8]) -> u32
 fn class_of_noun(db: &Db, noun: &[u8]) -> u32
     ensures { result ≡ the_noun_class db.now noun.now }
 {
-    if is_class(noun) { class_of(db, noun) } else { 0 }
+    if is_class(noun) {
+        class_of(db, noun)
+    } else {
+        0
+    }
 }
 
 // The classes of nouns, after other numbers.

@@ -66,7 +66,11 @@ pub fn integers(alloc: Global, name: &[u8], numbers: &[i16]) -> Result<Directive
     ensures { IfOk result (λ directive. directive_of directive
         ≡ the_integers name.now numbers.now) }
 {
-    Ok(Directive::Array(name_of(alloc, name)?, true, written_entries(alloc, numbers)?))
+    Ok(Directive::Array(
+        name_of(alloc, name)?,
+        true,
+        written_entries(alloc, numbers)?,
+    ))
 }
 
 /// An array of bytes that hold these numbers.
@@ -74,7 +78,11 @@ pub fn bytes(alloc: Global, name: &[u8], numbers: &[u32]) -> Result<Directive, M
     ensures { IfOk result (λ directive. directive_of directive
         ≡ the_bytes name.now numbers.now) }
 {
-    Ok(Directive::Array(name_of(alloc, name)?, false, number_entries(alloc, numbers)?))
+    Ok(Directive::Array(
+        name_of(alloc, name)?,
+        false,
+        number_entries(alloc, numbers)?,
+    ))
 }
 
 /// An array of so many bytes, each 0.

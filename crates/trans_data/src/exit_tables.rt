@@ -20,7 +20,8 @@ fn beyond(rooms: usize, number: i32) -> u32
 
 // The exits of a room, after those of other rooms.
 fn with_exits(numbers: Vec<u32>, rooms: usize, exits: &[i32]) -> Result<Vec<u32>, Memory>
-    ensures { IfOk result (λ all. all.items ≡ numbers.items ++ map (room_beyond rooms) exits.now) }
+    ensures { IfOk result (λ all. all.items
+        ≡ numbers.items ++ map (room_beyond rooms) exits.now) }
 {
     let mut all = numbers;
     for number in exits {
@@ -46,5 +47,6 @@ pub fn exits(alloc: Global, db: &Db) -> Result<Vec<u32>, Memory>
     ensures { IfOk result (λ numbers. numbers.items
         ≡ flat_map (exits_of_room db.now) db.now.rooms) }
 {
-    exits_of(alloc, db.rooms().len(), db.rooms())
+    let rooms = db.rooms();
+    exits_of(alloc, rooms.len(), rooms)
 }

@@ -31,7 +31,11 @@ pub fn items_with_words(alloc: Global, items: &[Item]) -> Result<Vec<u32>, Memor
 {
     let mut numbers = Vec::with_capacity(alloc, items.len())?;
     for item in items {
-        numbers.push(if get_word(&item.text).is_empty() { 0 } else { 1 })?;
+        numbers.push(if get_word(&item.text).is_empty() {
+            0
+        } else {
+            1
+        })?;
     }
     Ok(numbers)
 }

@@ -4,28 +4,34 @@
 
 // The routines as codes, smallest first, and what they are written with.
 mod directives;
+mod helpers;
+mod lights;
+mod listing;
 mod names;
 mod numbers;
-mod helpers;
-mod listing;
 mod scoring;
-mod lights;
 
 // All of them as directives.
 mod routines;
 
 // The texts of the database.
-mod messages;
 mod choices;
+mod descriptions;
+mod messages;
 
 // The globals and arrays.
-mod entries;
-mod state_tables;
 mod classes;
-mod item_tables;
+mod entries;
 mod exit_tables;
-mod word_tables;
 mod fixed_tables;
+mod item_tables;
+mod state_tables;
+mod word_tables;
+
+// All of them.
+mod game_tables;
 
 // What the routines owe.
 pub mod laws;
+
+pub use game_tables::tables;

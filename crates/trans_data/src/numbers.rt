@@ -6,9 +6,13 @@ use scott_types::Db;
 
 // Places in the numbers.
 pub const ITEMS: usize = 0;
+
 pub const CARRY: usize = 1;
+
 pub const HOME: usize = 2;
+
 pub const DIVISOR: usize = 3;
+
 pub const GOAL: usize = 4;
 
 // A number that a place or a count of items may be, and 256 for any other.

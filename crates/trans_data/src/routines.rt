@@ -102,11 +102,7 @@ fn out_codes(vanish: bool) -> &'static [Code]
 
 // The routines of the table.
 #[tactic(auto, unfolding(crate::specs::Routines::table_rows))]
-fn table_directives(
-    alloc: Global,
-    names: &[&[u8]],
-    given: &[u32],
-) -> Result<Vec<Directive>, Memory>
+fn table_directives(alloc: Global, names: &[&[u8]], given: &[u32]) -> Result<Vec<Directive>, Memory>
     ensures { IfOk result (λ directives. map directive_of directives.items
         ≡ rows_directives (map (λ n. n.now) names.now) given.now table_rows) }
 {
@@ -125,7 +121,11 @@ fn chosen_directives(
         ≡ rows_directives (map (λ n. n.now) names.now) given.now (chosen_rows style db.now)) }
 {
     let chosen: [Row<'static>; 3] = [
-        (HUNDREDTHS_NAME, &[N], hundredths_codes(db.header().treasures)),
+        (
+            HUNDREDTHS_NAME,
+            &[N],
+            hundredths_codes(db.header().treasures),
+        ),
         (SAY_LIGHT, &[], light_codes(style.counted)),
         (LIGHT_OUT, &[], out_codes(style.vanish)),
     ];

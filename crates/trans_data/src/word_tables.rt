@@ -95,7 +95,11 @@ pub fn word_letters(alloc: Global, db: &Db, column: Column) -> Result<Vec<u32>, 
 fn nearest(base: Option<u32>, k: u32, entry: &[u8]) -> Option<u32>
     ensures { result ≡ (if is_starred entry.now then base else Some k) }
 {
-    if starts_with_star(entry) { base } else { Some(k) }
+    if starts_with_star(entry) {
+        base
+    } else {
+        Some(k)
+    }
 }
 
 fn or_zero(number: Option<u32>) -> u32

@@ -1,5 +1,5 @@
-//! The routines that find the entry that a word names: the same for verbs and for nouns, but for the
-//! names.
+//! The routines that find the entry that a word names: the same for verbs and for nouns, but for
+//! the names.
 //!
 //! What is handed in is how many bytes of a word count, how many entries there are, and the entry
 //! that each of the whole words of the seven letters names, or 0.

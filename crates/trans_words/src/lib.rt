@@ -1,9 +1,11 @@
-//! The word reader of a translated game: the routines that find in a typed line what the rules hear.
+//! The word reader of a translated game: the routines that find in a line what the rules hear.
 #![tactic(auto)]
 
-// The routines, as codes: of lines and commands, and of the words of a column.
-mod columns;
+// The routines, as codes: those that read a line,
 mod lines;
+
+// and those that find the entry that a word names.
+mod columns;
 
 // The directives.
 mod directives;
