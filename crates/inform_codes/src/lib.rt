@@ -27,4 +27,4 @@ mod tests;
 pub use codes::Code;
 pub use growing::{before, body, fork};
 pub use numbering::numbered;
-pub use tables::{Row, routines};
+pub use tables::{Row, joined, routines};

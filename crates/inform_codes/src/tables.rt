@@ -1,5 +1,5 @@
 //! The routines of a table.
-ghost use Rattle.std.specs.Prelude.{◌≡◌, IfOk, map};
+ghost use Rattle.std.specs.Prelude.{◌≡◌, ◌++◌, IfOk, map};
 ghost use Rattle.inform_tree.specs.Programs.{directive_of, routine_of};
 ghost use Rattle.inform_codes.specs.Codes.{name_in};
 ghost use Rattle.inform_codes.specs.Routines.{row_routine, rows_directives};
@@ -54,4 +54,15 @@ pub fn routines(
         directives.push(Directive::Routine(routine(alloc, names, given, row)?))?;
     }
     Ok(directives)
+}
+
+/// Two lists of directives, one after the other.
+pub fn joined(first: Vec<Directive>, second: Vec<Directive>) -> Result<Vec<Directive>, Memory>
+    ensures { IfOk result (λ all. map directive_of all.items
+        ≡ map directive_of first.items ++ map directive_of second.items) }
+{
+    let mut all = first;
+    let mut others = second;
+    all.append(&mut others)?;
+    Ok(all)
 }

@@ -14,3 +14,4 @@ pub mod RoundRuns
 pub mod RoundRows
 pub mod MainRuns
 pub mod NoGroups
+pub mod TurnRows

@@ -5,7 +5,10 @@ use Rattle.inform_codes.specs.Routines.{rows_directives}
 use Rattle.scott_types.specs.declared.phrases.Phrase.TheVariants.{Prompt, UnknownOpening, UnknownBack}
 use Rattle.scott_types.specs.declared.endings.Position.{Position}
 use Rattle.scott_types.specs.declared.endings.Position.TheVariants.{Line}
+use Rattle.scott_types.specs.declared.styles.Style.{Style}
 use Rattle.scott_types.specs.Phrase.{text_of}
+use Rattle.scott_types.specs.Database.{Database}
+use Rattle.trans_commands.specs.Directives.{command_directives, search_directives}
 use Rattle.trans_turn.specs.declared.names.TheConstants.{NAMES}
 use Rattle.trans_turn.specs.declared.codes.TheConstants.{ROUNDS, NO_GROUPS}
 
@@ -32,3 +35,9 @@ round_directives begin = rounds_asking (first_asked begin)
 abbrev pub no_group_directives : List DirectiveTree
 no_group_directives =
     rows_directives turn_names (0 ∷ []) (map (λ row. (row.0, row.1.now, row.2.now)) NO_GROUPS)
+
+-- ---- all of a turn, in a game without lines
+
+abbrev pub turn_directives : Style → Database → Position → List DirectiveTree
+turn_directives style db begin = search_directives
+    ++ (command_directives style db ++ (no_group_directives ++ round_directives begin))

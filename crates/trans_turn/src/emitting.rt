@@ -3,15 +3,16 @@ ghost use Rattle.std.specs.Prelude.{◌≡◌, [], ◌∷◌, IfOk, map};
 ghost use Rattle.inform_tree.specs.Programs.{directive_of};
 ghost use Rattle.inform_codes.specs.Routines.{rows_directives};
 ghost use Rattle.trans_turn.specs.Routines as s;
-ghost use Rattle.trans_turn.specs.Routines.{turn_names, first_asked, round_directives, no_group_directives};
+ghost use Rattle.trans_turn.specs.Routines.{turn_names, first_asked, round_directives, no_group_directives, turn_directives};
 
 use crate::codes::{NO_GROUPS, ROUNDS};
 use crate::names::NAMES;
 use adv_io::Memory;
-use inform_codes::{Row, routines};
+use inform_codes::{Row, joined, routines};
 use inform_tree::Directive;
-use scott_types::{Phrase, Position};
+use scott_types::{Db, Phrase, Position, Style};
 use std::alloc::Global;
+use trans_commands::{commands, search};
 
 // A table of routines over the names and these texts.
 fn grown(
@@ -71,4 +72,17 @@ pub fn automatic(alloc: Global) -> Result<Vec<Directive>, Memory>
 {
     let names = all_names(alloc)?;
     grown(alloc, &names, 0, &NO_GROUPS)
+}
+
+/// All routines of a turn, in a game without lines: the search, the commands, the automatic step and
+/// the rounds, the first of which begins at this position.
+pub fn turn(alloc: Global, db: &Db, style: Style, begin: Position) -> Result<Vec<Directive>, Memory>
+    ensures { IfOk result (λ directives. map directive_of directives.items
+        ≡ turn_directives style db.now begin) }
+{
+    let searching = search(alloc)?;
+    let commanding = commands(alloc, db, style)?;
+    let stepping = automatic(alloc)?;
+    let of_rounds = joined(stepping, rounds(alloc, begin)?)?;
+    joined(searching, joined(commanding, of_rounds)?)
 }

@@ -10,4 +10,4 @@ pub mod names;
 // What they owe.
 pub mod laws;
 
-pub use emitting::{automatic, rounds};
+pub use emitting::turn;
