@@ -1,0 +1,3 @@
+//! The whole program of a translated game, which has a text, is accepted and has the shape of the
+//! game.
+#![tactic(auto)]
