@@ -45,7 +45,7 @@ use Rattle.trans_data.proofs.Scored.{stored_does}
 abbrev by_size : ℕ → ℕ
 by_size size = if nat_lt 0 size && nat_lt size 32768 then size else 32767
 
-size_range : (size : ℕ) → (0 < by_size size) × (by_size size < 32768)
+pub size_range : (size : ℕ) → (0 < by_size size) × (by_size size < 32768)
 size_range size = from (nat_lt 0 size) (nat_lt size 32768) refl refl where
   from : (a b : Bool) → nat_lt 0 size ≡ a → nat_lt size 32768 ≡ b
       → (0 < (if a && b then size else 32767)) × ((if a && b then size else 32767) < 32768)
@@ -103,7 +103,7 @@ same_goal stored treasures few = from (int_eq treasures (pos 0)) where
   from true = never
   from false = same_byte stored treasures few
 
-goal_small : (treasures : ℤ) → goal treasures < 32768
+pub goal_small : (treasures : ℤ) → goal treasures < 32768
 goal_small treasures = from (int_eq treasures (pos 0)) where
   from : (b : Bool) → (if b then 256 else byte_or_more treasures) < 32768
   from true = omega arith
