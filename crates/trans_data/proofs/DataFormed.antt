@@ -1,30 +1,29 @@
 -- The globals and arrays of a game have a text.
-use Rattle.std.proofs.Common.{◌≡◌, ◌∙◌, arith, ℕ, suc, ◌+◌, ◌<◌, ◌≤◌, ℤ, pos, negsuc, ◌≤ℤ◌, nat_eq, nat_le, nat_lt, ◌&&◌, ◌==◌, Bool, true, false, not, List, [], ◌∷◌, ◌++◌, map, drop, length, codes, Some, None, refl, length-drop}
+use Rattle.std.proofs.Common.{◌≡◌, arith, ℕ, ◌+◌, ◌<◌, ◌≤◌, ℤ, pos, negsuc, ◌≤ℤ◌, nat_le, nat_lt, ◌&&◌, Bool, true, false, not, List, [], ◌∷◌, ◌++◌, map, drop, length, codes, None, refl, length-drop}
 use Rattle.std.specs.List.{list_all}
 use Rattle.std.proofs.lemmas.Bool.{and_parts}
 use Rattle.std.proofs.lemmas.Int.{ints}
 use Rattle.std.proofs.lemmas.List.{length-append, length-map}
-use Rattle.inform_tree.specs.declared.values.Const.{Const}
 use Rattle.inform_tree.specs.declared.values.Const.TheVariants.{Number}
-use Rattle.inform_tree.specs.Programs.{DirectiveTree, Array}
+use Rattle.inform_tree.specs.Programs.{Array}
 use Rattle.inform_tree.specs.Words.{is_name}
-use Rattle.inform_tree.specs.Formed.{is_formed_constant, are_formed_entries, is_formed_directive, is_well_formed}
+use Rattle.inform_tree.specs.Formed.{is_formed_constant, is_formed_directive, is_well_formed}
 use Rattle.scott_types.specs.declared.parts.Item.{Item}
 use Rattle.scott_types.specs.declared.states.State.{State}
 use Rattle.scott_types.specs.declared.commands.Column.{Column}
 use Rattle.scott_types.specs.declared.commands.Column.TheVariants.{Verbs, Nouns}
 use Rattle.scott_types.specs.Database.{Database, place_of_item}
-use Rattle.scott_types.specs.Limits.{is_number, is_file_text, is_item, are_header_numbers, KeepsLimits}
+use Rattle.scott_types.specs.Limits.{is_number, is_file_text, is_item, KeepsLimits}
 use Rattle.scott_types.specs.ItemText.{is_treasure}
 use Rattle.scott_types.specs.Room.{room_beyond}
 use Rattle.scott_types.specs.State.{is_place, is_counter, is_room_of, Fits}
 use Rattle.scott_rules.specs.Words.{is_empty, is_typed, column_of, entries_of, which}
-use Rattle.trans_rows.specs.Tables.{bit, or_zero, guarded, start_places, exits_of_room, exits, word_letters, word_bases, bases, is_class, class_of, class_of_noun, classes, noun_classes, item_word, item_classes, item_nouns, items_with_words, treasures}
-use Rattle.trans_rows.specs.Directives.{written, global, integers, words, bytes, zero_bytes, data_directives}
+use Rattle.trans_rows.specs.Tables.{bit, or_zero, guarded, exits_of_room, exits, word_letters, bases, is_class, class_of, class_of_noun, classes, item_word}
+use Rattle.trans_rows.specs.Directives.{written, global, integers, data_directives}
 use Rattle.trans_rows.proofs.Bounds.{Below, below_guarded, below_map, below_flat, below_tested, below_bit, below_choice, below_bases, below_position, below_entry, below_word_letters}
 use Rattle.trans_data.specs.Laws.{DataFormed}
 use Rattle.trans_data.proofs.Exits.{few_rooms}
-use Rattle.trans_data.proofs.Lists.{at_most, is_under}
+use Rattle.trans_data.proofs.Lists.{at_most}
 
 -- ---- what holds of both
 

@@ -1,15 +1,14 @@
 -- The routines of a game's texts have a text themselves.
-use Rattle.std.proofs.Common.{◌≡◌, ◌∙◌, arith, ℕ, zero, suc, ◌+◌, ◌<◌, ◌≤◌, ◌^◌, ℤ, pos, unsigned_abs, int_lt, nat_eq, nat_le, nat_lt, max, ◌&&◌, ◌==◌, Bool, true, false, not, if◌then◌else◌, List, [], ◌∷◌, ◌++◌, map, take, drop, length, codes, decimal, refl, sym, ap}
-use Rattle.std.specs.List.{list_all, before_first, position_or_len}
+use Rattle.std.proofs.Common.{◌≡◌, arith, ℕ, zero, suc, ◌+◌, ◌<◌, ◌≤◌, pos, unsigned_abs, int_lt, nat_le, nat_lt, max, ◌==◌, Bool, true, false, if◌then◌else◌, List, [], ◌∷◌, ◌++◌, map, take, drop, length, codes, decimal, refl}
+use Rattle.std.specs.List.{list_all, position_or_len}
 use Rattle.std.specs.Str.Parse.{AllDigits}
 use Rattle.std.specs.Char.{digit_value}
 use Rattle.std.proofs.lemmas.Bool.{and_parts}
 use Rattle.std.proofs.lemmas.Fmt.{decimal_is_IsNumeral, length-decimal-le}
 use Rattle.std.proofs.lemmas.List.{length-map}
-use Rattle.inform_tree.specs.Programs.{DirectiveTree, Routine}
-use Rattle.inform_tree.specs.Statements as s
+use Rattle.inform_tree.specs.Programs.{Routine}
 use Rattle.inform_tree.specs.Words.{is_name_byte, is_name, is_number, is_byte, is_text}
-use Rattle.inform_tree.specs.Depths.{cases_depth, routine_depth}
+use Rattle.inform_tree.specs.Depths.{cases_depth}
 use Rattle.inform_tree.specs.Formed.{are_formed_cases, is_formed_directive, is_well_formed}
 use Rattle.inform_codes.specs.Grown.{body_of}
 use Rattle.inform_codes.specs.Routines.{rows_directives}
@@ -27,7 +26,7 @@ use Rattle.trans_data.specs.declared.scoring.TheConstants.{HUNDREDTHS, LESS_HUND
 use Rattle.trans_data.specs.declared.lights.TheConstants.{COUNTED_LIGHT, DIM_LIGHT, OUT, VANISHED}
 use Rattle.trans_data.specs.Numbers.{byte_or_more, divisor, goal, numbers}
 use Rattle.trans_data.specs.Routines.{routine_names, table_rows, chosen_rows, fixed_directives}
-use Rattle.trans_data.specs.Texts.{message_directive, message_directives, text_cases, text_routine, item_texts, room_texts, spoken_directives, text_directives}
+use Rattle.trans_data.specs.Texts.{message_directive, message_directives, text_cases, text_routine, item_texts, room_texts, spoken_directives}
 use Rattle.trans_data.specs.Laws.{TextsFormed}
 use Rattle.trans_data.proofs.Lists.{byte_small, at_most, under}
 use Rattle.trans_data.proofs.Exits.{few_rooms}
