@@ -183,11 +183,15 @@ module _ (db : Database) (limits : KeepsLimits db) where
     bit_small b = below_bit 32768 small b
 
     all_formed : is_well_formed (data_directives db s) ≡ true
-    all_formed = both_true (global_formed (codes "here") (pos s.room) refl (room_number s.room fits.rooms.room))
-        (both_true (global_formed (codes "saved") (pos s.saved) refl (room_number s.saved fits.rooms.saved))
-        (both_true (global_formed (codes "cur") s.counter refl (counter_number s.counter fits.counters.counter))
+    all_formed = both_true (global_formed (codes "here") (pos s.room) refl
+        (room_number s.room fits.rooms.room))
+        (both_true (global_formed (codes "saved") (pos s.saved) refl
+        (room_number s.saved fits.rooms.saved))
+        (both_true (global_formed (codes "cur") s.counter refl
+        (counter_number s.counter fits.counters.counter))
         (both_true (global_formed (codes "light") s.light refl light_number)
-        (both_true (global_formed (codes "redraw") (pos (bit s.redraw)) refl (small_number (bit s.redraw) (bit_small s.redraw)))
+        (both_true (global_formed (codes "redraw") (pos (bit s.redraw)) refl
+        (small_number (bit s.redraw) (bit_small s.redraw)))
         (both_true (global_formed (codes "over") (pos 0) refl refl)
         (both_true (global_formed (codes "vnum") (pos 0) refl refl)
         (both_true (global_formed (codes "nnum") (pos 0) refl refl)
@@ -202,7 +206,8 @@ module _ (db : Database) (limits : KeepsLimits db) where
         (both_true counters_there
         (both_true (array_formed (codes "rsave") true s.rooms refl
         (below_tested 32768 small (is_room_of db)
-        (λ n h. room_small (length db.rooms) n (few_rooms db limits) h) s.rooms fits.rooms.rooms) rooms_there)
+        (λ n h. room_small (length db.rooms) n (few_rooms db limits) h) s.rooms fits.rooms.rooms)
+        rooms_there)
         (both_true (guarded_formed (codes "start") true (map place_of_item db.items) refl
         (below_starts db.items limits.entries.items))
         (both_true (array_formed (codes "exits") true (exits db) refl below_exits (one_at_least _))
@@ -216,7 +221,8 @@ module _ (db : Database) (limits : KeepsLimits db) where
         (below_bases 32768 small (entries_of db Nouns) (few_bases Nouns)))
         (both_true (guarded_formed (codes "nclass") true (classes db (entries_of db Nouns)) refl
         (below_classes (entries_of db Nouns)))
-        (both_true (guarded_formed (codes "iclass") true (map (λ item. class_of db (item_word item)) db.items) refl
+        (both_true (guarded_formed (codes "iclass") true
+        (map (λ item. class_of db (item_word item)) db.items) refl
         (below_map 32768 small (λ (item : Item). class_of db (item_word item))
         (λ item. below_class (item_word item)) db.items))
         (both_true (guarded_formed (codes "inoun") true
@@ -227,7 +233,8 @@ module _ (db : Database) (limits : KeepsLimits db) where
         (map (λ item. bit (not (is_empty (item_word item)))) db.items) refl
         (below_map 32768 small (λ (item : Item). bit (not (is_empty (item_word item))))
         (λ item. bit_small (not (is_empty (item_word item)))) db.items))
-        (both_true (guarded_formed (codes "gold") true (map (λ item. bit (is_treasure item.text)) db.items) refl
+        (both_true (guarded_formed (codes "gold") true
+        (map (λ item. bit (is_treasure item.text)) db.items) refl
         (below_map 32768 small (λ (item : Item). bit (is_treasure item.text))
         (λ item. bit_small (is_treasure item.text)) db.items))
         refl)))))))))))))))))))))))))) where

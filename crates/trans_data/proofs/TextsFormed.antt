@@ -82,7 +82,8 @@ fixed_formed style db limits = two_lists is_formed_directive
       home = small_number (byte_or_more db.header.home) (byte_small db.header.home)
 
       by : is_number (divisor db.header.treasures) ≡ true
-      by = small_number (divisor db.header.treasures) (size_range (unsigned_abs db.header.treasures)).1
+      by = small_number (divisor db.header.treasures)
+          (size_range (unsigned_abs db.header.treasures)).1
 
       all : is_number (goal db.header.treasures) ≡ true
       all = small_number (goal db.header.treasures) (goal_small db.header.treasures)
@@ -152,7 +153,8 @@ cases_formed [] n few h = refl
 cases_formed (x ∷ xs) n few h = both_true
     (both_true (both_true (small_number n (omega (arith, few))) refl) refl)
     (both_true (both_true (both_true (and_parts (is_text x) (list_all is_text xs) h).0 refl) refl)
-    (cases_formed xs (n + 1) (omega (arith, few)) (and_parts (is_text x) (list_all is_text xs) h).1))
+    (cases_formed xs (n + 1) (omega (arith, few))
+    (and_parts (is_text x) (list_all is_text xs) h).1))
 
 cases_low : (texts : List (List ℕ)) (n : ℕ) → cases_depth (text_cases n texts) ≤ 1
 cases_low [] n = omega arith
@@ -165,7 +167,8 @@ switch_formed : (name : List ℕ) (texts : List (List ℕ)) → is_name name ≡
     → is_formed_directive (Routine (text_routine name texts)) ≡ true
 switch_formed name texts named few h = both_true named (both_true refl (both_true
     (low (cases_depth (text_cases 0 texts)) (cases_low texts 0))
-    (both_true (both_true refl (both_true (cases_formed texts 0 (omega (arith, few)) h) refl)) refl)))
+    (both_true (both_true refl (both_true (cases_formed texts 0 (omega (arith, few)) h) refl))
+    refl)))
   where
     low : (m : ℕ) → m ≤ 1 → nat_le (max (max 1 (max m 0) + 1) 0) 64 ≡ true
     low m h = grind (arith, h)
@@ -183,9 +186,10 @@ message_named : (m : ℕ) → m < 1000 → is_name (message_name m) ≡ true
 message_named m h = both_true refl (both_true (both_true refl (both_true refl (both_true refl
     (digits_name (decimal m) (decimal_is_IsNumeral m (omega (arith, h))).0.1))))
     (both_true (under (length (codes "sg_" ++ decimal m)) 32
-    (short (length-decimal-le 4 m (omega arith) (omega (arith, h)) (omega (arith, h))))) refl)) where
-      short : length (decimal m) ≤ 4 → length (codes "sg_" ++ decimal m) < 32
-      short few = omega (arith, few)
+    (short (length-decimal-le 4 m (omega arith) (omega (arith, h)) (omega (arith, h))))) refl))
+  where
+    short : length (decimal m) ≤ 4 → length (codes "sg_" ++ decimal m) < 32
+    short few = omega (arith, few)
 
 message_formed : (m : ℕ) (text : List ℕ) → m < 1000 → is_text text ≡ true
     → is_formed_directive (message_directive m text) ≡ true
@@ -206,9 +210,11 @@ pub texts_formed : TextsFormed
 texts_formed style db limits = two_lists is_formed_directive (fixed_directives style db)
     (spoken_directives style db) (fixed_formed style db limits)
     (both_true (switch_formed (codes "say_item") (item_texts db) refl
-    (fewer (length-map db.items _) (few_items db limits)) (items_texts db.items limits.entries.items))
+    (fewer (length-map db.items _) (few_items db limits))
+    (items_texts db.items limits.entries.items))
     (both_true (switch_formed (codes "say_room") (room_texts style db) refl
-    (fewer (length-map db.rooms _) (few_rooms db limits)) (rooms_texts style db.rooms limits.entries.rooms))
+    (fewer (length-map db.rooms _) (few_rooms db limits))
+    (rooms_texts style db.rooms limits.entries.rooms))
     (messages_formed 0 db.messages (omega (arith, few))
     (and_parts (list_all is_file_text db.messages) _ limits.entries.texts).0))) where
       few : length db.messages ≤ 1000
