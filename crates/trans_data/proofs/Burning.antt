@@ -88,7 +88,8 @@ module _ (style : Style) (db : Database) (limits : KeepsLimits db) (p : Program)
 
     -- where it is out, it goes out
     abbrev w3 : Bool → Stage
-    w3 out = if out then out_stage style db p has style.vanish (flags style db p has 0 s1 w2 shows2 lit many)
+    w3 out = if out then out_stage style db p has style.vanish
+        (flags style db p has 0 s1 w2 shows2 lit many)
         (items style db p has 0 s1 w2 shows2 lit many) w2 else w2
 
     module _ (d r : ℕ) where
@@ -195,7 +196,8 @@ module _ (style : Style) (db : Database) (limits : KeepsLimits db) (p : Program)
               (v.arguments (v.Number 9 ∷ []))) (v.Number 0))
               (record { directive = has.burn.at; locals = [] }) w b w 4
           gone is = compare (call (argument number (called
-              (place_does style db limits p has s w stands.ready.shows stands.ready.fits (suc d) 9))))
+              (place_does style db limits p has s w stands.ready.shows stands.ready.fits
+              (suc d) 9))))
               number (eq_is (place_of s lamp) 0 ∙ is)
 
           spent : {b : Bool} → int_eq s.light (negsuc 0) ≡ b
@@ -223,7 +225,8 @@ module _ (style : Style) (db : Database) (limits : KeepsLimits db) (p : Program)
           from false false h k fits = record {
             after = w3 k (is_item s.places.items lamp h) (int_lt fallen (pos 1));
             does = does_within (omega arith) (routine has.burn
-                (next (if_false (any_of (this_fails (gone h) (this_fails (spent k) none_holds))) end)
+                (next (if_false (any_of (this_fails (gone h) (this_fails (spent k) none_holds)))
+                end)
                 (next (assign (decrement stands.ready.shows.light_is
                 (light_less p.width s.light db.header.light stands.ready.fits.light.0
                 stands.ready.fits.light.1 k word)))

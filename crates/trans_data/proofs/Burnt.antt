@@ -53,7 +53,8 @@ module _ (style : Style) (db : Database) (p : Program) (has : HasAll style db p)
     counted_says own true low h k = does_within (omega arith) (routine own (returns (if_true
         (compare (global refl there) number h)
         (next (print (print_text print_nothing)) (returns return_true)))) by_return)
-    counted_says own false true h k = subst (λ w'. Does p (suc d) (codes "say_light") [] w (pos 1) w' 6)
+    counted_says own false true h k = subst
+        (λ w'. Does p (suc d) (codes "say_light") [] w (pos 1) w' 6)
         (said_three (text_of LightLasts) (signed_decimal z) (text_of LightTurns) w)
         (does_within (omega arith) (routine own
         (next (if_false (compare (global refl there) number h) end)
@@ -61,10 +62,12 @@ module _ (style : Style) (db : Database) (p : Program) (has : HasAll style db p)
         (next (print (print_text print_nothing))
         (next (print (print_number (global refl there) print_nothing))
         (next (print (print_text print_nothing)) end)))) (returns return_true))) by_return))
-    counted_says own false false h k = subst (λ w'. Does p (suc d) (codes "say_light") [] w (pos 1) w' 6)
+    counted_says own false false h k = subst
+        (λ w'. Does p (suc d) (codes "say_light") [] w (pos 1) w' 6)
         (sym (said_nothing w)) (does_within (omega arith) (routine own
         (next (if_false (compare (global refl there) number h) end)
-        (next (if_false (compare (global refl there) number k) end) (returns return_true))) by_return))
+        (next (if_false (compare (global refl there) number k) end) (returns return_true)))
+        by_return))
 
     dim_says : Has p (tree style db n.SAY_LIGHT [] l.DIM_LIGHT) → (out low dim : Bool)
         → int_lt z (pos 1) ≡ out → int_lt z (pos 25) ≡ low
@@ -87,12 +90,14 @@ module _ (style : Style) (db : Database) (p : Program) (has : HasAll style db p)
         (next (if_false (compare (global refl there) number h) end)
         (next (if_true (compare (global refl there) number k)
         (next (if_false (compare (product_of_two (global refl there) number
-        (remainder_is p.width z (pos 5) refl)) number is) end) end)) (returns return_true))) by_return))
+        (remainder_is p.width z (pos 5) refl)) number is) end) end)) (returns return_true)))
+        by_return))
     dim_says own false false dim h k is =
         subst (λ w'. Does p (suc d) (codes "say_light") [] w (pos 1) w' 6)
         (sym (said_nothing w)) (does_within (omega arith) (routine own
         (next (if_false (compare (global refl there) number h) end)
-        (next (if_false (compare (global refl there) number k) end) (returns return_true))) by_return))
+        (next (if_false (compare (global refl there) number k) end) (returns return_true)))
+        by_return))
 
     pub say_does : Does p (suc d) (codes "say_light") [] w (pos 1) (said (light_text style z) w) 6
     say_does = from style.counted refl where
@@ -137,7 +142,8 @@ module _ (style : Style) (db : Database) (p : Program) (has : HasAll style db p)
       length-map s.places.items pos,
     )
 
-    pub out_does : Does p (suc d) (codes "light_out") [] w (pos 1) (out_stage style.vanish flags items w) 3
+    pub out_does : Does p (suc d) (codes "light_out") [] w (pos 1)
+        (out_stage style.vanish flags items w) 3
     unfolding body_of routine_names
     out_does = from style.vanish refl where
       own : {b : Bool} → style.vanish ≡ b

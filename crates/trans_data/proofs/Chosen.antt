@@ -60,7 +60,8 @@ all_joined separator [] = refl
 all_joined separator (text ∷ texts) = ap (λ rest. text ++ rest) (others separator texts)
 
 -- texts of which there is one at least, or none
-pub some_joined : (none separator : List ℕ) (texts : List (List ℕ)) → nat_eq (length texts) 0 ≡ false
+pub some_joined : (none separator : List ℕ) (texts : List (List ℕ))
+    → nat_eq (length texts) 0 ≡ false
     → rest_joined separator 0 texts ≡ joined_or none separator texts
 some_joined none separator [] h = cc
 some_joined none separator (text ∷ texts) h = all_joined separator (text ∷ texts)

@@ -59,7 +59,8 @@ six_exits (room ∷ rooms) all zero less = six (length room.exits) (and_parts (l
       six : (n : ℕ) → (n == 6) ≡ true → n ≡ 6
       six n h = grind (arith, h)
 six_exits (room ∷ rooms) all (suc j) less =
-    six_exits rooms (and_parts (is_room room) (list_all is_room rooms) all).1 j (omega (arith, less))
+    six_exits rooms (and_parts (is_room room) (list_all is_room rooms) all).1 j
+    (omega (arith, less))
 
 many_exits : (db : Database) (rooms : List Room)
     → ((j : ℕ) → j < length rooms
@@ -174,7 +175,8 @@ module _ (style : Style) (db : Database) (limits : KeepsLimits db) (p : Program)
           exit is = nonzero (entry (sum_of_two (product_of_two number (global refl here)
               (small_product p.width 6 s.room (omega (arith, small_room)))) (local refl)
               (small_sum p.width (6 * s.room) i small_room)) there
-              (number_there (exits db) (6 * s.room + i) within_table ∙ ap (λ x. Some (pos x)) value))
+              (number_there (exits db) (6 * s.room + i) within_table ∙ ap
+              (λ x. Some (pos x)) value))
               (ap not (equal_is (room_beyond (length db.rooms) e) 0 ∙ is))
 
           from : (b : Bool) → (room_beyond (length db.rooms) e == 0) ≡ b
@@ -203,6 +205,7 @@ module _ (style : Style) (db : Database) (limits : KeepsLimits db) (p : Program)
       (said (rest_joined (text_of BetweenExits) 0 (exit_names db s.room)) w) 64
   unfolding body_of routine_names
   exits_do d w here there = does_within (omega arith) (routine has.list_exits
-      (next (for (set_variable number refl) (exits_walked d has.list_exits.at directions room_exits 0 0
+      (next (for (set_variable number refl)
+      (exits_walked d has.list_exits.at directions room_exits 0 0
       w here there refl refl refl (six_exits db.rooms limits.entries.rooms s.room in_room)))
       (returns (return (local refl)))) by_return)

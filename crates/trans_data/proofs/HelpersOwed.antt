@@ -23,7 +23,8 @@ many_texts db = length-map db.items _
 -- what is shown of an item is said
 pub item_does : (style : Style) (db : Database) (p : Program) (d k : ℕ) (w : Stage) → KeepsLimits db
     → HasAll style db p → k < length db.items
-    → Does p (suc d) (codes "say_item") (pos k ∷ []) w (pos 1) (said (shown (item_at db k).text) w) 2
+    → Does p (suc d) (codes "say_item") (pos k ∷ []) w (pos 1)
+    (said (shown (item_at db k).text) w) 2
 item_does style db p d k w limits has few =
     subst (λ bytes. Does p (suc d) (codes "say_item") (pos k ∷ []) w (pos 1) (said bytes w) 2)
     (at_map (λ (item : Item). shown item.text) db.items k (record { text = []; place = 0 }) few)

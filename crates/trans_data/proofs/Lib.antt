@@ -15,3 +15,5 @@ mod Burnt
 mod Burning
 mod Owed
 mod Zeros
+mod DataFormed
+mod TextsFormed

@@ -49,7 +49,8 @@ separated separator = t.If (c.Nonzero (v.Name (codes "n")))
 
 pub separator_said : {p : Program} {d : ℕ} {s : Scope} (separator : List ℕ) (n : ℕ) (w : Stage)
     → found (codes "n") s.locals ≡ Some (pos n)
-    → Executes p d (separated separator) s w Normal s (said (if nat_eq n 0 then [] else separator) w)
+    → Executes p d (separated separator) s w Normal s
+    (said (if nat_eq n 0 then [] else separator) w)
     2
 separator_said {p} {d} {s} separator n w there = from (nat_eq n 0) refl where
   nothing : {b : Bool} → nat_eq n 0 ≡ b → not (int_eq (pos n) (pos 0)) ≡ not b
@@ -58,7 +59,8 @@ separator_said {p} {d} {s} separator n w there = from (nat_eq n 0) refl where
   from : (b : Bool) → nat_eq n 0 ≡ b → Executes p d (separated separator) s w Normal s
       (said (if b then [] else separator) w) 2
   from true is = subst (λ w'. Executes p d (separated separator) s w Normal s w' 2)
-      (sym (said_nothing w)) (within (omega arith) (if_false (nonzero (local there) (nothing is)) end))
+      (sym (said_nothing w)) (within (omega arith)
+      (if_false (nonzero (local there) (nothing is)) end))
   from false is = if_true (nonzero (local there) (nothing is))
       (next (print (print_text print_nothing)) end)
 
@@ -166,7 +168,8 @@ module _ (style : Style) (db : Database) (limits : KeepsLimits db) (p : Program)
           from : (b : Bool) → (y == a) ≡ b
               → ((m : ℕ) (w : Stage) → w.arrays (codes "item") ≡ Some (entries guard)
               → Lists (i + 1) m w texts (10 * length xs + 1))
-              → Lists i n w (with_first (λ at. at == a) (λ (item : Item). shown item.text) b x texts)
+              → Lists i n w (with_first (λ at. at == a)
+              (λ (item : Item). shown item.text) b x texts)
               (10 * length (x ∷ xs) + 1)
           from true is more = subst (λ w'. Loops p (suc d) (items_loop (length db.items))
               (counting r a i n) w Normal (counting r a (length db.items) (last_said 1 texts)) w'

@@ -55,7 +55,8 @@ module _ (style : Style) (db : Database) (limits : KeepsLimits db) (p : Program)
   room_does : (d : ℕ) (w : Stage) → Does p (suc d) (codes "say_room") (pos s.room ∷ []) w (pos 1)
       (said (described style (room_at db s.room).text) w) 2
   room_does d w =
-      subst (λ bytes. Does p (suc d) (codes "say_room") (pos s.room ∷ []) w (pos 1) (said bytes w) 2)
+      subst (λ bytes. Does p (suc d) (codes "say_room") (pos s.room ∷ []) w (pos 1)
+      (said bytes w) 2)
       (at_map (λ (room : Room). described style room.text) db.rooms s.room
       (record { exits = []; text = [] }) in_room)
       (text_does (codes "say_room") (room_texts style db) d s.room w has.say_room
@@ -86,12 +87,14 @@ module _ (style : Style) (db : Database) (limits : KeepsLimits db) (p : Program)
         (said (rest_joined (text_of BetweenExits) 0 names) w) 64
         → Executes p (suc (suc d)) exits_choice scope w Normal scope
         (said (joined_or (text_of NoExits) (text_of BetweenExits) names) w) 67
-    exits_chosen w [] does = subst (λ w'. Executes p (suc (suc d)) exits_choice scope w Normal scope w' 67)
+    exits_chosen w [] does = subst (λ w'. Executes p
+        (suc (suc d)) exits_choice scope w Normal scope w' 67)
         (ap (said (text_of NoExits)) (said_nothing w))
         (within (omega arith) (if_true (compare (call (called does)) number refl)
         (next (print (print_text print_nothing)) end)))
     exits_chosen w (x ∷ xs) does =
-        subst (λ bytes. Executes p (suc (suc d)) exits_choice scope w Normal scope (said bytes w) 67)
+        subst (λ bytes. Executes p (suc (suc d)) exits_choice scope w Normal scope
+        (said bytes w) 67)
         (all_joined (text_of BetweenExits) (x ∷ xs))
         (within (omega arith) (if_false (compare (call (called does)) number
         (eq_is (last_said 1 xs) 0 ∙ some_said xs)) end))
@@ -99,7 +102,8 @@ module _ (style : Style) (db : Database) (limits : KeepsLimits db) (p : Program)
     -- ---- `if (count_at(here)) { print "I can also see: "; list_items(here); print "^"; }`
 
     abbrev seen_choice : t.Statement
-    seen_choice = t.If (c.Nonzero (v.Call (codes "count_at") (v.arguments (v.Name (codes "here") ∷ []))))
+    seen_choice = t.If (c.Nonzero (v.Call (codes "count_at")
+        (v.arguments (v.Name (codes "here") ∷ []))))
         (t.statements (t.Print (t.Text (text_in style AlsoSee) ∷ [])
         ∷ t.Call (codes "list_items") (v.arguments (v.Name (codes "here") ∷ []))
         ∷ t.Print (t.Text (text_of Newline) ∷ []) ∷ [])) t.NoStatements
@@ -115,19 +119,22 @@ module _ (style : Style) (db : Database) (limits : KeepsLimits db) (p : Program)
         (said (text_in style AlsoSee) w) (pos 1)
         (said (joined (text_of BetweenItems) texts) (said (text_in style AlsoSee) w))
         (10 * length db.items + 4)
-        → Executes p (suc (suc d)) seen_choice scope w Normal scope (said (items_seen style texts) w)
+        → Executes p (suc (suc d)) seen_choice scope w Normal scope
+        (said (items_seen style texts) w)
         most_seen
     seen_chosen w n [] is here counts lists =
         subst (λ w'. Executes p (suc (suc d)) seen_choice scope w Normal scope w' most_seen)
         (sym (said_nothing w))
-        (within (omega arith) (if_false (nonzero (call (argument (global refl here) (called counts)))
+        (within (omega arith) (if_false (nonzero
+        (call (argument (global refl here) (called counts)))
         (ap (λ n. not (int_eq (pos n) (pos 0))) is)) end))
     seen_chosen w n (x ∷ xs) is here counts lists =
         subst (λ w'. Executes p (suc (suc d)) seen_choice scope w Normal scope w' most_seen)
         (said_three (text_in style AlsoSee) (joined (text_of BetweenItems) (x ∷ xs))
         (text_of Newline) w)
         (within (omega arith) (if_true (nonzero (call (argument (global refl here) (called counts)))
-        (ap (λ n. not (int_eq (pos n) (pos 0))) is ∙ ap not (equal_is (length (x ∷ xs)) 0) ∙ some_there x xs))
+        (ap (λ n. not (int_eq (pos n) (pos 0))) is ∙ ap not (equal_is (length (x ∷ xs)) 0)
+        ∙ some_there x xs))
         (next (print (print_text print_nothing))
         (next (call_alone (argument (global refl here) (called lists)))
         (next (print (print_text print_nothing)) end)))))
@@ -151,7 +158,8 @@ module _ (style : Style) (db : Database) (limits : KeepsLimits db) (p : Program)
         (ap (λ n. not (int_eq (pos n) (pos 0))) is)) (next (print (print_text print_nothing)) end))
     carried_chosen w n (x ∷ xs) is counts lists =
         within (omega arith) (if_true (nonzero (call (argument number (called counts)))
-        (ap (λ n. not (int_eq (pos n) (pos 0))) is ∙ ap not (equal_is (length (x ∷ xs)) 0) ∙ some_there x xs))
+        (ap (λ n. not (int_eq (pos n) (pos 0))) is ∙ ap not (equal_is (length (x ∷ xs)) 0)
+        ∙ some_there x xs))
         (next (call_alone (argument number (called lists))) end))
 
   pub look_does : (d : ℕ) (w : Stage) → Shows s w → HasTables db w
@@ -173,7 +181,8 @@ module _ (style : Style) (db : Database) (limits : KeepsLimits db) (p : Program)
     from false is = subst (λ w'. Does p (suc (suc (suc (suc d)))) (codes "look") [] w (pos 1) w'
         (13 * length db.items + 120)) all
         (does_within (omega arith) (routine has.look (next (if_false (dark is) end)
-        (next (call_alone (argument (global refl shows.room_is) (called (room_does (suc (suc d)) w))))
+        (next (call_alone (argument (global refl shows.room_is)
+        (called (room_does (suc (suc d)) w))))
         (next (print (print_text print_nothing))
         (next (exits_chosen (suc d) has.look.at _ (exit_names db s.room)
         (exits_do style db limits p has s fits (suc d) _ shows.room_is tables.exits_are))
@@ -181,7 +190,8 @@ module _ (style : Style) (db : Database) (limits : KeepsLimits db) (p : Program)
         (next (seen_chosen (suc d) has.look.at _ (there_count s s.room)
         (items_at db s s.room) (count_is s.room) shows.room_is
         (count_does style db limits p has s _ shows fits (suc (suc d)) s.room)
-        (list_does style db limits p has s fits (suc d) s.room _ shows)) (returns return_true))))))) by_return)) where
+        (list_does style db limits p has s fits (suc d) s.room _ shows)) (returns return_true)))))))
+        by_return)) where
           all : said (items_seen style (items_at db s s.room)) (said (text_of ListEnd)
               (said (joined_or (text_of NoExits) (text_of BetweenExits) (exit_names db s.room))
               (said (text_of ObviousExits) (said (described style (room_at db s.room).text) w))))
@@ -197,7 +207,8 @@ module _ (style : Style) (db : Database) (limits : KeepsLimits db) (p : Program)
       → Does p (suc (suc (suc d))) (codes "inventory") [] w (pos 1)
       (said (inventory (in_style style db) s) w) (13 * length db.items + 30)
   unfolding body_of routine_names
-  inventory_does d w shows = subst (λ w'. Does p (suc (suc (suc d))) (codes "inventory") [] w (pos 1) w'
+  inventory_does d w shows = subst (λ w'. Does p (suc (suc (suc d))) (codes "inventory") [] w
+      (pos 1) w'
       (13 * length db.items + 30))
       (said_three (text_in style CarryingList)
       (joined_or (text_of NothingCarried) (text_of BetweenItems) (items_at db s carried_place))

@@ -78,7 +78,8 @@ module _ (style : Style) (db : Database) (limits : KeepsLimits db) (p : Program)
         (compare (local refl) (valued (small_number p.width small) number) h)
         (returns (return (entry (local refl) shows.places_are
         (number_before s.places.items (shows.guard ∷ []) item
-        (subst (λ n. item < n) (sym fits.places.count) (is_under item (length db.items) h)))))))) by_return)
+        (subst (λ n. item < n) (sym fits.places.count) (is_under item (length db.items) h))))))))
+        by_return)
     from false h = subst (λ x. Does p (suc d) (codes "place") (pos item ∷ []) w (pos x) w 3)
         (past_the_end s.places.items item
         (ap (nat_lt item) fits.places.count ∙ h))
@@ -93,19 +94,22 @@ module _ (style : Style) (db : Database) (limits : KeepsLimits db) (p : Program)
     from : (a b : Bool) → (place_of s item == 255) ≡ a → (place_of s item == s.room) ≡ b
         → Does p (suc (suc d)) (codes "near") (pos item ∷ []) w (pos (bit (a || b))) w 8
     from true b h k = does_within (omega arith) (routine has.near
-        (next (assign (set_variable (call (argument (local refl) (called (place_does d item)))) refl))
+        (next (assign (set_variable (call (argument (local refl) (called (place_does d item))))
+        refl))
         (returns (if_true (any_of (this_holds
         (compare (local refl) (number)
         (eq_is (place_of s item) 255 ∙ h)))) (returns return_true)))) by_return)
     from false true h k = does_within (omega arith) (routine has.near
-        (next (assign (set_variable (call (argument (local refl) (called (place_does d item)))) refl))
+        (next (assign (set_variable (call (argument (local refl) (called (place_does d item))))
+        refl))
         (returns (if_true (any_of (this_fails
         (compare (local refl) (number)
         (eq_is (place_of s item) 255 ∙ h))
         (this_holds (compare (local refl) (global refl shows.room_is)
         (eq_is (place_of s item) s.room ∙ k))))) (returns return_true)))) by_return)
     from false false h k = does_within (omega arith) (routine has.near
-        (next (assign (set_variable (call (argument (local refl) (called (place_does d item)))) refl))
+        (next (assign (set_variable (call (argument (local refl) (called (place_does d item))))
+        refl))
         (next (if_false (any_of (this_fails
         (compare (local refl) (number)
         (eq_is (place_of s item) 255 ∙ h))
@@ -118,7 +122,8 @@ module _ (style : Style) (db : Database) (limits : KeepsLimits db) (p : Program)
   unfolding body_of routine_names numbers
   dark_does d = from (flag_of s dark_flag) (is_near s lamp) refl refl where
     flag : {b : Bool} → nat_eq (bit (flag_of s dark_flag)) 0 ≡ b
-        → Tests p (suc (suc d)) (c.Compare Eq (v.Entry (codes "flag") true (v.Number 15)) (v.Number 0))
+        → Tests p (suc (suc d)) (c.Compare Eq (v.Entry (codes "flag") true (v.Number 15))
+        (v.Number 0))
         (record { directive = has.dark.at; locals = [] }) w b w 0
     flag is = compare (entry (number) shows.flags_are
         (flag_there s.flags 15 (omega (arith, fits.flags)))) (number)
@@ -133,12 +138,14 @@ module _ (style : Style) (db : Database) (limits : KeepsLimits db) (p : Program)
     from : (a b : Bool) → flag_of s dark_flag ≡ a → is_near s lamp ≡ b
         → Does p (suc (suc (suc d))) (codes "dark") [] w (pos (bit (a && not b))) w 14
     from false b h k = does_within (omega arith) (routine has.dark (returns (if_true
-        (any_of (this_holds (flag (ap (λ a. nat_eq (bit a) 0) h)))) (returns return_false))) by_return)
+        (any_of (this_holds (flag (ap (λ a. nat_eq (bit a) 0) h)))) (returns return_false)))
+        by_return)
     from true true h k = does_within (omega arith) (routine has.dark (returns (if_true
         (any_of (this_fails (flag (ap (λ a. nat_eq (bit a) 0) h)) (this_holds (lamp_near k))))
         (returns return_false))) by_return)
     from true false h k = does_within (omega arith) (routine has.dark (next (if_false
-        (any_of (this_fails (flag (ap (λ a. nat_eq (bit a) 0) h)) (this_fails (lamp_near k) none_holds)))
+        (any_of (this_fails (flag (ap (λ a. nat_eq (bit a) 0) h))
+        (this_fails (lamp_near k) none_holds)))
         end) (returns return_true)) by_return)
 
   -- ---- counts
@@ -176,14 +183,16 @@ module _ (style : Style) (db : Database) (limits : KeepsLimits db) (p : Program)
               → Counts i n (more a (n + cond b 1 0) rest) (3 * length (x ∷ rest) + 1)
           from true is after = within (omega arith) (for_once_more on
               (next (if_true (there is)
-              (next (assign (increment refl (counted_up p.width n (omega (arith, few, all, small)))))
+              (next (assign (increment refl (counted_up p.width n
+              (omega (arith, few, all, small)))))
               end)) end)
               (increment refl (counted_up p.width i (omega (arith, all, small))))
               (after (n + 1) (omega (arith, few))))
           from false is after = within (omega arith) (for_once_more on
               (next (if_false (there is) end) end)
               (increment refl (counted_up p.width i (omega (arith, all, small))))
-              (subst (λ m. Counts (i + 1) n (more a m rest) (3 * length rest + 1)) (sym (add-zero n))
+              (subst (λ m. Counts (i + 1) n (more a m rest) (3 * length rest + 1))
+              (sym (add-zero n))
               (after n (omega (arith, few)))))
 
   pub count_does : (d a : ℕ) → Does p (suc d) (codes "count_at") (pos a ∷ []) w
@@ -191,7 +200,8 @@ module _ (style : Style) (db : Database) (limits : KeepsLimits db) (p : Program)
   unfolding body_of routine_names numbers
   count_does d a = does_within (omega (arith, fits.places.count)) (routine has.count
       (next (for (set_variable number refl)
-      (loop d has.count.at a s.places.items 0 0 refl (omega (arith, fits.places.count)) (omega arith)))
+      (loop d has.count.at a s.places.items 0 0 refl (omega (arith, fits.places.count))
+      (omega arith)))
       (returns (return (local refl)))) by_return)
 
   pub carried_does : (d : ℕ) → Does p (suc (suc d)) (codes "carried") [] w

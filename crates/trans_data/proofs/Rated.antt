@@ -45,7 +45,7 @@ use Rattle.trans_data.proofs.Scored.{stored_does}
 abbrev by_size : ℕ → ℕ
 by_size size = if nat_lt 0 size && nat_lt size 32768 then size else 32767
 
-size_range : (size : ℕ) → (0 < by_size size) × (by_size size < 32768)
+pub size_range : (size : ℕ) → (0 < by_size size) × (by_size size < 32768)
 size_range size = from (nat_lt 0 size) (nat_lt size 32768) refl refl where
   from : (a b : Bool) → nat_lt 0 size ≡ a → nat_lt size 32768 ≡ b
       → (0 < (if a && b then size else 32767)) × ((if a && b then size else 32767) < 32768)
@@ -103,7 +103,7 @@ same_goal stored treasures few = from (int_eq treasures (pos 0)) where
   from true = never
   from false = same_byte stored treasures few
 
-goal_small : (treasures : ℤ) → goal treasures < 32768
+pub goal_small : (treasures : ℤ) → goal treasures < 32768
 goal_small treasures = from (int_eq treasures (pos 0)) where
   from : (b : Bool) → (if b then 256 else byte_or_more treasures) < 32768
   from true = omega arith
@@ -156,7 +156,8 @@ module _ (style : Style) (db : Database) (limits : KeepsLimits db) (p : Program)
         (valued (small_number p.width range.1) number)
         (small_quotient p.width (stored * 100) (divisor db.header.treasures) (omega (arith, few))
         range.0))
-        (negation_is p.width (pos (stored * 100 / divisor db.header.treasures)) (negative _ less)))))
+        (negation_is p.width (pos (stored * 100 / divisor db.header.treasures))
+        (negative _ less)))))
         by_return) where
           own : Has p (tree style db n.HUNDREDTHS_NAME (n.N ∷ []) h.LESS_HUNDREDTHS)
           own = subst (λ (b : Bool). Has p (tree style db n.HUNDREDTHS_NAME (n.N ∷ [])
@@ -190,18 +191,22 @@ module _ (style : Style) (db : Database) (limits : KeepsLimits db) (p : Program)
             → nat_eq (stored_count db s) (goal db.header.treasures) ≡ b
         full is = same_goal (stored_count db s) db.header.treasures few_stored ∙ is
 
-        texts : (rest : List ℕ) → said rest (said (text_of ListEnd) (said (signed_decimal (hundredths s))
+        texts : (rest : List ℕ) → said rest
+            (said (text_of ListEnd) (said (signed_decimal (hundredths s))
             (said (text_of Rating) (said (decimal (stored_count db s))
             (said (text_in style Stored) w)))))
             ≡ said (text_in style Stored ++ (decimal (stored_count db s) ++ (text_of Rating
             ++ (signed_decimal (hundredths s) ++ (text_of ListEnd ++ rest))))) w
         texts rest = said_twice (text_of ListEnd) rest (said (signed_decimal (hundredths s))
-            (said (text_of Rating) (said (decimal (stored_count db s)) (said (text_in style Stored) w))))
+            (said (text_of Rating) (said (decimal (stored_count db s))
+            (said (text_in style Stored) w))))
             ∙ five (text_in style Stored) (decimal (stored_count db s)) (text_of Rating)
             (signed_decimal (hundredths s)) (text_of ListEnd ++ rest) w
 
-        from : (b : Bool) → all_stored db s ≡ b → Does p (suc (suc d)) (codes "score") [] w (pos (bit b))
-            (said (score_around style (decimal (stored_count db s)) (signed_decimal (hundredths s)) b) w)
+        from : (b : Bool) → all_stored db s ≡ b → Does p (suc (suc d)) (codes "score") [] w
+            (pos (bit b))
+            (said (score_around style (decimal (stored_count db s))
+            (signed_decimal (hundredths s)) b) w)
             (3 * length db.items + 20)
         from true is = subst (λ w'. Does p (suc (suc d)) (codes "score") [] w (pos 1) w'
             (3 * length db.items + 20))
@@ -214,7 +219,8 @@ module _ (style : Style) (db : Database) (limits : KeepsLimits db) (p : Program)
             (next (print (print_number (local refl) print_nothing))
             (next (print (print_text print_nothing))
             (next (print (print_number
-            (call (argument (local refl) (called (hundredths_do d (stored_count db s) _ few_stored))))
+            (call (argument (local refl) (called
+            (hundredths_do d (stored_count db s) _ few_stored))))
             print_nothing))
             (next (print (print_text print_nothing))
             (returns (if_true (compare (local refl)
@@ -233,7 +239,8 @@ module _ (style : Style) (db : Database) (limits : KeepsLimits db) (p : Program)
             (next (print (print_number (local refl) print_nothing))
             (next (print (print_text print_nothing))
             (next (print (print_number
-            (call (argument (local refl) (called (hundredths_do d (stored_count db s) _ few_stored))))
+            (call (argument (local refl) (called
+            (hundredths_do d (stored_count db s) _ few_stored))))
             print_nothing))
             (next (print (print_text print_nothing))
             (next (if_false (compare (local refl)

@@ -14,7 +14,8 @@ pub with_calls : (calls d : ℕ) {p : Program} {name : List ℕ} {values : List 
     {v : ℤ} {n most : ℕ} → calls ≤ d → n ≤ most
     → ((k : ℕ) → Does p (plus calls k) name values w v w' n) → Does p d name values w v w' most
 with_calls calls d {p} {name} {values} {w} {w'} {v} {n} {most} room enough does =
-    with_room calls (λ d. Does p d name values w v w' most) (λ k. does_within enough (does k)) d room
+    with_room calls (λ d. Does p d name values w v w' most)
+    (λ k. does_within enough (does k)) d room
 
 leaves_within : {p : Program} {d : ℕ} {name : List ℕ} {values : List ℤ} {w : Stage} {v : ℤ}
     {db : Database} {s : State} {noun : List ℕ} {steps : List Step} {n most : ℕ} → n ≤ most

@@ -137,8 +137,10 @@ module _ (style : Style) (db : Database) (limits : KeepsLimits db) (p : Program)
             → Counts i n (more (n + cond (a && b) 1 0) xs ys) (3 * length (x ∷ xs) + 1)
         from true true h k after = within (omega arith) (for_once_more on
             (next (if_true (all_of (one_holds (gold h) (one_holds (at_home k) all_hold)))
-            (next (assign (increment refl (counted_up p.width n (omega (arith, low, all, few))))) end))
-            end) (increment refl (counted_up p.width i next_item)) (after (n + 1) (omega (arith, low))))
+            (next (assign (increment refl (counted_up p.width n (omega (arith, low, all, few)))))
+            end))
+            end) (increment refl (counted_up p.width i next_item))
+            (after (n + 1) (omega (arith, low))))
         from true false h k after = within (omega arith) (for_once_more on
             (next (if_false (all_of (one_holds (gold h) (one_fails (at_home k)))) end) end)
             (increment refl (counted_up p.width i next_item)) (after_no after))
@@ -149,6 +151,8 @@ module _ (style : Style) (db : Database) (limits : KeepsLimits db) (p : Program)
   pub stored_does : (d : ℕ) → Does p (suc d) (codes "stored") [] w (pos (stored_count db s)) w
       (3 * length db.items + 3)
   unfolding body_of routine_names numbers
-  stored_does d = does_within (omega arith) (routine has.stored (next (for (set_variable number refl)
+  stored_does d = does_within (omega arith)
+      (routine has.stored (next (for (set_variable number refl)
       (stored_counted d has.stored.at db.items s.places.items 0 0 refl refl (omega arith)
-      fits.places.count fits.places.places (omega arith))) (returns (return (local refl)))) by_return)
+      fits.places.count fits.places.places (omega arith))) (returns (return (local refl))))
+      by_return)

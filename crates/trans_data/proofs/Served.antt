@@ -95,7 +95,8 @@ all_of_them style db width p serves =
     let table : Holds p (rows_directives (routine_names style) (numbers db) table_rows) =
     first_part (Held p) (rows_directives (routine_names style) (numbers db) table_rows)
     (rows_directives (routine_names style) (numbers db) (chosen_rows style db)) fixed in
-    let chosen : Holds p (rows_directives (routine_names style) (numbers db) (chosen_rows style db)) =
+    let chosen : Holds p (rows_directives (routine_names style) (numbers db) (chosen_rows style db))
+    =
     last_part (Held p) (rows_directives (routine_names style) (numbers db) table_rows)
     (rows_directives (routine_names style) (numbers db) (chosen_rows style db)) fixed in
     let spoken : Holds p (spoken_directives style db) =

@@ -77,7 +77,8 @@ held_message p (x ∷ xs) n (suc k) m is few h =
 message_is : (db : Database) (m : ℕ) → m < length db.messages
     → slice_index_or db.messages m [] ++ 10 ∷ [] ≡ said_message db m
 unfolding text_of
-message_is db m less = ap (λ (b : Bool). if b then slice_index_or db.messages m [] ++ 10 ∷ [] else [])
+message_is db m less = ap (λ (b : Bool). if b then slice_index_or db.messages m [] ++ 10
+    ∷ [] else [])
     (sym (under m (length db.messages) less))
 
 pub message_does : (db : Database) (p : Program) (d m : ℕ) (w : Stage)

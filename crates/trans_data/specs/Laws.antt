@@ -1,11 +1,16 @@
 -- The laws of the routines: what they owe.
-use Rattle.std.specs.Prelude.{List, ◌++◌, codes}
+use Rattle.std.specs.Prelude.{◌≡◌, true, List, ◌++◌, codes}
 use Rattle.inform_tree.specs.declared.widths.Width.{Width}
 use Rattle.inform_tree.specs.Programs.{DirectiveTree}
+use Rattle.inform_tree.specs.Formed.{is_well_formed}
 use Rattle.inform_meaning.specs.Worlds.{Program}
 use Rattle.scott_types.specs.declared.styles.Style.{Style}
+use Rattle.scott_types.specs.declared.states.State.{State}
 use Rattle.scott_types.specs.Database.{Database}
+use Rattle.scott_types.specs.Limits.{KeepsLimits}
+use Rattle.scott_types.specs.State.{Fits}
 use Rattle.scott_types.specs.Style.{in_style}
+use Rattle.trans_rows.specs.Directives.{data_directives}
 use Rattle.trans_rows.specs.Programs.{Serves}
 use Rattle.trans_rows.specs.HelperRows.{HelperNames, HelperRows}
 use Rattle.trans_rows.specs.Owed.{Translates, DataOwe}
@@ -37,3 +42,13 @@ abbrev pub DataOwes : Type 0
 DataOwes = (style : Style) (width : Width) (db : Database)
     → DataOwe width (in_style style db) (text_directives style db) (codes "look")
     (codes "inventory") (codes "score") (codes "burn")
+
+-- The routines have a text, for a database that keeps its limits.
+abbrev pub TextsFormed : Type 0
+TextsFormed = (style : Style) (db : Database) → KeepsLimits db
+    → is_well_formed (text_directives style db) ≡ true
+
+-- The globals and arrays have a text, for a state that fits such a database.
+abbrev pub DataFormed : Type 0
+DataFormed = (db : Database) (s : State) → KeepsLimits db → Fits db s
+    → is_well_formed (data_directives db s) ≡ true

@@ -8,9 +8,8 @@ abbrev pub byte_or_more : ℤ → ℕ
 byte_or_more (pos n) = if nat_le n 255 then n else 256
 byte_or_more (negsuc n) = 256
 
--- By what the hundredths of the stored treasures are divided, sign aside. Where there is nothing to
--- store, or too much for a word, no hundredth is left by a number that no count of treasures
--- reaches.
+-- By what the hundredths of the stored treasures are divided, sign aside. Where there are none to
+-- store, or more than a word holds, it is a number that leaves no hundredth of any count.
 abbrev pub divisor : ℤ → ℕ
 divisor treasures =
     let size = unsigned_abs treasures in

@@ -6,4 +6,5 @@ use Rattle.trans_data.proofs.item_tables.treasures.Given as goal
 -- what was made of those before, and what is to be made of those to come, are all
 abbrev pub invariant-loop-item : goal.invariant-loop-item
 invariant-loop-item l =
-    map (λ item. bit (is_treasure item.text)) l.items ≡ l.numbers.items ++ map (λ item. bit (is_treasure item.text)) (drop l.item-index l.items)
+    map (λ item. bit (is_treasure item.text)) l.items ≡ l.numbers.items ++ map
+    (λ item. bit (is_treasure item.text)) (drop l.item-index l.items)

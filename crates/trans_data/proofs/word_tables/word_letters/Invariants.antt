@@ -8,4 +8,5 @@ abbrev pub invariant-loop-word : goal.invariant-loop-word
 invariant-loop-word l =
     flat_map (entry_letters l.db.header.length) (entries_of l.db l.column)
     ≡ l.numbers.items
-    ++ flat_map (entry_letters l.db.header.length) (map (column_of l.column) (drop l.word-index l.words))
+    ++ flat_map (entry_letters l.db.header.length)
+    (map (column_of l.column) (drop l.word-index l.words))
