@@ -1,3 +1,8 @@
 //! The whole program of a translated game, which has a text, is accepted and has the shape of the
 //! game.
 #![tactic(auto)]
+
+// The program.
+mod games;
+
+pub use games::program;
