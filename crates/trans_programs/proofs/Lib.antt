@@ -1,1 +1,3 @@
-pub mod Joined
+mod Joined
+mod NoLines
+pub mod Shaped

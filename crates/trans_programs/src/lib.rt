@@ -5,4 +5,7 @@
 // The program.
 mod games;
 
+// Its laws.
+pub mod laws;
+
 pub use games::program;
