@@ -8,6 +8,7 @@ use Rattle.scott_types.specs.Action.{is_zero, is_zero_action}
 use Rattle.scott_rules.specs.Groups.{Group, tail_of, groups_of, groups}
 use Rattle.trans_rows.specs.ActionRows.{HasLineRoutine}
 use Rattle.trans_programs.specs.Laws.{HasNoLines}
+use Rattle.trans_programs.proofs.Lists.{one_of_all}
 
 -- ---- groups
 
@@ -25,12 +26,6 @@ pub no_groups : (db : Database) → HasNoLines db → groups db ≡ []
 no_groups db h = without_group 0 db.actions h
 
 -- ---- lines
-
-one_of_all : {X : Type 0} (P : X → Type 0) (xs : List X) (k : ℕ) (none : X)
-    → AllByRecursion P xs → k < length xs → P (slice_index_or xs k none)
-one_of_all P [] k none h less = absurd (omega (arith, less))
-one_of_all P (x ∷ xs) zero none h less = h.0
-one_of_all P (x ∷ xs) (suc k) none h less = one_of_all P xs k none h.1 (omega (arith, less))
 
 pub no_line : (db : Database) (k : ℕ) → HasNoLines db → HasLineRoutine db k → ⊥
 no_line db k h has = true≢false (sym (one_of_all (λ a. is_zero_action a ≡ true) db.actions k
