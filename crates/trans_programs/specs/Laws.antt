@@ -6,7 +6,6 @@ use Rattle.inform_tree.specs.declared.widths.Width.{Width}
 use Rattle.inform_tree.specs.Formed.{is_well_formed}
 use Rattle.inform_names.specs.Acceptance.{name_fault}
 use Rattle.inform_logic.specs.Holding.{Distinct}
-use Rattle.scott_types.specs.declared.parts.Action.{Action}
 use Rattle.scott_types.specs.declared.states.State.{State}
 use Rattle.scott_types.specs.declared.styles.Style.{Style}
 use Rattle.scott_types.specs.Database.{Database}

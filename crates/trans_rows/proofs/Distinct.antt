@@ -10,10 +10,10 @@ use Rattle.trans_rows.specs.Directives.{data_directives}
 use Rattle.trans_rows.specs.Laws.{DataDistinct}
 
 -- a directive of another name
-abbrev is_apart : DirectiveTree → DirectiveTree → Bool
+abbrev pub is_apart : DirectiveTree → DirectiveTree → Bool
 is_apart x y = not (bytes_eq (name_of x) (name_of y))
 
-abbrev are_apart : List DirectiveTree → Bool
+abbrev pub are_apart : List DirectiveTree → Bool
 are_apart [] = true
 are_apart (x ∷ xs) = list_all (is_apart x) xs && are_apart xs
 
@@ -29,7 +29,7 @@ all_apart x (y ∷ ys) h = (
   all_apart x ys (and_parts (is_apart x y) (list_all (is_apart x) ys) h).1,
 )
 
-distinct : (ds : List DirectiveTree) → are_apart ds ≡ true → Distinct ds
+pub distinct : (ds : List DirectiveTree) → are_apart ds ≡ true → Distinct ds
 distinct [] h = tt
 distinct (x ∷ xs) h = (
   all_apart x xs (and_parts (list_all (is_apart x) xs) (are_apart xs) h).0,

@@ -36,7 +36,7 @@ use Rattle.trans_rows.proofs.Lengths.{IsThere, there, few, long_guarded, there_m
 
 -- ---- the light is a word, where no number is wide
 
-word_or_wide : (b : Bool) → not b ≡ false → b ≡ true
+pub word_or_wide : (b : Bool) → not b ≡ false → b ≡ true
 word_or_wide true h = refl
 word_or_wide false h = cc
 
@@ -48,21 +48,21 @@ none_first test x xs = from (test x) where
   from true h = cc
   from false h = (refl, h)
 
-none_third : (test : Placed → Bool) (x y z : Placed) (xs : List Placed)
+pub none_third : (test : Placed → Bool) (x y z : Placed) (xs : List Placed)
     → find test (x ∷ y ∷ z ∷ xs) ≡ None → test z ≡ false
 none_third test x y z xs h = (none_first test z xs
     (none_first test y (z ∷ xs) (none_first test x (y ∷ z ∷ xs) h).1).1).0
 
-less_light : (width : Width) (light most : ℤ) → negsuc 0 ≤ℤ light
+pub less_light : (width : Width) (light most : ℤ) → negsuc 0 ≤ℤ light
     → light ≤ℤ most → is_word_of width most ≡ true → is_word_of width light ≡ true
 less_light W16 light most low high word = grind (arith, ints)
 less_light W32 light most low high word = grind (arith, ints)
 
-counter_word : (width : Width) (z : ℤ) → is_counter z ≡ true → is_word_of width z ≡ true
+pub counter_word : (width : Width) (z : ℤ) → is_counter z ≡ true → is_word_of width z ≡ true
 counter_word W16 z h = grind (arith, ints)
 counter_word W32 z h = grind (arith, ints)
 
-counter_words : (width : Width) (zs : List ℤ) → list_all is_counter zs ≡ true
+pub counter_words : (width : Width) (zs : List ℤ) → list_all is_counter zs ≡ true
     → AllByRecursion (λ z. is_word_of width z ≡ true) zs
 counter_words width [] h = tt
 counter_words width (z ∷ zs) h = (
@@ -72,7 +72,7 @@ counter_words width (z ∷ zs) h = (
 
 -- ---- small entries
 
-small : 2 ≤ 32768
+pub small : 2 ≤ 32768
 small = omega arith
 
 below_beyond : (rooms : ℕ) (z : ℤ) → rooms ≤ 255 → room_beyond rooms z < 32768
@@ -82,7 +82,7 @@ below_beyond rooms (pos n) h = below_choice 32768 small (nat_lt 0 n && nat_lt n 
     inside k = grind (arith, h, (and_parts (nat_lt 0 n) (nat_lt n rooms) k).1)
 below_beyond rooms (negsuc n) h = omega arith
 
-below_places : (items : List Item) → list_all is_item items ≡ true
+pub below_places : (items : List Item) → list_all is_item items ≡ true
     → Below 32768 (map place_of_item items)
 below_places [] h = tt
 below_places (item ∷ items) h = (
@@ -94,31 +94,31 @@ below_places (item ∷ items) h = (
   below_places items (and_parts (is_item item) (list_all is_item items) h).1,
 )
 
-place_small : (n : ℕ) → is_place n ≡ true → n < 32768
+pub place_small : (n : ℕ) → is_place n ≡ true → n < 32768
 place_small n h = grind arith
 
-room_small : (rooms n : ℕ) → rooms ≤ 255 → nat_lt n rooms ≡ true → n < 32768
+pub room_small : (rooms n : ℕ) → rooms ≤ 255 → nat_lt n rooms ≡ true → n < 32768
 room_small rooms n few h = grind (arith, few)
 
 module _ (db : Database) (limits : KeepsLimits db) where
-  rooms_few : length db.rooms ≤ 255
+  pub rooms_few : length db.rooms ≤ 255
   rooms_few = few 255 db.rooms limits.sizes.rooms
 
-  items_there : IsThere db.items
+  pub items_there : IsThere db.items
   items_there = there 255 db.items limits.sizes.items
 
-  words_few : (column : Column) → length (entries_of db column) ≤ 1000
+  pub words_few : (column : Column) → length (entries_of db column) ≤ 1000
   words_few column = omega (
     arith,
     few 1000 db.words limits.sizes.words,
     length-map db.words (column_of column),
   )
 
-  words_there : (column : Column) → IsThere (entries_of db column)
+  pub words_there : (column : Column) → IsThere (entries_of db column)
   words_there column = there_map (column_of column) db.words
       (there 1000 db.words limits.sizes.words)
 
-  below_exits : Below 32768 (exits db)
+  pub below_exits : Below 32768 (exits db)
   below_exits = below_guarded 32768 small _ (below_flat 32768 small (exits_of_room db)
       (λ room. below_map 32768 small (room_beyond (length db.rooms))
       (λ z. below_beyond (length db.rooms) z rooms_few) room.exits) db.rooms)
@@ -131,7 +131,7 @@ module _ (db : Database) (limits : KeepsLimits db) where
     length-drop 1 (entries_of db column),
   )
 
-  below_class : (word : List ℕ) → class_of db word < 32768
+  pub below_class : (word : List ℕ) → class_of db word < 32768
   below_class word = below_position 32768 small
       (λ noun. is_class noun && is_typed db.header.length noun word) 1
       (drop 1 (entries_of db Nouns)) (rest_few Nouns)
@@ -140,12 +140,12 @@ module _ (db : Database) (limits : KeepsLimits db) where
   below_noun_class noun =
       below_choice 32768 small (is_class noun) (class_of db noun) (λ h. below_class noun)
 
-  below_classes : (entries : List (List ℕ)) → Below 32768 (classes db entries)
+  pub below_classes : (entries : List (List ℕ)) → Below 32768 (classes db entries)
   below_classes [] = tt
   below_classes (entry ∷ entries) =
       (omega arith, below_map 32768 small (class_of_noun db) below_noun_class entries)
 
-  below_which : (word : List ℕ) → or_zero (which db Nouns word) < 32768
+  pub below_which : (word : List ℕ) → or_zero (which db Nouns word) < 32768
   below_which word = below_entry 32768 small db.header.length word None 1
       (drop 1 (entries_of db Nouns)) (rest_few Nouns) (omega arith)
 

@@ -1,0 +1,6 @@
+mod Lists
+mod Joined
+mod NoLines
+mod Parts
+pub mod Shaped
+pub mod Distinct

@@ -1,0 +1,68 @@
+-- The program of a game without lines has the shape of the game.
+use Rattle.std.proofs.Common.{◌≡◌, ◌∙◌, ℕ, ◌+◌, List, [], ◌∷◌, ◌++◌, filter, length, slice_get, Some, refl, ap, sym, subst, append-nil}
+use Rattle.std.proofs.lemmas.List.Elements.{filter-append}
+use Rattle.inform_tree.specs.Programs.{DirectiveTree}
+use Rattle.inform_codes.specs.Routines.{Row, rows_directives}
+use Rattle.scott_types.specs.declared.states.State.{State}
+use Rattle.scott_types.specs.declared.styles.Style.{Style}
+use Rattle.scott_types.specs.declared.endings.Position.{Position}
+use Rattle.scott_types.specs.declared.commands.Column.TheVariants.{Verbs, Nouns}
+use Rattle.scott_types.specs.Database.{Database}
+use Rattle.scott_rules.specs.Groups.{Group, groups}
+use Rattle.trans_rows.specs.Shaped.{IsIn, is_declaration, declarations}
+use Rattle.trans_rows.specs.Directives.{data_directives}
+use Rattle.trans_rows.specs.Faithful.{opening_state, opening_position}
+use Rattle.trans_data.specs.Routines.{table_rows}
+use Rattle.trans_data.specs.Texts.{message_directives, spoken_directives, text_directives}
+use Rattle.trans_words.specs.Directives.{word_directives}
+use Rattle.trans_turn.specs.Routines.{rounds_asking, first_asked, turn_directives}
+use Rattle.trans_programs.specs.Programs.{game_routines}
+use Rattle.trans_programs.specs.Laws.{ProgramsAreShaped}
+use Rattle.trans_programs.proofs.NoLines.{no_groups, no_line}
+
+-- ---- routines declare nothing
+
+both : (xs ys : List DirectiveTree) → declarations xs ≡ [] → declarations ys ≡ []
+    → declarations (xs ++ ys) ≡ []
+both xs ys h k = filter-append is_declaration xs ys
+    ∙ rw (h, k) refl
+
+of_messages : (m : ℕ) (texts : List (List ℕ)) → declarations (message_directives m texts) ≡ []
+of_messages m [] = refl
+of_messages m (text ∷ texts) = of_messages (m + 1) texts
+
+of_texts : (style : Style) (db : Database) → declarations (text_directives style db) ≡ []
+unfolding table_rows
+of_texts style db = of_messages 0 db.messages
+
+of_words : (db : Database) → declarations (word_directives db) ≡ []
+of_words db = refl
+
+of_turn : (style : Style) (db : Database) (begin : Position)
+    → declarations (turn_directives style db begin) ≡ []
+unfolding rounds_asking
+of_turn style db begin = refl
+
+-- ---- the tables are all that is declared
+
+tables_first : (xs ys : List DirectiveTree) → declarations xs ≡ xs → declarations ys ≡ []
+    → declarations (xs ++ ys) ≡ xs
+tables_first xs ys h k = filter-append is_declaration xs ys ∙ rw (h, k) (append-nil xs)
+
+-- nothing is in a list that is empty
+none_in : {X : Type 0} (x : X) (xs : List X) → xs ≡ [] → IsIn x xs → ⊥
+none_in x [] h there = cc
+none_in x (y ∷ ys) h there = cc
+
+pub programs_are_shaped : ProgramsAreShaped
+programs_are_shaped style db from no_lines = record {
+  declared = tables_first (data_directives db (opening_state db from)) (game_routines style db from)
+      refl (both (text_directives style db)
+      (word_directives db ++ turn_directives style db (opening_position from)) (of_texts style db)
+      (both (word_directives db) (turn_directives style db (opening_position from)) (of_words db)
+      (of_turn style db (opening_position from))));
+  lines = λ k has. absurd (no_line db k no_lines has);
+  groups_there = λ g there. absurd (none_in g (groups db) (no_groups db no_lines) there);
+  called_once = λ g there. absurd (none_in g (groups db) (no_groups db no_lines) there);
+  by_groups = λ k has r there calls. absurd (no_line db k no_lines has);
+}
