@@ -1,0 +1,3 @@
+pub mod NoLines
+pub mod PlayedAlike
+pub mod FirstWide

@@ -1,0 +1,142 @@
+-- The runs of the program of a game without lines are its plays.
+use Rattle.std.proofs.Common.{◌≡◌, ◌∙◌, ℕ, List, [], ◌∷◌, ◌++◌, codes, Option, Some, None, refl, sym, ap, subst}
+use Rattle.std.specs.List.{AllByRecursion}
+use Rattle.adv_io.specs.Steps.{Step, Traced, trace_of}
+use Rattle.inform_tree.specs.declared.widths.Width.{Width}
+use Rattle.inform_tree.specs.Programs.{DirectiveTree}
+use Rattle.inform_meaning.specs.Worlds.{Program, Config}
+use Rattle.inform_meaning.specs.Frames.{Outcome}
+use Rattle.inform_meaning.specs.Programs.{no_notes, program_in, run_of}
+use Rattle.inform_logic.specs.Holding.{Held, Holds, Distinct}
+use Rattle.inform_logic.specs.Laws.{ProgramHolds, SameButNotes, NotesCountForNothing}
+use Rattle.inform_logic.proofs.Holding.{holds_first, holds_rest}
+use Rattle.scott_types.specs.declared.states.State.{State}
+use Rattle.scott_types.specs.declared.styles.Style.{Style}
+use Rattle.scott_types.specs.declared.endings.Position.{Position}
+use Rattle.scott_types.specs.Database.{Database}
+use Rattle.scott_types.specs.State.{Fits}
+use Rattle.scott_types.specs.Style.{Game, in_style}
+use Rattle.scott_rules.specs.Play.{PlayEnd, go}
+use Rattle.trans_rows.specs.Names.{line_notes}
+use Rattle.trans_rows.specs.Directives.{data_directives}
+use Rattle.trans_rows.specs.Programs.{Serves}
+use Rattle.trans_rows.specs.TurnRows.{MainRow}
+use Rattle.trans_rows.specs.Owed.{Translates}
+use Rattle.trans_rows.specs.Same.{Same}
+use Rattle.trans_rows.specs.Faithful.{opening_state, opening_position, PlaysAlike, AlwaysAlike, FaithfulProgram}
+use Rattle.trans_rows.specs.Wholes.{NotedAlike, MainIsEnough}
+use Rattle.trans_data.specs.Texts.{text_directives}
+use Rattle.trans_words.specs.Directives.{word_directives}
+use Rattle.trans_words.specs.Laws.{LinesAreHeard}
+use Rattle.trans_turn.specs.Routines.{turn_directives}
+use Rattle.trans_turn.specs.Owed.{IsOpening, TurnOwesAll}
+use Rattle.trans_programs.specs.Programs.{game_routines, game_program}
+use Rattle.trans_programs.specs.Laws.{HasNoLines, ProgramsAreDistinct, ProgramsAreAccepted, ProgramsAreShaped}
+use Rattle.translator.specs.Laws.{ProgramsAreFaithful}
+use Rattle.translator.proofs.NoLines.{no_groups, no_line_owes}
+
+-- ---- what a program holds, by parts
+
+both_hold : (p : Program) (xs ys : List DirectiveTree) → Holds p xs → Holds p ys
+    → Holds p (xs ++ ys)
+both_hold p [] ys h k = k
+both_hold p (x ∷ xs) ys h k = (h.0, both_hold p xs ys h.1 k)
+
+-- a game opens where a round begins, or behind a prompt
+opens : (from : Option State) → IsOpening (opening_position from)
+opens None = tt
+opens (Some s) = tt
+
+-- ---- without notes
+
+-- the same run without what is noted is the play too
+without_notes : (play : Traced Step PlayEnd) (r r' : Outcome × Config) → SameButNotes r r'
+    → Same play r → Same play r'
+without_notes play r r' alike same = subst (Same play) (sym alike.is) (record {
+  traces = same.traces ∙ sym alike.same;
+  ends = same.ends;
+  shows = record {
+    room_is = same.shows.room_is;
+    saved_is = same.shows.saved_is;
+    counter_is = same.shows.counter_is;
+    light_is = same.shows.light_is;
+    mark_is = same.shows.mark_is;
+    guard = same.shows.guard;
+    places_are = same.shows.places_are;
+    flags_are = same.shows.flags_are;
+    counters_are = same.shows.counters_are;
+    rooms_are = same.shows.rooms_are;
+  };
+})
+
+-- ---- all of it
+
+module _ (holds : ProgramHolds) (notes : NotesCountForNothing) (main : MainIsEnough)
+    (turns : TurnOwesAll) (words : LinesAreHeard) (distinct : ProgramsAreDistinct) (style : Style)
+    (width : Width) (db : Database) (from : Option State) (translates : Translates width db)
+    (fits : Fits db (opening_state db from)) (no_lines : HasNoLines db) where
+  abbrev ds : List DirectiveTree
+  ds = game_program style db from
+
+  abbrev p : Program
+  p = program_in width ds line_notes
+
+  apart : Distinct ds
+  apart = distinct style db from translates.limits
+
+  serves : (xs : List DirectiveTree) → Holds p xs → Serves width xs p
+  serves xs h = record { width_is = refl; holds = h; notes_lines = λ name at. refl }
+
+  abbrev rest : List DirectiveTree
+  rest = word_directives db ++ turn_directives style db (opening_position from)
+
+  of_routines : Holds p (game_routines style db from)
+  of_routines = holds_rest p (data_directives db (opening_state db from))
+      (game_routines style db from) (holds width ds line_notes apart)
+
+  of_texts : Holds p (text_directives style db)
+  of_texts = holds_first p (text_directives style db) rest of_routines
+
+  of_words : Holds p (word_directives db)
+  of_words = holds_first p (word_directives db)
+      (turn_directives style db (opening_position from))
+      (holds_rest p (text_directives style db) rest of_routines)
+
+  of_turn : Holds p (turn_directives style db (opening_position from))
+  of_turn = holds_rest p (word_directives db) (turn_directives style db (opening_position from))
+      (holds_rest p (text_directives style db) rest of_routines)
+
+  main_does : MainRow (in_style style db) p (opening_position from)
+  main_does = (turns style width db (opening_position from) (opens from) (no_groups db no_lines) p
+      translates
+      (serves (text_directives style db ++ turn_directives style db (opening_position from))
+      (both_hold p (text_directives style db) (turn_directives style db (opening_position from))
+      of_texts of_turn))
+      (no_line_owes (in_style style db) p no_lines)
+      (words db p width translates.limits (serves (word_directives db) of_words))).all_rounds
+
+  pub always_alike : AlwaysAlike style width db from ds
+  always_alike lines draws steps typed fair enough = let
+      noted : NotedAlike width ds steps lines draws
+      (go (in_style style db) (opening_position from) (opening_state db from) lines draws) =
+      main style width db from (game_routines style db from) translates fits apart main_does lines
+      draws steps typed fair enough in
+      record {
+        same = without_notes
+            (go (in_style style db) (opening_position from) (opening_state db from) lines draws)
+            (run_of width ds line_notes steps lines draws)
+            (run_of width ds no_notes steps lines draws)
+            (notes width ds line_notes no_notes steps lines draws) noted.same;
+        same_lines = noted.same_lines;
+      }
+
+pub programs_are_faithful : ProgramHolds → NotesCountForNothing → MainIsEnough → TurnOwesAll
+    → LinesAreHeard → ProgramsAreDistinct → ProgramsAreAccepted → ProgramsAreShaped
+    → ProgramsAreFaithful
+programs_are_faithful holds notes main turns words distinct accepted shaped style width db from
+    translates fits no_lines = record {
+      accepted = accepted style width db from translates fits;
+      shaped = shaped style db from no_lines;
+      alike = always_alike holds notes main turns words distinct style width db from translates fits
+          no_lines;
+    }

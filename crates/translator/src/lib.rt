@@ -1,0 +1,17 @@
+//! A database as an Inform program, whose text is faithful to it.
+#![tactic(auto)]
+
+// What is refused.
+mod lines;
+mod wide;
+
+/// Why a database isn't translated.
+pub mod faults;
+
+// The text.
+
+// The law.
+pub mod laws;
+
+pub use faults::TransFault;
+pub use wide::wide_at;
