@@ -33,5 +33,7 @@ mod game_tables;
 
 // What the routines owe.
 pub mod laws;
+#[cfg(test)]
+mod tests;
 
 pub use game_tables::tables;
