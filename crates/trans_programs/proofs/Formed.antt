@@ -32,6 +32,7 @@ use Rattle.trans_programs.specs.Programs.{game_routines}
 use Rattle.trans_programs.specs.Laws.{ProgramsAreFormed}
 use Rattle.trans_programs.proofs.Numbers.{small_number, items_small, byte_small, goal_small, divisor_small}
 use Rattle.trans_programs.proofs.Tables.{is_fine, IsFineTable, tables_are_fine}
+use Rattle.trans_programs.proofs.Parts.{chosen_by}
 use Rattle.trans_programs.proofs.FormedTexts.{both, formed_both, spoken_formed}
 
 -- ---- tables
@@ -80,21 +81,18 @@ unfolding body_of text_of second_person routine_names table_rows
 rows_formed true counted vanish items carry home size all h1 h2 h3 h4 = rw (h1, h2, h3, h4) refl
 rows_formed false counted vanish items carry home size all h1 h2 h3 h4 = rw (h1, h2, h3, h4) refl
 
-chosen_formed : (you counted vanish : Bool) (db : Database) (items carry home size all : ℕ)
-    (less : Bool) → int_lt db.header.treasures (pos 0) ≡ less → is_number size ≡ true
-    → is_well_formed (rows_directives
-    (routine_names (record { you = you; counted = counted; vanish = vanish }))
-    (items ∷ carry ∷ home ∷ size ∷ all ∷ [])
-    (chosen_rows (record { you = you; counted = counted; vanish = vanish }) db)) ≡ true
-unfolding body_of text_of second_person routine_names
-chosen_formed you true true db items carry home size all true sign h = rw (sign, h) refl
-chosen_formed you true false db items carry home size all true sign h = rw (sign, h) refl
-chosen_formed you false true db items carry home size all true sign h = rw (sign, h) refl
-chosen_formed you false false db items carry home size all true sign h = rw (sign, h) refl
-chosen_formed you true true db items carry home size all false sign h = rw (sign, h) refl
-chosen_formed you true false db items carry home size all false sign h = rw (sign, h) refl
-chosen_formed you false true db items carry home size all false sign h = rw (sign, h) refl
-chosen_formed you false false db items carry home size all false sign h = rw (sign, h) refl
+chosen_formed : (style : Style) (items carry home size all : ℕ) (less counted vanish : Bool)
+    → is_number size ≡ true → is_well_formed (rows_directives (routine_names style)
+    (items ∷ carry ∷ home ∷ size ∷ all ∷ []) (chosen_by less counted vanish)) ≡ true
+unfolding body_of text_of routine_names
+chosen_formed style items carry home size all true true true h = rw h refl
+chosen_formed style items carry home size all true true false h = rw h refl
+chosen_formed style items carry home size all true false true h = rw h refl
+chosen_formed style items carry home size all true false false h = rw h refl
+chosen_formed style items carry home size all false true true h = rw h refl
+chosen_formed style items carry home size all false true false h = rw h refl
+chosen_formed style items carry home size all false false true h = rw h refl
+chosen_formed style items carry home size all false false false h = rw h refl
 
 fixed_formed : (style : Style) (db : Database) → KeepsLimits db
     → is_well_formed (fixed_directives style db) ≡ true
@@ -107,9 +105,9 @@ fixed_formed style db limits = formed_both
     (goal db.header.treasures) (small_number _ (items_small db limits))
     (small_number _ (byte_small db.header.carry)) (small_number _ (byte_small db.header.home))
     (small_number _ (goal_small db.header.treasures)))
-    (chosen_formed style.you style.counted style.vanish db (length db.items)
-    (byte_or_more db.header.carry) (byte_or_more db.header.home) (divisor db.header.treasures)
-    (goal db.header.treasures) (int_lt db.header.treasures (pos 0)) refl
+    (chosen_formed style (length db.items) (byte_or_more db.header.carry)
+    (byte_or_more db.header.home) (divisor db.header.treasures) (goal db.header.treasures)
+    (int_lt db.header.treasures (pos 0)) style.counted style.vanish
     (small_number _ (divisor_small db.header.treasures)))
 
 -- ---- the turn

@@ -6,5 +6,7 @@ mod Numbers
 pub mod Tables
 pub mod FormedTexts
 pub mod Formed
+pub mod Sound
+pub mod Accepted
 pub mod Shaped
 pub mod Distinct
