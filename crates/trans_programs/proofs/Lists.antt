@@ -1,5 +1,5 @@
 -- What holds of each element of a list.
-use Rattle.std.proofs.Common.{◌≡◌, arith, ℕ, zero, suc, ◌<◌, Bool, true, ◌&&◌, List, [], ◌∷◌, ◌++◌, length, slice_index_or}
+use Rattle.std.proofs.Common.{◌≡◌, arith, ℕ, zero, suc, ◌<◌, Bool, true, ◌&&◌, List, [], ◌∷◌, ◌++◌, map, length, slice_index_or}
 use Rattle.std.specs.List.{AllByRecursion, list_all}
 use Rattle.std.proofs.lemmas.Bool.{and_parts}
 
@@ -46,3 +46,14 @@ pub each_with : {X : Type 0} (P Q : X → Type 0) → ((x : X) → P x → Q x) 
     → AllByRecursion P xs → AllByRecursion Q xs
 each_with P Q by [] h = tt
 each_with P Q by (x ∷ xs) h = (by x h.0, each_with P Q by xs h.1)
+
+module _ {X Y : Type 0} (P : Y → Type 0) (f : X → Y) where
+  pub of_sources : (xs : List X) → AllByRecursion P (map f xs)
+      → AllByRecursion (λ x. P (f x)) xs
+  of_sources [] h = tt
+  of_sources (x ∷ xs) h = (h.0, of_sources xs h.1)
+
+  pub of_images : (xs : List X) → AllByRecursion (λ x. P (f x)) xs
+      → AllByRecursion P (map f xs)
+  of_images [] h = tt
+  of_images (x ∷ xs) h = (h.0, of_images xs h.1)

@@ -118,10 +118,13 @@ module _ (db : Database) (limits : KeepsLimits db) where
   words_there column = there_map (column_of column) db.words
       (there 1000 db.words limits.sizes.words)
 
-  pub below_exits : Below 32768 (exits db)
-  below_exits = below_guarded 32768 small _ (below_flat 32768 small (exits_of_room db)
+  pub below_all_exits : Below 32768 (flat_map (exits_of_room db) db.rooms)
+  below_all_exits = below_flat 32768 small (exits_of_room db)
       (λ room. below_map 32768 small (room_beyond (length db.rooms))
-      (λ z. below_beyond (length db.rooms) z rooms_few) room.exits) db.rooms)
+      (λ z. below_beyond (length db.rooms) z rooms_few) room.exits) db.rooms
+
+  below_exits : Below 32768 (exits db)
+  below_exits = below_guarded 32768 small _ below_all_exits
 
   rest_few : (column : Column) → 1 + length (drop 1 (entries_of db column)) ≤ 32768
   rest_few column = omega (
