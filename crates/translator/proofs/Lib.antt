@@ -1,3 +1,4 @@
 pub mod NoLines
 pub mod PlayedAlike
 pub mod FirstWide
+pub mod Translated

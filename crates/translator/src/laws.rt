@@ -2,7 +2,7 @@
 ghost use Rattle.translator.specs.Laws.{ProgramsAreFaithful};
 
 use inform_logic::laws::{notes_count_for_nothing, program_holds};
-use trans_programs::laws::{programs_are_distinct, programs_are_shaped};
+use trans_programs::laws::{programs_are_accepted, programs_are_distinct, programs_are_shaped};
 use trans_rows::laws::main_is_enough;
 use trans_turn::laws::turn_owes;
 use trans_words::laws::words_owe;
@@ -17,5 +17,6 @@ pub fn programs_are_faithful()
     turn_owes();
     words_owe();
     programs_are_distinct();
+    programs_are_accepted();
     programs_are_shaped();
 }

@@ -9,9 +9,11 @@ mod wide;
 pub mod faults;
 
 // The text.
+mod translating;
 
 // The law.
 pub mod laws;
 
 pub use faults::TransFault;
+pub use translating::translate;
 pub use wide::wide_at;

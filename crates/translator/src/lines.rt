@@ -20,11 +20,21 @@ fn is_zero_action(action: &Action) -> bool
     action.vocab == 0 && are_zeros(&action.conds) && are_zeros(&action.pairs)
 }
 
-/// The first line that isn't all zeros.
-pub fn first_line(db: &Db) -> Option<usize>
+fn line_found(db: &Db) -> Option<usize>
     ensures { result ≡ first_line db.now }
 {
     db.actions()
         .iter()
         .position(|action| !is_zero_action(action))
+}
+
+/// The first line that isn't all zeros.
+pub fn first_line(db: &Db) -> Option<u16>
+    ensures { result ≡ first_line db.now }
+{
+    let _ = db.actions();
+    match line_found(db) {
+        Some(k) => Some(k as u16),
+        None => None,
+    }
 }
