@@ -1,5 +1,5 @@
 -- The program of a game is accepted.
-use Rattle.std.proofs.Common.{◌≡◌, ◌∙◌, arith, ℕ, ◌+◌, ◌*◌, ◌≤◌, ℤ, pos, not, Bool, true, false, List, [], ◌∷◌, ◌++◌, length, codes, Option, Some, None, option_map, unwrap_or, refl, sym, ap, subst}
+use Rattle.std.proofs.Common.{◌≡◌, ◌∙◌, arith, ℕ, ◌*◌, ◌≤◌, ℤ, not, Bool, true, false, List, [], ◌∷◌, ◌++◌, length, Option, Some, None, option_map, unwrap_or, refl, sym, ap, subst}
 use Rattle.std.specs.List.{AllByRecursion}
 use Rattle.std.specs.Option.{option_or}
 use Rattle.std.proofs.lemmas.Bool.{and_parts}
@@ -41,7 +41,7 @@ use Rattle.trans_programs.proofs.Lists.{one_of_all, of_both, of_ends, each_passe
 use Rattle.trans_programs.proofs.Parts.{before_messages, after_messages, named, parts_are}
 use Rattle.trans_programs.proofs.Distinct.{programs_are_distinct}
 use Rattle.trans_programs.proofs.Tables.{is_fine, HasLength, IsFineTable, tables_are_fine}
-use Rattle.trans_programs.proofs.Sound.{is_sound, are_sound, routines_sound}
+use Rattle.trans_programs.proofs.Sound.{is_sound, routines_sound}
 
 -- ---- tables
 

@@ -1,5 +1,5 @@
 -- No two directives of the program have one name.
-use Rattle.std.proofs.Common.{◌≡◌, ◌≢◌, ◌∙◌, arith, ℕ, ◌+◌, ◌<◌, ◌≤◌, ◌^◌, nat_eq, Bool, true, false, not, List, [], ◌∷◌, ◌++◌, drop, length, codes, decimal, Option, refl, sym, ap, subst, true≢false}
+use Rattle.std.proofs.Common.{◌≡◌, ◌≢◌, ◌∙◌, arith, ℕ, ◌+◌, ◌<◌, ◌≤◌, ◌^◌, nat_eq, Bool, true, not, List, [], ◌∷◌, ◌++◌, drop, length, codes, refl, sym, ap, subst, true≢false}
 use Rattle.std.specs.List.{AllByRecursion, list_all, starts_with}
 use Rattle.std.proofs.lemmas.Fmt.{decimal_injective}
 use Rattle.inform_tree.specs.Programs.{DirectiveTree}
@@ -14,7 +14,7 @@ use Rattle.trans_rows.specs.Faithful.{opening_state, opening_position}
 use Rattle.trans_rows.proofs.Distinct.{are_apart, distinct}
 use Rattle.trans_rows.proofs.Lengths.{few}
 use Rattle.trans_data.specs.Routines.{table_rows, routine_names}
-use Rattle.trans_data.specs.Texts.{message_directive, message_directives}
+use Rattle.trans_data.specs.Texts.{message_directives}
 use Rattle.trans_turn.specs.Routines.{rounds_asking}
 use Rattle.trans_programs.specs.Laws.{ProgramsAreDistinct}
 use Rattle.trans_programs.proofs.Lists.{each_passes, each_with, of_both, of_three}

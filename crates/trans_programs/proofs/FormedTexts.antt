@@ -1,13 +1,13 @@
 -- The routines that say the texts of a database have a text.
-use Rattle.std.proofs.Common.{◌≡◌, ◌∙◌, arith, ℕ, zero, suc, ◌+◌, ◌<◌, ◌≤◌, ◌^◌, ◌%◌, nat_lt, nat_le, not, Bool, true, false, ◌&&◌, if◌then◌else◌, List, [], ◌∷◌, ◌++◌, map, take, drop, length, codes, decimal, refl, ap}
-use Rattle.std.specs.List.{AllByRecursion, list_all, position_or_len}
+use Rattle.std.proofs.Common.{◌≡◌, ◌∙◌, arith, ℕ, zero, suc, ◌+◌, ◌<◌, ◌≤◌, ◌^◌, ◌%◌, nat_lt, nat_le, Bool, true, false, ◌&&◌, if◌then◌else◌, List, [], ◌∷◌, ◌++◌, map, take, drop, length, codes, decimal, refl}
+use Rattle.std.specs.List.{list_all, position_or_len}
 use Rattle.std.proofs.lemmas.Bool.{and_parts}
 use Rattle.std.proofs.lemmas.List.{length-map}
 use Rattle.std.proofs.lemmas.List.Folds.{list_all-append}
 use Rattle.std.proofs.lemmas.Fmt.{decimal_by_steps, length-decimal-le}
 use Rattle.adv_io.specs.Text.{is_text_byte, text_limit}
 use Rattle.inform_tree.specs.Programs.{DirectiveTree, Routine}
-use Rattle.inform_tree.specs.Words.{is_name, is_name_byte, is_byte, is_text, is_number}
+use Rattle.inform_tree.specs.Words.{is_name, is_name_byte, is_byte, is_text}
 use Rattle.inform_tree.specs.Depths.{cases_depth, routine_depth}
 use Rattle.inform_tree.specs.Formed.{are_formed_cases, is_formed_directive, is_well_formed}
 use Rattle.inform_codes.specs.Grown.{body_of}
@@ -23,7 +23,7 @@ use Rattle.scott_rules.specs.Looking.{described}
 use Rattle.trans_rows.specs.Names.{message_name}
 use Rattle.trans_rows.proofs.Lengths.{few}
 use Rattle.trans_data.specs.Texts.{message_directives, text_cases, text_routine, item_texts, room_texts, spoken_directives}
-use Rattle.trans_programs.proofs.Numbers.{is_small, less_small, small_number}
+use Rattle.trans_programs.proofs.Numbers.{less_small, small_number}
 
 -- ---- truth values and lists
 
@@ -145,8 +145,11 @@ digits_in_name m small = decimal_by_steps (λ n digits. list_all is_name_byte di
 message_named : (m : ℕ) → m < 10000 → is_name (message_name m) ≡ true
 message_named m small = both (list_all is_name_byte (decimal m)) _
     (digits_in_name m (omega (arith, small)))
-    (both _ true (grind (arith, length-decimal-le 4 m (omega arith) (omega (arith, small))
-    (omega (arith, small)))) refl)
+    (both _ true (grind (
+      arith,
+      length-decimal-le 4 m (omega arith) (omega (arith, small))
+          (omega (arith, small)),
+    )) refl)
 
 messages_formed : (m : ℕ) (texts : List (List ℕ)) → m + length texts ≤ 10000
     → list_all is_file_text texts ≡ true → is_well_formed (message_directives m texts) ≡ true

@@ -1,11 +1,11 @@
 -- A game whose lines are all zeros has no line with a routine, and no group.
-use Rattle.std.proofs.Common.{◌≡◌, ◌∙◌, arith, ℕ, zero, suc, ◌+◌, ◌<◌, ◌==◌, Bool, true, ◌&&◌, if◌then◌else◌, List, [], ◌∷◌, length, slice_index_or, refl, ap, sym}
+use Rattle.std.proofs.Common.{◌≡◌, ◌∙◌, ℕ, ◌+◌, Bool, true, ◌&&◌, if◌then◌else◌, List, [], ◌∷◌, refl, ap, sym}
 use Rattle.std.specs.List.{AllByRecursion, list_all}
 use Rattle.std.proofs.lemmas.Bool.{and_parts, true≢false}
 use Rattle.scott_types.specs.declared.parts.Action.{Action}
-use Rattle.scott_types.specs.Database.{Database, action_at}
+use Rattle.scott_types.specs.Database.{Database}
 use Rattle.scott_types.specs.Action.{is_zero, is_zero_action}
-use Rattle.scott_rules.specs.Groups.{Group, tail_of, groups_of, groups}
+use Rattle.scott_rules.specs.Groups.{tail_of, groups_of, groups}
 use Rattle.trans_rows.specs.ActionRows.{HasLineRoutine}
 use Rattle.trans_programs.specs.Laws.{HasNoLines}
 use Rattle.trans_programs.proofs.Lists.{one_of_all}

@@ -1,5 +1,5 @@
 -- The numbers that are handed in to the routines are small.
-use Rattle.std.proofs.Common.{◌≡◌, arith, ℕ, ◌<◌, ◌≤◌, ℤ, pos, negsuc, nat_lt, nat_le, Bool, true, false, ◌&&◌, if◌then◌else◌, length, refl}
+use Rattle.std.proofs.Common.{◌≡◌, arith, ℕ, ◌<◌, ℤ, pos, negsuc, nat_lt, nat_le, Bool, true, false, ◌&&◌, if◌then◌else◌, length, refl}
 use Rattle.std.specs.Prelude.{unsigned_abs}
 use Rattle.std.specs.Ordering.{int_eq}
 use Rattle.std.proofs.lemmas.Bool.{and_parts}

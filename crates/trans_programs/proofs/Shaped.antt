@@ -1,21 +1,18 @@
 -- The program of a game without lines has the shape of the game.
-use Rattle.std.proofs.Common.{◌≡◌, ◌∙◌, ℕ, ◌+◌, List, [], ◌∷◌, ◌++◌, filter, length, slice_get, Some, refl, ap, sym, subst, append-nil}
+use Rattle.std.proofs.Common.{◌≡◌, ◌∙◌, ℕ, ◌+◌, List, [], ◌∷◌, ◌++◌, refl, append-nil}
 use Rattle.std.proofs.lemmas.List.Elements.{filter-append}
 use Rattle.inform_tree.specs.Programs.{DirectiveTree}
-use Rattle.inform_codes.specs.Routines.{Row, rows_directives}
-use Rattle.scott_types.specs.declared.states.State.{State}
 use Rattle.scott_types.specs.declared.styles.Style.{Style}
 use Rattle.scott_types.specs.declared.endings.Position.{Position}
-use Rattle.scott_types.specs.declared.commands.Column.TheVariants.{Verbs, Nouns}
 use Rattle.scott_types.specs.Database.{Database}
-use Rattle.scott_rules.specs.Groups.{Group, groups}
+use Rattle.scott_rules.specs.Groups.{groups}
 use Rattle.trans_rows.specs.Shaped.{IsIn, is_declaration, declarations}
 use Rattle.trans_rows.specs.Directives.{data_directives}
 use Rattle.trans_rows.specs.Faithful.{opening_state, opening_position}
 use Rattle.trans_data.specs.Routines.{table_rows}
-use Rattle.trans_data.specs.Texts.{message_directives, spoken_directives, text_directives}
+use Rattle.trans_data.specs.Texts.{message_directives, text_directives}
 use Rattle.trans_words.specs.Directives.{word_directives}
-use Rattle.trans_turn.specs.Routines.{rounds_asking, first_asked, turn_directives}
+use Rattle.trans_turn.specs.Routines.{rounds_asking, turn_directives}
 use Rattle.trans_programs.specs.Programs.{game_routines}
 use Rattle.trans_programs.specs.Laws.{ProgramsAreShaped}
 use Rattle.trans_programs.proofs.NoLines.{no_groups, no_line}

@@ -1,8 +1,8 @@
 -- The routines of the program meet what is demanded of them, by the names of all directives but the
 -- messages.
-use Rattle.std.proofs.Common.{◌≡◌, ◌∙◌, arith, ℕ, ◌+◌, ◌≤◌, pos, nat_lt, not, Bool, true, false, ◌&&◌, List, [], ◌∷◌, ◌++◌, length, codes, Option, Some, None, refl}
+use Rattle.std.proofs.Common.{◌≡◌, ◌∙◌, arith, ℕ, ◌+◌, ◌≤◌, pos, nat_lt, not, Bool, true, false, List, [], ◌∷◌, ◌++◌, length, codes, Option, Some, None, refl}
 use Rattle.std.specs.Prelude.{int_lt}
-use Rattle.std.specs.List.{AllByRecursion, list_all}
+use Rattle.std.specs.List.{list_all}
 use Rattle.std.proofs.lemmas.List.{length-map}
 use Rattle.std.proofs.lemmas.List.Folds.{list_all-append}
 use Rattle.inform_tree.specs.Programs as d
@@ -201,9 +201,10 @@ module _ (db : Database) (limits : KeepsLimits db) where
   routines_sound style s from = let begin = opening_position from in
       let signs = signature (named style db s begin) in
       let stepping = no_group_directives ++ round_directives begin in
-      sound_both signs (text_directives style db) (word_directives db ++ turn_directives style db begin)
-      (texts_sound style s begin) (sound_both signs (word_directives db)
-      (turn_directives style db begin) (words_sound style s begin)
+      sound_both signs (text_directives style db)
+      (word_directives db ++ turn_directives style db begin) (texts_sound style s begin)
+      (sound_both signs (word_directives db) (turn_directives style db begin)
+      (words_sound style s begin)
       (sound_both signs search_directives (command_directives style db ++ stepping)
       (search_sound style db s begin) (sound_both signs (command_directives style db) stepping
       (commands_sound style db s begin (items_small db limits))

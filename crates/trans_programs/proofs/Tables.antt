@@ -1,5 +1,5 @@
 -- The tables have a text and no fault: no number is too wide, and each array has a length.
-use Rattle.std.proofs.Common.{◌≡◌, ◌∙◌, arith, ℕ, ◌+◌, ◌*◌, ◌<◌, ◌≤◌, ℤ, pos, negsuc, Bool, true, false, not, ◌&&◌, ◌==◌, if◌then◌else◌, List, [], ◌∷◌, ◌++◌, map, length, flat_map, codes, Option, Some, None, refl}
+use Rattle.std.proofs.Common.{◌≡◌, arith, ℕ, ◌+◌, ◌*◌, ◌<◌, ◌≤◌, ℤ, pos, negsuc, Bool, true, false, not, ◌&&◌, ◌==◌, if◌then◌else◌, List, [], ◌∷◌, ◌++◌, map, length, flat_map, codes, Option, Some, None, refl}
 use Rattle.std.specs.List.{AllByRecursion, list_all}
 use Rattle.std.proofs.lemmas.Bool.{and_parts}
 use Rattle.std.proofs.lemmas.Int.{ints}
@@ -22,12 +22,11 @@ use Rattle.scott_types.specs.Limits.{KeepsLimits, is_number as is_whole, is_file
 use Rattle.scott_types.specs.Room.{room_beyond}
 use Rattle.scott_types.specs.State.{is_counter, is_place, is_room_of, Fits}
 use Rattle.scott_types.specs.ItemText.{is_treasure, is_starred}
-use Rattle.scott_rules.specs.Words.{is_empty, column_of, entries_of, which}
+use Rattle.scott_rules.specs.Words.{is_empty, entries_of, which}
 use Rattle.trans_rows.specs.declared.places.Place.TheVariants.{Carry, Treasures, Light, Home}
-use Rattle.trans_rows.specs.Tables.{bit, or_zero, guarded, start_places, exits_of_room, exits, entry_letters, word_letters, bases_from, bases, word_bases, class_of, class_of_noun, classes, noun_classes, item_word, buffer_length}
+use Rattle.trans_rows.specs.Tables.{bit, or_zero, guarded, exits_of_room, entry_letters, word_letters, bases_from, bases, word_bases, class_of, class_of_noun, classes, item_word, buffer_length}
 use Rattle.trans_rows.specs.Wide.{is_word_of, placed_actions, is_too_wide, wide_at}
-use Rattle.trans_rows.specs.Directives.{written, global, integers, words, bytes, zero_bytes, state_globals, turn_globals, global_directives, state_arrays, fixed_arrays, buffers, array_directives, data_directives}
-use Rattle.trans_rows.specs.Owed.{Translates}
+use Rattle.trans_rows.specs.Directives.{written, global, words, bytes, zero_bytes, turn_globals, global_directives, state_arrays, fixed_arrays, buffers, array_directives, data_directives}
 use Rattle.trans_rows.proofs.Bounds.{Below, below_guarded, below_map, below_tested, below_bit, below_bases, below_word_letters}
 use Rattle.trans_rows.proofs.Lengths.{IsThere, there, few, long_guarded, there_map, there_exits, there_words, there_bases, there_classes}
 use Rattle.trans_rows.proofs.Opening.{word_or_wide, none_third, less_light, counter_word, small, below_places, place_small, room_small, rooms_few, items_there, words_few, words_there, below_all_exits, below_class, below_classes, below_which}

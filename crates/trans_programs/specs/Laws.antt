@@ -1,5 +1,5 @@
--- The laws of the program of a translated game: it has a text, is accepted, and has the shape of the
--- game.
+-- The laws of the program of a translated game: it has a text, is accepted, and has the shape of
+-- the game.
 use Rattle.std.specs.Prelude.{◌≡◌, true, Option, None}
 use Rattle.std.specs.List.{AllByRecursion}
 use Rattle.inform_tree.specs.declared.widths.Width.{Width}

@@ -7,5 +7,7 @@ mod games;
 
 // Its laws.
 pub mod laws;
+#[cfg(test)]
+mod tests;
 
 pub use games::program;
