@@ -1,0 +1,16 @@
+//! A database as an Inform program, whose text is faithful to it.
+#![tactic(auto)]
+
+// What is refused.
+mod lines;
+mod wide;
+
+/// Why a database isn't translated.
+pub mod faults;
+
+// The text.
+mod translating;
+
+pub use faults::TransFault;
+pub use translating::translate;
+pub use wide::wide_at;

@@ -1,0 +1,85 @@
+//! Numbers that are too wide for the words of a translated game.
+ghost use Rattle.std.specs.Prelude.{◌≡◌, ◌+◌, ◌<◌, length, find};
+ghost use Rattle.trans_rows.specs.Wide.{is_word_of, is_too_wide, placed_header, placed_action, placed_actions, wide_at};
+
+use inform_tree::Width;
+use scott_types::Db;
+use scott_types::parts::{Action, Header};
+use trans_rows::Place;
+
+// Whether a number is a word of this width.
+fn is_word(width: Width, value: i64) -> bool
+    ensures { result ≡ is_word_of width value }
+{
+    match width {
+        Width::W16 => -32_768 <= value && value <= 32_767,
+        Width::W32 => -2_147_483_648 <= value && value <= 2_147_483_647,
+    }
+}
+
+// The first of these numbers that is too wide.
+fn first_wide(width: Width, placed: &[(Place, i64)]) -> Option<(Place, i64)>
+    ensures { result ≡ find (is_too_wide width) placed.now }
+{
+    for number in placed {
+        if !is_word(width, number.1) {
+            return Some(*number);
+        }
+    }
+    None
+}
+
+fn wide_in_header(width: Width, header: &Header) -> Option<(Place, i64)>
+    ensures { result ≡ find (is_too_wide width) (placed_header header.now) }
+{
+    let placed = [
+        (Place::Carry, header.carry as i64),
+        (Place::Treasures, header.treasures as i64),
+        (Place::Light, header.light as i64),
+        (Place::Home, header.home as i64),
+    ];
+    first_wide(width, &placed)
+}
+
+// The numbers of line k.
+fn wide_in_action(width: Width, k: u16, action: &Action) -> Option<(Place, i64)>
+    ensures { result ≡ find (is_too_wide width) (placed_action k action.now) }
+{
+    let [first, second, third, fourth, fifth] = action.conds;
+    let [one, other] = action.pairs;
+    let placed = [
+        (Place::Verb(k), (action.vocab / 150) as i64),
+        (Place::Condition(k, 1), (first / 20) as i64),
+        (Place::Condition(k, 2), (second / 20) as i64),
+        (Place::Condition(k, 3), (third / 20) as i64),
+        (Place::Condition(k, 4), (fourth / 20) as i64),
+        (Place::Condition(k, 5), (fifth / 20) as i64),
+        (Place::Opcode(k, 1), (one / 150) as i64),
+        (Place::Opcode(k, 3), (other / 150) as i64),
+    ];
+    first_wide(width, &placed)
+}
+
+fn wide_in_actions(width: Width, actions: &[Action]) -> Option<(Place, i64)>
+    requires { length actions.now < 65536 }
+    ensures { result ≡ find (is_too_wide width) (placed_actions 0 actions.now) }
+{
+    for (k, action) in actions.iter().enumerate() {
+        let found = wide_in_action(width, k as u16, action);
+        if found.is_some() {
+            return found;
+        }
+    }
+    None
+}
+
+/// The first number, in the order of the file, that is no word of this width, with its place.
+/// docs/INFORM.md says which numbers a translated game needs as words.
+pub fn wide_at(db: &Db, width: Width) -> Option<(Place, i64)>
+    ensures { result ≡ wide_at width db.now }
+{
+    match wide_in_header(width, db.header()) {
+        Some(found) => Some(found),
+        None => wide_in_actions(width, db.actions()),
+    }
+}
