@@ -1,3 +1,4 @@
 pub mod Faithful
 pub mod Refusals
 pub mod Answers
+pub mod FaultTexts
