@@ -6,9 +6,9 @@ use Rattle.scott_requests.specs.declared.settings.Setting.{Setting as HeldSettin
 use Rattle.scott_requests.specs.declared.settings.Setting.TheVariants.{Draws, Style as StyleSetting, Steps, Words}
 use Rattle.scott_requests.specs.declared.settings.Settings.{Settings as HeldSettings}
 use Rattle.scott_requests.specs.declared.requests.Request.{Request as HeldRequest}
-use Rattle.scott_requests.specs.declared.requests.Request.TheVariants.{Check, Compile, Decompile, Play, Run}
+use Rattle.scott_requests.specs.declared.requests.Request.TheVariants.{Check, Compile, Decompile, Play, Translate, Run}
 use Rattle.scott_requests.specs.Settings.{DrawSource, listed, seeded, Setting, draws, style, most_steps, word_width, Settings}
-use Rattle.scott_requests.specs.Request.{Request, check, compile, decompile, play, run}
+use Rattle.scott_requests.specs.Request.{Request, check, compile, decompile, play, translate, run}
 
 abbrev pub source_of : HeldSource → DrawSource
 source_of (Listed name) = listed name.now
@@ -28,4 +28,5 @@ request_of (Check game) = check game.now
 request_of (Compile source game) = compile source.now game.now
 request_of (Decompile game source) = decompile game.now source.now
 request_of (Play game source value) = play game.now (source_of source) value
+request_of (Translate game program value width) = translate game.now program.now value width
 request_of (Run program source steps width) = run program.now (source_of source) steps width

@@ -1,6 +1,6 @@
 //! Requests: a command, the names of its files, and its settings.
 ghost use Rattle.std.specs.Prelude.{◌≡◌, map, string_bytes, option_map};
-ghost use Rattle.scott_requests.specs.Request.{check_form, two_names, compile_form, decompile_form, file_and_settings, source_in, play_form, run_form, asked_by};
+ghost use Rattle.scott_requests.specs.Request.{check_form, two_names, compile_form, decompile_form, file_and_settings, source_in, style_in, width_in, play_form, files_and_settings, translate_form, run_form, asked_by};
 ghost use Rattle.scott_requests.specs.Views.{source_of, settings_of, request_of};
 
 use crate::parts::file_name;
@@ -14,6 +14,8 @@ use scott_types::Style;
 /// - `Compile`: the source of the first name is to be stored as a database under the second one.
 /// - `Decompile`: the database of the first name is to be stored as a source under the second one.
 /// - `Play`: the database of this name is to be played with these draws, in this style.
+/// - `Translate`: the database of the first name is to be translated into an Inform program, which is stored under
+///   the second one, in this style and for words of this width.
 /// - `Run`: the Inform program of this name is to be run with these draws, for so many steps at most (1 to
 ///   `MOST_STEPS`), with words of this width.
 #[derive(Clone, Copy, Debug, PartialEq, Eq)]
@@ -22,6 +24,7 @@ pub enum Request<'a> {
     Compile(&'a str, &'a str),
     Decompile(&'a str, &'a str),
     Play(&'a str, DrawSource<'a>, Style),
+    Translate(&'a str, &'a str, Style, Width),
     Run(&'a str, DrawSource<'a>, u64, Width),
 }
 
@@ -78,6 +81,20 @@ fn source_in(settings: Settings<'_>) -> DrawSource<'_>
     settings.draws.unwrap_or(DrawSource::Seeded(FIRST_SEED))
 }
 
+// In which style.
+fn style_in(settings: Settings<'_>) -> Style
+    ensures { result ≡ style_in (settings_of settings.entry) }
+{
+    settings.style.unwrap_or(Style::plain())
+}
+
+// How wide words are.
+fn width_in(settings: Settings<'_>) -> Width
+    ensures { result ≡ width_in (settings_of settings.entry) }
+{
+    settings.width.unwrap_or(Width::W16)
+}
+
 // `play` with the words after it.
 fn play_form(words: &[String]) -> Option<Request<'_>>
     ensures { option_map request_of result ≡ play_form (map string_bytes words.now) }
@@ -86,8 +103,29 @@ fn play_form(words: &[String]) -> Option<Request<'_>>
     if settings.steps.is_some() || settings.width.is_some() {
         return None;
     }
-    let style = settings.style.unwrap_or(Style::plain());
-    Some(Request::Play(game, source_in(settings), style))
+    Some(Request::Play(game, source_in(settings), style_in(settings)))
+}
+
+// The names of two files, and the settings after them.
+fn files_and_settings(words: &[String]) -> Option<(&str, &str, Settings<'_>)>
+    ensures { option_map (λ p. (p.0.now, p.1.now, settings_of p.2)) result
+        ≡ files_and_settings (map string_bytes words.now) }
+{
+    let (file, rest) = words.split_first()?;
+    let first = file_name(file.as_str())?;
+    let (second, settings) = file_and_settings(rest)?;
+    Some((first, second, settings))
+}
+
+// `translate` with the words after it.
+fn translate_form(words: &[String]) -> Option<Request<'_>>
+    ensures { option_map request_of result ≡ translate_form (map string_bytes words.now) }
+{
+    let (game, program, settings) = files_and_settings(words)?;
+    if settings.draws.is_some() || settings.steps.is_some() {
+        return None;
+    }
+    Some(Request::Translate(game, program, style_in(settings), width_in(settings)))
 }
 
 // `run` with the words after it.
@@ -102,7 +140,7 @@ fn run_form(words: &[String]) -> Option<Request<'_>>
         program,
         source_in(settings),
         settings.steps.unwrap_or(USUAL_STEPS),
-        settings.width.unwrap_or(Width::W16),
+        width_in(settings),
     ))
 }
 
@@ -122,6 +160,9 @@ pub fn request_in(words: &[String]) -> Option<Request<'_>>
     }
     if command.as_str() == "play" {
         return play_form(rest);
+    }
+    if command.as_str() == "translate" {
+        return translate_form(rest);
     }
     if command.as_str() == "run" {
         return run_form(rest);

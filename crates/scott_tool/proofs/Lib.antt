@@ -10,3 +10,4 @@ pub mod Hill
 pub mod Playing
 pub mod Programs
 pub mod Running
+pub mod Translating

@@ -1,19 +1,22 @@
 -- That what is expected is done, or refused.
 use Rattle.std.proofs.Common.{◌≡◌, ◌∙◌, ◌≤◌, Bool, true, false, ℕ, List, [], ◌∷◌, Option, Some, None, IfSome, Result, Ok, Err, MatchResult, OnOk, OnErr, refl, sym, ap, subst, inl, inr, ◌⊎◌, arith}
-use Rattle.std.specs.Prelude.{Contains, nat_eq, ◌||◌}
+use Rattle.std.specs.Prelude.{Contains, nat_eq, ◌||◌, unwrap_or}
 use mathlib.Core.Bool.{true≢false}
 use Rattle.adv_io.specs.declared.events.Event.{Event}
 use Rattle.adv_io.specs.Console.{ConsoleView}
 use Rattle.adv_io.specs.Faults.{Rose, HasCause}
 use Rattle.adv_io.specs.History.{grown, GrewByPrefix}
-use Rattle.adv_io.specs.Shelf.{ShelfView, with_file, without}
+use Rattle.adv_io.specs.Shelf.{ShelfView, with_file}
 use Rattle.adv_io.proofs.Sayings.{grown-nil}
 use Rattle.scott_tool.specs.declared.refusals.ContentFault.{ContentFault}
-use Rattle.scott_tool.specs.declared.refusals.ContentFault.TheVariants.{NoDatabase, NoSource, NoMeaning, NoDraws, NoProgram}
-use Rattle.scott_tool.specs.Refusal.{Refusal, Unfit, no_request, unread, too_long, unfit, unwritten, refusing, content_status, status_of}
-use Rattle.scott_tool.specs.Outcome.{Outcome, done, keeping, refused, kept, Concludes, Loses, Ends, whole, unsaid, unstored}
-use Rattle.scott_tool.specs.Work.{Task, reporting, storing, playing, running, Does, task_statuses}
-use Rattle.scott_tool.specs.Obeying.{IsSteady, Stands, Answers, Leaves, Obeys, Refuses, FailsToStore, Declines}
+use Rattle.scott_tool.specs.declared.refusals.ContentFault.TheVariants.{NoDatabase, NoSource, NoMeaning, NoDraws, NoProgram, NoTranslation}
+use Rattle.translator.specs.declared.faults.TransFault.{TransFault}
+use Rattle.translator.specs.declared.faults.TransFault.TheVariants.{NotBuilt, Wide, Memory}
+use Rattle.translator.specs.Faithful.{Faithful}
+use Rattle.scott_tool.specs.Refusal.{Refusal, Unfit, no_request, unread, too_long, unfit, unwritten, refusing, translation_status, content_status, status_of}
+use Rattle.scott_tool.specs.Outcome.{File, Outcome, done, keeping, refused, kept, Concludes, Loses, Ends, whole, unsaid, unstored}
+use Rattle.scott_tool.specs.Work.{Task, reporting, storing, playing, translating, running, Does, task_statuses}
+use Rattle.scott_tool.specs.Obeying.{Keeps, IsSteady, Stands, Answers, Leaves, Obeys, Refuses, FailsToStore, Declines}
 use Rattle.scott_tool.proofs.Statuses.{IsEnd, first, task_has_0}
 
 whatever : (P : List (List ℕ) → Type 0) → ((lines : List (List ℕ)) → P lines) → (o : Option (List (List ℕ))) → IfSome o P
@@ -26,7 +29,12 @@ where_known P Q f (Some lines) h = f lines h
 
 -- the statuses of refusals
 abbrev is_refused : ℕ → Bool
-is_refused n = nat_eq n 1 || (nat_eq n 2 || (nat_eq n 4 || (nat_eq n 5 || (nat_eq n 6 || nat_eq n 11))))
+is_refused n = nat_eq n 1 || (nat_eq n 2 || (nat_eq n 4 || (nat_eq n 5 || (nat_eq n 6 || (nat_eq n 7 || nat_eq n 11)))))
+
+translation_is : (fault : TransFault) → is_refused (translation_status fault) ≡ true
+translation_is (NotBuilt k) = refl
+translation_is (Wide place value) = refl
+translation_is Memory = refl
 
 content_is : (fault : ContentFault) → is_refused (content_status fault) ≡ true
 content_is (NoDatabase fault) = refl
@@ -34,6 +42,7 @@ content_is (NoSource fault) = refl
 content_is (NoMeaning fault) = refl
 content_is (NoDraws fault) = refl
 content_is (NoProgram fault) = refl
+content_is (NoTranslation fault) = translation_is fault
 
 refusal_is : (refusal : Refusal) → is_refused (status_of refusal) ≡ true
 refusal_is no_request = refl
@@ -61,6 +70,7 @@ nothing_done : (shelf : ShelfView) (expected : Result Task Refusal) (status : �
 nothing_done shelf (Ok (reporting db)) status not_0 = refl
 nothing_done shelf (Ok (storing name bytes)) status not_0 = record { stored = λ e. absurd (not_0 e); stay = inr (inl refl) }
 nothing_done shelf (Ok (playing style db draws)) status not_0 = refl
+nothing_done shelf (Ok (translating name style width db)) status not_0 = record { stored = λ e. absurd (not_0 e); stay = inr (inl refl) }
 nothing_done shelf (Ok (running width p draws steps)) status not_0 = refl
 nothing_done shelf (Err refusal) status not_0 = refl
 
@@ -69,6 +79,7 @@ said_stays : (shelf : ShelfView) (task : Task) (status : ℕ) (events : List Eve
 said_stays shelf (reporting db) status events lines does = refl
 said_stays shelf (storing name bytes) status events lines does = absurd (let stored = ap (λ o. o.stored) does in cc)
 said_stays shelf (playing style db draws) status events lines does = refl
+said_stays shelf (translating name style width db) status events lines (out, faithful, e) = absurd (let stored = ap (λ o. o.stored) e in cc)
 said_stays shelf (running width p draws steps) status events lines does = refl
 
 -- 3 is none of these
@@ -83,16 +94,49 @@ concluded : (shelf : ShelfView) (old new : ConsoleView) (o : Outcome) (status : 
 concluded shelf old new o status none (inl h) = whole h.0 h.1 (sym (ap (kept shelf.files) none))
 concluded shelf old new o status none (inr h) = unsaid h.0 h.1 h.2 refl
 
+-- what is done is to store these bytes under this name, whatever lines are left
+abbrev StoresFile : Task → List ℕ → List ℕ → Type 0
+StoresFile task name bytes = (lines : List (List ℕ)) → Does task lines (keeping name bytes)
+
+-- the file that an outcome stores
+abbrev file_of : Outcome → File
+file_of o = unwrap_or o.stored (record { name = []; bytes = [] })
+
+module _ (shelf shelf' : ShelfView) (name bytes : List ℕ) (status : ℕ) where
+  -- the file is stored with status 0, and else it stays or is lost
+  abbrev WasKept : List ℕ → Type 0
+  WasKept other = (status ≡ 0) ⊎ (shelf'.files ≡ shelf.files) ⊎ Loses shelf shelf' other
+
+  keeps : (MayBe : List ℕ → Type 0) (other : List ℕ) → name ≡ other → MayBe bytes → (status ≡ 0 → shelf'.files ≡ with_file shelf.files name bytes) → WasKept name
+      → Keeps shelf shelf' other MayBe status
+  keeps MayBe other same may stored stay = record {
+    stored = λ zero. (bytes, may, stored zero ∙ ap (λ n. with_file shelf.files n bytes) same);
+    stay = subst WasKept same stay;
+  }
+
+  -- the files after a task that stores bytes
+  leaves_file : (task : Task) → StoresFile task name bytes → (status ≡ 0 → shelf'.files ≡ with_file shelf.files name bytes) → WasKept name
+      → Leaves shelf shelf' (Ok task) status
+  leaves_file (reporting db) does stored stay = absurd (let none = ap (λ o. o.stored) (does []) in cc)
+  leaves_file (storing other more) does stored stay =
+      keeps (λ out. out ≡ more) other (ap (λ o. (file_of o).name) (does [])) (ap (λ o. (file_of o).bytes) (does [])) stored stay
+  leaves_file (playing style db draws) does stored stay = absurd (let none = ap (λ o. o.stored) (does []) in cc)
+  leaves_file (translating other style width db) does stored stay =
+      let made = does [] in
+      keeps (Faithful style width db None) other (ap (λ o. (file_of o).name) made.2)
+      (subst (Faithful style width db None) (sym (ap (λ o. (file_of o).bytes) made.2)) made.1) stored stay
+  leaves_file (running width p draws steps) does stored stay = absurd (let none = ap (λ o. o.stored) (does []) in cc)
+
 -- the file was stored, and nothing is said
-pub obeys-stored : (shelf shelf' : ShelfView) (view : ConsoleView) (name bytes : List ℕ) → shelf'.files ≡ with_file shelf.files name bytes → shelf'.faults ≡ shelf.faults
-    → Obeys shelf shelf' view view (Ok (storing name bytes)) 0
-obeys-stored shelf shelf' view name bytes files faults = record {
-  answered = whatever (λ lines. Answers shelf shelf' view view lines (Ok (storing name bytes)) 0)
-      (λ lines. inl (keeping name bytes, refl, whole refl (sym (grown-nil view.history)) files)) view.left;
-  stands = inl (first 0);
+pub obeys-stored : (shelf shelf' : ShelfView) (view : ConsoleView) (task : Task) (name bytes : List ℕ) → StoresFile task name bytes
+    → shelf'.files ≡ with_file shelf.files name bytes → shelf'.faults ≡ shelf.faults → Obeys shelf shelf' view view (Ok task) 0
+obeys-stored shelf shelf' view task name bytes does files faults = record {
+  answered = whatever (λ lines. Answers shelf shelf' view view lines (Ok task) 0)
+      (λ lines. inl (keeping name bytes, does lines, whole refl (sym (grown-nil view.history)) files)) view.left;
+  stands = inl (task_has_0 task);
   silent = λ e. refl;
   lines = inl (inl refl);
-  files = record { stored = λ e. files; stay = inl refl };
+  files = leaves_file shelf shelf' name bytes 0 task does (λ e. files) (inl refl);
   shelf_later = omega arith;
   later = omega arith;
   steady = λ h. (faults, refl);
@@ -166,17 +210,17 @@ module _ (old new : ConsoleView) (status : ℕ) where
 
   -- ---- what is stored
 
-  module _ (shelf shelf' : ShelfView) (name bytes : List ℕ) where
+  module _ (shelf shelf' : ShelfView) (task : Task) (name bytes : List ℕ) (does : StoresFile task name bytes) where
     -- the shelf failed
     obeys-unstored : Loses shelf shelf' name → shelf.faults ≤ shelf'.faults → Refuses old new (Some (unwritten name)) status
-        → Obeys shelf shelf' old new (Ok (storing name bytes)) status
+        → Obeys shelf shelf' old new (Ok task) status
     obeys-unstored loses more r = record {
-      answered = whatever (λ lines. Answers shelf shelf' old new lines (Ok (storing name bytes)) status)
-          (λ lines. inl (keeping name bytes, refl, unstored (record { name = name; bytes = bytes }) refl loses r.ended)) old.left;
+      answered = whatever (λ lines. Answers shelf shelf' old new lines (Ok task) status)
+          (λ lines. inl (keeping name bytes, does lines, unstored (record { name = name; bytes = bytes }) refl loses r.ended)) old.left;
       stands = elim r.ended [ inl h ↦ inr (inr (inr (h.0, loses.0))) | inr h ↦ inr (inr (inl (h.0, h.1))) ];
       silent = λ e. absurd (refused_not_9 (unwritten name) r.ended e);
       lines = inr r.lines;
-      files = record { stored = λ e. absurd (refused_not_0 (unwritten name) r.ended e); stay = inr (inr loses) };
+      files = leaves_file shelf shelf' name bytes status task does (λ e. absurd (refused_not_0 (unwritten name) r.ended e)) (inr (inr loses));
       shelf_later = more;
       later = r.later;
       steady = λ h. absurd (refused_not_steady (unwritten name) r.ended h);
@@ -184,14 +228,14 @@ module _ (old new : ConsoleView) (status : ℕ) where
 
     -- memory ran out as it stored
     obeys-unkept : shelf'.files ≡ shelf.files → shelf'.faults ≡ shelf.faults → Refuses old new None status
-        → Obeys shelf shelf' old new (Ok (storing name bytes)) status
+        → Obeys shelf shelf' old new (Ok task) status
     obeys-unkept files faults r =
         let same : record { files = shelf'.files; faults = shelf'.faults } ≡ shelf = λ i. record { files = files i; faults = faults i } in
-        subst (λ (s : ShelfView). Obeys shelf s old new (Ok (storing name bytes)) status) (sym same) (obeys-starved shelf (Ok (storing name bytes)) r)
+        subst (λ (s : ShelfView). Obeys shelf s old new (Ok task) status) (sym same) (obeys-starved shelf (Ok task) r)
 
     -- the file wasn't stored
     pub obeys-not_stored : (refusal : Option Refusal) → FailsToStore shelf shelf' name refusal → shelf.faults ≤ shelf'.faults → Refuses old new refusal status
-        → Obeys shelf shelf' old new (Ok (storing name bytes)) status
+        → Obeys shelf shelf' old new (Ok task) status
     obeys-not_stored None h more r = obeys-unkept h.0 h.1 r
     obeys-not_stored (Some (unwritten other)) h more r =
         obeys-unstored h.1 more (subst (λ (n : List ℕ). Refuses old new (Some (unwritten n)) status) h.0 r)

@@ -5,7 +5,6 @@ use Rattle.inform_reader.specs.Reading.{Fault}
 use Rattle.inform_reader.specs.Views.{fault_answer, Tells}
 use Rattle.inform_reader.specs.declared.faults.ProgramFault.{ProgramFault}
 use Rattle.inform_reader.specs.declared.faults.ProgramFault.TheVariants.{NoTokens, NoSentence, NotAccepted, Memory}
-use Rattle.scott_tool.specs.Refusal.{Unfit}
 use Rattle.scott_tool.specs.Run.{program_or_unfit}
 use Rattle.scott_tool.specs.declared.refusals.ContentFault.TheVariants.{NoProgram}
 

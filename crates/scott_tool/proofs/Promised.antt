@@ -8,14 +8,14 @@ use Rattle.scott_requests.specs.Request.{Request}
 use Rattle.scott_tool.specs.Steps.{◌>>=◌}
 use Rattle.scott_tool.specs.Refusal.{Refusal, unread, refusing}
 use Rattle.scott_tool.specs.Loading.{Texts, texts_of}
-use Rattle.scott_tool.specs.Work.{Task, reporting, storing, playing, running, work, expected, task_statuses, statuses_of}
+use Rattle.scott_tool.specs.Work.{Task, reporting, storing, playing, translating, running, work, expected, task_statuses, statuses_of}
 use Rattle.scott_tool.specs.Obeying.{Stands, Answers}
 use Rattle.scott_tool.specs.Causes.{OneLoaded, IsAccepted}
 use Rattle.scott_tool.specs.Outcome.{refused, Concludes, whole, unsaid, unstored}
 use Rattle.scott_tool.specs.Run.{stop_after, stop_status}
 use Rattle.inform_tree.specs.declared.widths.Width.{Width}
 use Rattle.inform_tree.specs.Programs.{DirectiveTree}
-use Rattle.scott_tool.specs.Promises.{HasStatus, Completes, IsSeen, NameKeeps, KeepsFiles, HasChecked, HasCompiled, HasDecompiled, HasPlayed, HasRun, IfKnown, SaysUnread, Counts}
+use Rattle.scott_tool.specs.Promises.{HasStatus, Completes, IsSeen, NameKeeps, KeepsFiles, HasChecked, HasCompiled, HasDecompiled, HasPlayed, HasTranslated, HasRun, IfKnown, SaysUnread, Counts}
 use Rattle.scott_tool.proofs.Statuses.{IsEnd, first}
 use Rattle.scott_tool.proofs.Readings.{Laws, EndsWith0, accepted}
 
@@ -29,6 +29,7 @@ pub record Promises (shelf shelf' : ShelfView) (console console' : ConsoleView) 
   pub compiled : status ≡ 0 → HasCompiled shelf shelf' asked
   pub decompiled : status ≡ 0 → HasDecompiled shelf shelf' asked
   pub played : status ≡ 0 → HasPlayed shelf console console' asked
+  pub translated : status ≡ 0 → HasTranslated shelf shelf' asked
   pub ran : IsEnd status → HasRun shelf console console' asked status
   pub counts : Counts shelf shelf' console console' status
 
@@ -101,6 +102,7 @@ module _ (shelf shelf' : ShelfView) (console console' : ConsoleView) (status : �
   stand_0 request files (reporting db) is ends stand seen = stand
   stand_0 request files (storing name bytes) is ends stand seen = stand
   stand_0 request files (playing style db draws) is ends stand seen = stand
+  stand_0 request files (translating name style width db) is ends stand seen = stand
   stand_0 request files (running width p draws steps) is (lines, left, zero) stand seen =
       elim (seen_with (Some request) files lines console.left left seen) [
         | inl h ↦

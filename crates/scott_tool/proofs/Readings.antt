@@ -1,5 +1,5 @@
 -- What the work of a request says of what was loaded for it.
-use Rattle.std.proofs.Common.{◌≡◌, ◌∙◌, ℕ, List, [], Option, Some, Result, Ok, Err, refl, sym, ap, inl, inr}
+use Rattle.std.proofs.Common.{◌≡◌, ◌∙◌, ℕ, List, [], Option, Some, None, Result, Ok, Err, refl, sym, ap, inl, inr}
 use Rattle.std.specs.FinMap.{get}
 use Rattle.std.specs.Prelude.{unwrap_or}
 use Rattle.adv_draws.specs.Listed.{listed_draws}
@@ -13,7 +13,7 @@ use Rattle.scott_format.specs.Canon.{canon}
 use Rattle.scott_format.specs.Laws.{DatabaseIn, FaultIn}
 use Rattle.source_reader.specs.Faults as reading
 use Rattle.source_reader.specs.Laws.{SourceIn, FaultIn as SourceFaultIn}
-use Rattle.source_reader.specs.Text.{SourceText, TextFault, source_in}
+use Rattle.source_reader.specs.Text.{SourceText, source_in}
 use Rattle.source_reader.specs.declared.tree.Source.{Source}
 use Rattle.inform_tree.specs.declared.widths.Width.{Width}
 use Rattle.inform_tree.specs.Programs.{DirectiveTree}
@@ -21,7 +21,7 @@ use Rattle.inform_reader.specs.Reading as reader
 use Rattle.inform_reader.specs.Reading.{IsProgram, IsFaulty, program_in}
 use Rattle.inform_reader.specs.Laws.{ProgramIn, FaultIn as ProgramFaultIn}
 use Rattle.scott_requests.specs.Settings.{DrawSource, listed, seeded}
-use Rattle.scott_requests.specs.Request.{Request, check, compile, decompile, play, run}
+use Rattle.scott_requests.specs.Request.{Request, check, compile, decompile, play, translate, run}
 use Rattle.scott_types.specs.declared.styles.Style.{Style}
 use Rattle.scott_types.specs.Database.{Database}
 use Rattle.scott_tool.specs.Steps.{◌>>=◌}
@@ -30,8 +30,11 @@ use Rattle.scott_tool.specs.Loading.{Load, main_of, draws_of, draws_load, databa
 use Rattle.scott_tool.specs.Check.{database_or_unfit, database_of_file}
 use Rattle.scott_tool.specs.Compile.{source_or_unfit, meaning_or_unfit, compiled_from, IsNoSource}
 use Rattle.scott_tool.specs.Play.{draws_or_unfit, draws_from, DrawsAre}
+use Rattle.trans_rows.specs.Wide.{Placed, wide_at}
+use Rattle.translator.specs.Refusals.{first_line, refusal_by, too_wide}
+use Rattle.scott_tool.specs.Translate.{translatable_or_unfit, translatable}
 use Rattle.scott_tool.specs.Run.{program_or_unfit, program_of_file, stop_after, stop_status}
-use Rattle.scott_tool.specs.Work.{Task, reporting, storing, playing, running, work, expected}
+use Rattle.scott_tool.specs.Work.{Task, reporting, storing, playing, translating, running, work, expected}
 use Rattle.scott_tool.specs.Causes.{IsAccepted}
 use Rattle.scott_tool.proofs.Files.{bind-ok, bind-err, there-loaded, loaded-there}
 
@@ -54,6 +57,10 @@ database_unfit : (name : List ℕ) (read : Result Database Fault) (u : Unfit) �
     → (fault : Fault) × (read ≡ Err fault) × (content_status u.fault ≡ 4)
 database_unfit name (Ok db) u e = absurd cc
 database_unfit name (Err fault) u e = (fault, refl, sym (ap status_in e))
+
+database_fit : (name : List ℕ) (read : Result Database Fault) (db : Database) → database_or_unfit name read ≡ Ok db → read ≡ Ok db
+database_fit name (Ok other) db e = let same : other ≡ db = cc in ap Ok same
+database_fit name (Err fault) db e = absurd cc
 
 source_unfit : (name : List ℕ) (read : Result Source reading.Fault) (u : Unfit) → source_or_unfit name read ≡ Err u
     → (fault : reading.Fault) × (read ≡ Err fault) × (content_status u.fault ≡ 5)
@@ -101,13 +108,29 @@ draws_unfit (listed name) bytes u e = by (listed_draws bytes) refl e
     by (Ok draws) f g = absurd cc
     by (Err at) f g = (_, at, refl, f, sym (ap status_in g))
 
--- the content that is refused is that of the database, of the source, of the program, or of the draws
+-- why a database isn't translated, by its first line and its first wide number
+data Untranslated (line : Option ℕ) (wide : Option Placed) (u : Unfit) : Type 0 where
+  by_line : (k : ℕ) → line ≡ Some k → content_status u.fault ≡ 4 → Untranslated line wide u
+  by_width : (placed : Placed) → line ≡ None → wide ≡ Some placed → content_status u.fault ≡ 7 → Untranslated line wide u
+
+translatable_unfit : (name : List ℕ) (db : Database) (line : Option ℕ) (wide : Option Placed) (u : Unfit) → translatable_or_unfit name db (refusal_by line wide) ≡ Err u
+    → Untranslated line wide u
+translatable_unfit name db (Some k) wide u e = by_line k refl (sym (ap status_in e))
+translatable_unfit name db None (Some placed) u e = by_width placed refl refl (sym (ap status_in e))
+translatable_unfit name db None None u e = absurd cc
+
+-- the content that is refused is that of the database, of the source, of the program, or of the draws; or the database has a line,
+-- or a number that is too wide
 pub data Fails (request : Request) (texts : Texts) (u : Unfit) : Type 0 where
   bad_database : (load : Load) (fault : Fault) → main_of request ≡ Some load → database_in texts.main ≡ Err fault
       → content_status u.fault ≡ 4 → Fails request texts u
   bad_source : (source game : List ℕ) → request ≡ compile source game → IsNoSource texts.main → content_status u.fault ≡ 5 → Fails request texts u
   bad_program : (name : List ℕ) (source : DrawSource) (steps : ℕ) (width : Width) (fault : reader.Fault) → request ≡ run name source steps width
       → IsFaulty width texts.main fault → content_status u.fault ≡ 6 → Fails request texts u
+  bad_line : (game program : List ℕ) (style : Style) (width : Width) (db : Database) (k : ℕ) → request ≡ translate game program style width
+      → DatText texts.main db → first_line db ≡ Some k → content_status u.fault ≡ 4 → Fails request texts u
+  bad_width : (game program : List ℕ) (style : Style) (width : Width) (db : Database) (placed : Placed) → request ≡ translate game program style width
+      → DatText texts.main db → first_line db ≡ None → wide_at width db ≡ Some placed → content_status u.fault ≡ 7 → Fails request texts u
   bad_draws : (load : Load) (at : ℕ) → draws_of request ≡ Some load → listed_draws texts.draws ≡ Err at
       → content_status u.fault ≡ 5 → Fails request texts u
 
@@ -122,6 +145,12 @@ play_of style db draws = Ok (playing style db draws)
 
 abbrev with_draws : DrawSource → List ℕ → Style → Database → Result Task Unfit
 with_draws source bytes style db = draws_from source bytes >>= play_of style db
+
+abbrev translation_of : List ℕ → Style → Width → Database → Result Task Unfit
+translation_of program style width db = Ok (translating program style width db)
+
+abbrev translate_with : List ℕ → List ℕ → Style → Width → Database → Result Task Unfit
+translate_with game program style width db = translatable game width db >>= translation_of program style width
 
 abbrev run_of : Width → ℕ → List DirectiveTree → List ℕ → Result Task Unfit
 run_of width steps p draws = Ok (running width p draws steps)
@@ -154,6 +183,20 @@ fails laws (play game source style) texts u e =
             | inr r ↦ absurd (let g = r.2 in cc)
           ]
     ]
+fails laws (translate game program style width) texts u e =
+    elim (bind-err (database_of_file game texts.main) (translate_with game program style width) u e) [
+      | inl d ↦ (let f = database_unfit game (database_in texts.main) u d in bad_database (database_load game) f.0 refl f.1 f.2)
+      | inr d ↦
+          elim (bind-err (translatable game width d.0) (translation_of program style width) u d.2) [
+            | inl r ↦
+                (let text : DatText texts.main d.0 = (laws.database texts.main d.0).0 (database_fit game (database_in texts.main) d.0 d.1) in
+                elim (translatable_unfit game d.0 (first_line d.0) (wide_at width d.0) u r) [
+                  | by_line k is four ↦ bad_line game program style width d.0 k refl text is four
+                  | by_width placed none is seven ↦ bad_width game program style width d.0 placed refl text none is seven
+                ])
+            | inr r ↦ absurd (let g = r.2 in cc)
+          ]
+    ]
 fails laws (run name source steps width) texts u e =
     elim (bind-err (program_of_file width name texts.main) (run_with source texts.draws width steps) u e) [
       | inl d ↦
@@ -181,6 +224,12 @@ run_request (play game source style) texts width p draws steps e =
     let r = bind-ok (draws_from source texts.draws) (play_of style d.0) (running width p draws steps) d.2 in
     let f = r.2 in
     cc)
+run_request (translate game program style wide) texts width p draws steps e =
+    absurd (
+    let d = bind-ok (database_of_file game texts.main) (translate_with game program style wide) (running width p draws steps) e in
+    let r = bind-ok (translatable game wide d.0) (translation_of program style wide) (running width p draws steps) d.2 in
+    let f = r.2 in
+    cc)
 run_request (run name source most wide) texts width p draws steps e =
     let d = bind-ok (program_of_file wide name texts.main) (run_with source texts.draws wide most) (running width p draws steps) e in
     let r = bind-ok (draws_from source texts.draws) (run_of wide most d.0) (running width p draws steps) d.2 in
@@ -191,19 +240,25 @@ run_request (run name source most wide) texts width p draws steps e =
 
 -- ---- what is accepted
 
-database_fit : (name : List ℕ) (read : Result Database Fault) (db : Database) → database_or_unfit name read ≡ Ok db → read ≡ Ok db
-database_fit name (Ok other) db e = let same : other ≡ db = cc in ap Ok same
-database_fit name (Err fault) db e = absurd cc
-
 program_fit : (name : List ℕ) (read : Result (List DirectiveTree) reader.Fault) (p : List DirectiveTree) → program_or_unfit name read ≡ Ok p → read ≡ Ok p
 program_fit name (Ok other) p e = let same : other ≡ p = cc in ap Ok same
 program_fit name (Err fault) p e = absurd cc
+
+-- what can be translated is the database itself
+fit_same : (name : List ℕ) (db fit : Database) (line : Option ℕ) (wide : Option Placed) → translatable_or_unfit name db (refusal_by line wide) ≡ Ok fit → fit ≡ db
+fit_same name db fit (Some k) wide e = absurd cc
+fit_same name db fit None (Some placed) e = absurd cc
+fit_same name db fit None None e = let same : db ≡ fit = cc in sym same
+
+pub translatable_same : (name : List ℕ) (width : Width) (db fit : Database) → translatable name width db ≡ Ok fit → fit ≡ db
+translatable_same name width db fit e = fit_same name db fit (first_line db) (wide_at width db) e
 
 -- a task that is a run ends with 0, with the lines that are left
 abbrev pub EndsWith0 : Task → Option (List (List ℕ)) → Type 0
 EndsWith0 (reporting db) left = Unit {0}
 EndsWith0 (storing name bytes) left = Unit {0}
 EndsWith0 (playing style db draws) left = Unit {0}
+EndsWith0 (translating name style width db) left = Unit {0}
 EndsWith0 (running width p draws steps) left =
     (lines : List (List ℕ)) × (left ≡ Some lines) × (stop_status (stop_after width p steps lines draws) ≡ 0)
 
@@ -269,6 +324,10 @@ module _ (files : Files) where
   program_reads : (laws : Laws) (width : Width) (name bytes : List ℕ) (p : List DirectiveTree) → IsProgram width bytes p → program_of_file width name bytes ≡ Ok p
   program_reads laws width name bytes p is = ap (program_or_unfit name) ((laws.program width bytes p).1 is)
 
+  can_translate : (name : List ℕ) (width : Width) (db : Database) → first_line db ≡ None → wide_at width db ≡ None → translatable name width db ≡ Ok db
+  can_translate name width db no_line no_wide =
+      ap (λ line. translatable_or_unfit name db (refusal_by line (wide_at width db))) no_line ∙ ap (λ wide. translatable_or_unfit name db (too_wide wide)) no_wide
+
   same_file : (name : List ℕ) {a b : List ℕ} → get files name ≡ Some a → get files name ≡ Some b → a ≡ b
   same_file name {a} {b} there other = ap (λ o. unwrap_or o a) (sym there ∙ other)
 
@@ -292,6 +351,11 @@ module _ (files : Files) where
       comes (play game (listed name) style) left (record { main = g.0; draws = d.0 }) (playing style g.1 d.1)
       (loaded-there files (database_load game) g.0 g.2) (loaded-there files _ d.0 d.2)
       (ap (λ r. r >>= with_draws (listed name) d.0 style) (game_reads laws game g.0 g.1 g.3) ∙ ap (λ r. draws_or_unfit name r >>= play_of style g.1) d.3) tt
+  accepted laws (translate game program style width) left (bytes, db, loads, text, no_line, no_wide) =
+      comes (translate game program style width) left (record { main = bytes; draws = [] }) (translating program style width db)
+      (loaded-there files (database_load game) bytes loads) refl
+      (ap (λ r. r >>= translate_with game program style width) (game_reads laws game bytes db text)
+      ∙ ap (λ r. r >>= translation_of program style width) (can_translate game width db no_line no_wide)) tt
   accepted laws (run name (seeded seed) steps width) left ((bytes, p, draws, lines, loads, is, from_seed, lines_are, zero), h) =
       comes (run name (seeded seed) steps width) left (record { main = bytes; draws = [] }) (running width p draws steps)
       (loaded-there files (program_load name) bytes loads) refl

@@ -87,6 +87,7 @@ module _ (shelf shelf' : ShelfView) (console console' : ConsoleView) (status : �
             no_database = λ e. absurd (let f = own no_request r.ended 4 (λ e. omega arith) e in omega arith);
             no_source_or_draws = λ e. absurd (let f = own no_request r.ended 5 (λ e. omega arith) e in omega arith);
             no_program = λ e. absurd (let f = own no_request r.ended 6 (λ e. omega arith) e in omega arith);
+            too_wide = λ e. absurd (let f = own no_request r.ended 7 (λ e. omega arith) e in omega arith);
             trapped = λ e. absurd (let f = own no_request r.ended 8 (λ e. omega arith) e in omega arith);
             spent = λ e. absurd (let f = own no_request r.ended 10 (λ e. omega arith) e in omega arith);
             memory = λ e. absurd (refused_not_9 console console' status no_request r.ended e);
@@ -106,6 +107,7 @@ module _ (shelf shelf' : ShelfView) (console console' : ConsoleView) (status : �
         compiled = λ zero source game e. absurd cc;
         decompiled = λ zero game source e. absurd cc;
         played = λ zero game source style e. absurd cc;
+        translated = λ zero game program style width e. absurd cc;
         ran = λ end name source steps width e. absurd cc;
         counts = record {
           shelf_later = omega arith;
@@ -159,6 +161,7 @@ module _ (shelf shelf' : ShelfView) (console console' : ConsoleView) (status : �
       compiled = λ zero source game e. absurd (refused_not_0 console console' status refusal r.ended zero);
       decompiled = λ zero game source e. absurd (refused_not_0 console console' status refusal r.ended zero);
       played = λ zero game source style e. absurd (refused_not_0 console console' status refusal r.ended zero);
+      translated = λ zero game program style width e. absurd (refused_not_0 console console' status refusal r.ended zero);
       ran = λ end name source steps width e. absurd (refused_not_end console console' status refusal r.ended end);
       counts = record {
         shelf_later = later;
@@ -176,6 +179,7 @@ module _ (shelf shelf' : ShelfView) (console console' : ConsoleView) (status : �
       no_database = λ e. absurd (let f = own (unread name) ended 4 (λ e. omega arith) e in omega arith);
       no_source_or_draws = λ e. absurd (let f = own (unread name) ended 5 (λ e. omega arith) e in omega arith);
       no_program = λ e. absurd (let f = own (unread name) ended 6 (λ e. omega arith) e in omega arith);
+      too_wide = λ e. absurd (let f = own (unread name) ended 7 (λ e. omega arith) e in omega arith);
       trapped = λ e. absurd (let f = own (unread name) ended 8 (λ e. omega arith) e in omega arith);
       spent = λ e. absurd (let f = own (unread name) ended 10 (λ e. omega arith) e in omega arith);
       memory = λ e. refl;
@@ -191,6 +195,7 @@ module _ (shelf shelf' : ShelfView) (console console' : ConsoleView) (status : �
       no_database = λ e. absurd (let f = own (too_long name limit) ended 4 (λ e. omega arith) e in omega arith);
       no_source_or_draws = λ e. absurd (let f = own (too_long name limit) ended 5 (λ e. omega arith) e in omega arith);
       no_program = λ e. absurd (let f = own (too_long name limit) ended 6 (λ e. omega arith) e in omega arith);
+      too_wide = λ e. absurd (let f = own (too_long name limit) ended 7 (λ e. omega arith) e in omega arith);
       trapped = λ e. absurd (let f = own (too_long name limit) ended 8 (λ e. omega arith) e in omega arith);
       spent = λ e. absurd (let f = own (too_long name limit) ended 10 (λ e. omega arith) e in omega arith);
       memory = λ e. refl;
@@ -212,6 +217,7 @@ module _ (shelf shelf' : ShelfView) (console console' : ConsoleView) (status : �
               no_database = λ e. absurd (omega arith);
               no_source_or_draws = λ e. absurd (omega arith);
               no_program = λ e. absurd (omega arith);
+              too_wide = λ e. absurd (omega arith);
               trapped = λ e. absurd (omega arith);
               spent = λ e. absurd (omega arith);
               memory = λ e. refl;
@@ -226,6 +232,7 @@ module _ (shelf shelf' : ShelfView) (console console' : ConsoleView) (status : �
           compiled = λ zero source game e. absurd (omega arith);
           decompiled = λ zero game source e. absurd (omega arith);
           played = λ zero game source style e. absurd (omega arith);
+          translated = λ zero game program style width e. absurd (omega arith);
           ran = λ end name source steps width e. absurd (not_end status 9 end (λ f. omega arith) (λ f. omega arith) (λ f. omega arith) nine);
           counts = record { shelf_later = omega arith; console_later = r.later; steady = λ h. (steady, r.steady nine) };
         }

@@ -1,5 +1,5 @@
 -- That a run shows what is expected, and ends as it does.
-use Rattle.std.proofs.Common.{◌≡◌, ◌∙◌, ◌≤◌, ℕ, List, [], ◌++◌, IfSome, Result, Ok, Err, MatchResult, refl, sym, ap, subst, inl, inr, ◌⊎◌, arith}
+use Rattle.std.proofs.Common.{◌≡◌, ◌∙◌, ◌≤◌, ℕ, List, [], ◌++◌, IfSome, Result, Ok, Err, MatchResult, refl, sym, ap, subst, inl, inr, arith}
 use Rattle.adv_io.specs.Console.{Speaks}
 use Rattle.adv_io.specs.History.{says, shown}
 use Rattle.adv_io.specs.Steps.{trace_of}
@@ -27,7 +27,7 @@ use Rattle.inform_tree.specs.declared.widths.Width.{Width}
 use Rattle.inform_tree.specs.Programs.{DirectiveTree}
 use Rattle.scott_tool.specs.Outcome.{whole, unsaid}
 use Rattle.scott_tool.specs.Run.{ran, stop_status, stop_line, run_outcome}
-use Rattle.scott_tool.specs.Work.{running, task_statuses}
+use Rattle.scott_tool.specs.Work.{running}
 use Rattle.scott_tool.specs.Obeying.{Obeys, Answers}
 use Rattle.scott_tool.proofs.Statuses.{IsEnd, end_is, not_end}
 use Rattle.scott_tool.proofs.Obeying.{where_known}

@@ -2,13 +2,15 @@
 use Rattle.std.proofs.Common.{◌≡◌, ◌∙◌, ◌<◌, ℕ, zero, suc, [], ◌∷◌, get_or, Result, Ok, Err, refl, sym, subst, inl, inr, ◌⊎◌, arith, lit<}
 use Rattle.std.specs.Prelude.{Contains}
 use Rattle.scott_tool.specs.declared.refusals.ContentFault.{ContentFault}
-use Rattle.scott_tool.specs.declared.refusals.ContentFault.TheVariants.{NoDatabase, NoSource, NoMeaning, NoDraws, NoProgram}
-use Rattle.scott_tool.specs.Refusal.{Refusal, Unfit, no_request, unread, too_long, unfit, unwritten, refusing, content_status, status_of}
+use Rattle.scott_tool.specs.declared.refusals.ContentFault.TheVariants.{NoDatabase, NoSource, NoMeaning, NoDraws, NoProgram, NoTranslation}
+use Rattle.translator.specs.declared.faults.TransFault.{TransFault}
+use Rattle.translator.specs.declared.faults.TransFault.TheVariants.{NotBuilt, Wide, Memory}
+use Rattle.scott_tool.specs.Refusal.{Refusal, Unfit, no_request, unread, too_long, unfit, unwritten, refusing, translation_status, content_status, status_of}
 use Rattle.scott_tool.specs.Outcome.{statuses}
-use Rattle.scott_tool.specs.Work.{Task, reporting, storing, playing, running, task_statuses, statuses_of}
+use Rattle.scott_tool.specs.Work.{Task, reporting, storing, playing, translating, running, task_statuses, statuses_of}
 use Rattle.scott_tool.specs.Obeying.{Stands}
 
--- ---- each is one of the eleven
+-- ---- each is one of the twelve
 
 pub is_0 : Contains statuses 0
 is_0 = (0, lit< tt, refl)
@@ -17,7 +19,12 @@ pub is_3 : Contains statuses 3
 is_3 = (3, lit< tt, refl)
 
 pub is_9 : Contains statuses 9
-is_9 = (8, lit< tt, refl)
+is_9 = (9, lit< tt, refl)
+
+is_translation : (fault : TransFault) → Contains statuses (translation_status fault)
+is_translation (NotBuilt k) = (4, lit< tt, refl)
+is_translation (Wide place value) = (7, lit< tt, refl)
+is_translation Memory = (7, lit< tt, refl)
 
 pub is_content : (fault : ContentFault) → Contains statuses (content_status fault)
 is_content (NoDatabase fault) = (4, lit< tt, refl)
@@ -25,11 +32,12 @@ is_content (NoSource fault) = (5, lit< tt, refl)
 is_content (NoMeaning fault) = (5, lit< tt, refl)
 is_content (NoDraws fault) = (5, lit< tt, refl)
 is_content (NoProgram fault) = (6, lit< tt, refl)
+is_content (NoTranslation fault) = is_translation fault
 
 pub is_known : (refusal : Refusal) → Contains statuses (status_of refusal)
 is_known no_request = (1, lit< tt, refl)
 is_known (unread name) = (2, lit< tt, refl)
-is_known (too_long name limit) = (10, lit< tt, refl)
+is_known (too_long name limit) = (11, lit< tt, refl)
 is_known (unfit u) = is_content u.fault
 is_known (unwritten name) = (2, lit< tt, refl)
 
@@ -72,6 +80,7 @@ pub task_end : (task : Task) (status : ℕ) → Contains (task_statuses task) st
 task_end (reporting db) status h = inl (sym (only 0 status h))
 task_end (storing name bytes) status h = inl (sym (only 0 status h))
 task_end (playing style db draws) status h = inl (sym (only 0 status h))
+task_end (translating name style width db) status h = inl (sym (only 0 status h))
 task_end (running width p draws steps) status h = run_end status h.0 h.1 h.2
 
 pub not_end : (status n : ℕ) → IsEnd status → (n ≡ 0 → ⊥) → (n ≡ 8 → ⊥) → (n ≡ 10 → ⊥) → status ≡ n → ⊥
@@ -87,8 +96,8 @@ end_is status (inr (inr e)) = subst (Contains (0 ∷ 8 ∷ 10 ∷ [])) (sym e) (
 
 pub is_end : (status : ℕ) → IsEnd status → Contains statuses status
 is_end status (inl e) = subst (Contains statuses) (sym e) is_0
-is_end status (inr (inl e)) = subst (Contains statuses) (sym e) (7, lit< tt, refl)
-is_end status (inr (inr e)) = subst (Contains statuses) (sym e) (9, lit< tt, refl)
+is_end status (inr (inl e)) = subst (Contains statuses) (sym e) (8, lit< tt, refl)
+is_end status (inr (inr e)) = subst (Contains statuses) (sym e) (10, lit< tt, refl)
 
 by_expected : (S F : Type 0) (expected : Result Task Unfit) (status : ℕ) → Contains (statuses_of (refusing expected)) status → Tells S F expected status
 by_expected S F (Ok task) status h = of_task task refl h
@@ -104,4 +113,5 @@ pub task_has_0 : (task : Task) → Contains (task_statuses task) 0
 task_has_0 (reporting db) = first 0
 task_has_0 (storing name bytes) = first 0
 task_has_0 (playing style db draws) = first 0
+task_has_0 (translating name style width db) = first 0
 task_has_0 (running width p draws steps) = (0, lit< tt, refl)

@@ -4,7 +4,7 @@ use Rattle.std.specs.Prelude.{Contains}
 use Rattle.adv_check.specs.Report.{report_text}
 use Rattle.adv_draws.specs.Listed.{listed_draws}
 use Rattle.adv_io.specs.Console.{ConsoleView}
-use Rattle.std.specs.FinMap.{insert}
+use Rattle.std.specs.FinMap.{get, insert}
 use Rattle.scott_types.specs.declared.styles.Style.{Style}
 use Rattle.scott_types.specs.Database.{Database}
 use Rattle.scott_types.specs.Style.{in_style}
@@ -12,38 +12,39 @@ use Rattle.adv_io.specs.Faults.{Rose}
 use Rattle.adv_io.specs.History.{says, grown, shown}
 use Rattle.adv_io.specs.Shelf.{Files, ShelfView, with_file}
 use Rattle.scott_format.specs.Faults.{Fault}
-use Rattle.scott_format.specs.File.{DatFault}
-use Rattle.adv_compiler.specs.Meaning.{meant}
+use Rattle.scott_format.specs.File.{DatText, DatFault}
 use Rattle.adv_decompiler.specs.Plain.{plain}
 use Rattle.scott_format.specs.Canon.{canon}
-use Rattle.source_reader.specs.Text.{SourceText}
-use Rattle.source_reader.specs.declared.tree.Source.{Source}
 use Rattle.scott_requests.specs.Settings.{DrawSource}
-use Rattle.scott_requests.specs.Request.{Request, check, compile, decompile, play, run}
+use Rattle.scott_requests.specs.Request.{Request, check, compile, decompile, play, translate, run}
 use Rattle.scott_rules.specs.Play as rules
 use Rattle.adv_io.specs.Steps.{trace_of}
 use Rattle.scott_tool.specs.Steps.{◌>>=◌}
 use Rattle.scott_tool.specs.Refusal.{Refusal, Unfit, unfit, unwritten, refusing, content_status}
-use Rattle.scott_tool.specs.Outcome.{Outcome, done, refused, statuses, Concludes, Loses, Ends, whole, unsaid, unstored}
-use Rattle.scott_tool.specs.Loading.{Load, main_of, draws_of, source_load, program_load, stores, loaded, Texts, texts_of}
+use Rattle.scott_tool.specs.Outcome.{Outcome, done, refused, statuses, Ends, whole, unsaid, unstored}
+use Rattle.scott_tool.specs.Loading.{Load, main_of, draws_of, database_load, source_load, program_load, stores, loaded, Texts, texts_of}
 use Rattle.scott_tool.specs.Check.{Checked, database_of_file}
 use Rattle.scott_tool.specs.Compile.{Compiled, IsNoSource, compiled_from}
 use Rattle.scott_tool.specs.Decompile.{Decompiled}
 use Rattle.scott_tool.specs.Play.{Played, draws_from}
-use Rattle.scott_tool.specs.Work.{Task, reporting, storing, playing, running, Does, task_statuses, work, expected, statuses_of}
-use Rattle.scott_tool.specs.Obeying.{Stands, Answers, Leaves, Obeys}
+use Rattle.scott_tool.specs.Work.{Task, reporting, storing, playing, translating, running, Does, task_statuses, work, expected, statuses_of}
+use Rattle.scott_tool.specs.Obeying.{Keeps, Stands, Answers, Leaves, Obeys}
+use Rattle.trans_rows.specs.Wide.{Placed, wide_at}
+use Rattle.translator.specs.Faithful.{Faithful}
+use Rattle.translator.specs.Refusals.{first_line}
+use Rattle.scott_tool.specs.Translate.{Translated, translatable}
 use Rattle.scott_tool.specs.Run.{Ran, ran, run_outcome, program_of_file}
 use Rattle.inform_tree.specs.declared.widths.Width.{Width}
 use Rattle.inform_tree.specs.Programs.{DirectiveTree}
 use Rattle.inform_reader.specs.Reading as reader
 use Rattle.inform_reader.specs.Reading.{IsFaulty}
-use Rattle.scott_tool.specs.Causes.{MainHas, SourceHas, DrawsHave, HasNoProgram, RunEnds, HasCause}
+use Rattle.scott_tool.specs.Causes.{MainHas, SourceHas, DrawsHave, HasNoProgram, HasLine, HasWideNumber, RunEnds, HasCause}
 use Rattle.scott_tool.specs.Promises.{IfKnown, SaysUnread, NameKeeps}
 use Rattle.scott_tool.proofs.Files.{bind-ok, texts-loaded, there-loaded}
 use Rattle.scott_tool.proofs.Statuses.{IsEnd, only, is_2, is_3, is_9, is_content, is_end, task_end, not_end, Tells, of_task, of_fault, of_memory, of_console, of_shelf, tells}
 use Rattle.scott_tool.proofs.Obeying.{refusal_not, refused_not_0, refused_not_end}
-use Rattle.scott_tool.proofs.Readings.{Laws, Fails, bad_database, bad_source, bad_program, bad_draws, fails, run_request, main_is, meant_is, program_is, draws_are}
-use Rattle.scott_tool.proofs.Promised.{Promises, from_files, from_lines, expected-ok, name_keeps, complete_from}
+use Rattle.scott_tool.proofs.Readings.{Laws, Fails, bad_database, bad_source, bad_program, bad_line, bad_width, bad_draws, fails, run_request, translatable_same, main_is, meant_is, program_is, draws_are}
+use Rattle.scott_tool.proofs.Promised.{Promises, from_files, from_lines, expected-ok, complete_from}
 
 module _ (shelf shelf' : ShelfView) (console console' : ConsoleView) (status : ℕ) where
   abbrev Broke : Type 0
@@ -142,16 +143,42 @@ module _ (shelf shelf' : ShelfView) (console console' : ConsoleView) (status : �
           (λ files e. (load, texts.draws, is, there-loaded files load texts.draws (ap (λ l. loaded files l) (sym is) ∙ (texts-loaded files request texts e).1), p)) there
 
       abbrev NoDatabase : Type 0
-      NoDatabase = IfSome shelf.files (λ files. MainHas files (Some request) (λ bytes. (fault : Fault) × DatFault bytes fault))
+      NoDatabase = IfSome shelf.files (λ files. MainHas files (Some request) (λ bytes. (fault : Fault) × DatFault bytes fault) ⊎ HasLine files (Some request))
+
+      abbrev TooWide : Type 0
+      TooWide = IfSome shelf.files (λ files. HasWideNumber files (Some request))
 
       abbrev NoSourceOrDraws : Type 0
       NoSourceOrDraws = IfSome shelf.files (λ files. SourceHas files (Some request) IsNoSource ⊎ DrawsHave files (Some request) (λ bytes. (at : ℕ) × (listed_draws bytes ≡ Err at)))
 
+      -- the database of a request that translates it
+      game_there : (game program : List ℕ) (style : Style) (width : Width) → request ≡ translate game program style width
+          → IfSome shelf.files (λ files. get files game ≡ Some texts.main)
+      game_there game program style width is =
+          from_files shelf.files (λ files. texts_of files request ≡ Ok texts) (λ files. get files game ≡ Some texts.main)
+          (λ files e. there-loaded files (database_load game) texts.main (ap (λ r. loaded files (main_of r)) (sym is) ∙ (texts-loaded files request texts e).0)) there
+
+      line_has : (game program : List ℕ) (style : Style) (width : Width) (db : Database) (k : ℕ) → request ≡ translate game program style width
+          → DatText texts.main db → first_line db ≡ Some k → IfSome shelf.files (λ files. HasLine files (Some request))
+      line_has game program style width db k is text line =
+          from_files shelf.files (λ files. get files game ≡ Some texts.main) (λ files. HasLine files (Some request))
+          (λ files there. subst (λ (r : Request). HasLine files (Some r)) (sym is) (texts.main, db, k, there, text, line)) (game_there game program style width is)
+
+      wide_has : (game program : List ℕ) (style : Style) (width : Width) (db : Database) (placed : Placed) → request ≡ translate game program style width
+          → DatText texts.main db → first_line db ≡ None → wide_at width db ≡ Some placed → TooWide
+      wide_has game program style width db placed is text none wide =
+          from_files shelf.files (λ files. get files game ≡ Some texts.main) (λ files. HasWideNumber files (Some request))
+          (λ files there. subst (λ (r : Request). HasWideNumber files (Some r)) (sym is) (texts.main, db, placed, there, text, none, wide)) (game_there game program style width is)
+
       database_cause : Laws → (u : Unfit) → Fails request texts u → content_status u.fault ≡ 4 → NoDatabase
       database_cause laws u (bad_database load fault is reads e) four =
-          main_has (λ bytes. (f : Fault) × DatFault bytes f) load is (fault, (laws.database_fault texts.main fault).0 reads)
+          from_files shelf.files (λ files. MainHas files (Some request) (λ bytes. (f : Fault) × DatFault bytes f)) _ (λ files h. inl h)
+          (main_has (λ bytes. (f : Fault) × DatFault bytes f) load is (fault, (laws.database_fault texts.main fault).0 reads))
       database_cause laws u (bad_source source game is why e) four = absurd (omega arith)
       database_cause laws u (bad_program name source steps width fault is why e) four = absurd (omega arith)
+      database_cause laws u (bad_line game program style width db k is text line e) four =
+          from_files shelf.files (λ files. HasLine files (Some request)) _ (λ files h. inr h) (line_has game program style width db k is text line)
+      database_cause laws u (bad_width game program style width db placed is text none wide e) four = absurd (omega arith)
       database_cause laws u (bad_draws load at is lists e) four = absurd (omega arith)
 
       -- the source of a request that compiles it
@@ -166,6 +193,8 @@ module _ (shelf shelf' : ShelfView) (console console' : ConsoleView) (status : �
       source_or_draws_cause u (bad_source source game is why e) five =
           from_files shelf.files (λ files. SourceHas files (Some request) IsNoSource) _ (λ files h. inl h) (source_has source game is why)
       source_or_draws_cause u (bad_program name source steps width fault is why e) five = absurd (omega arith)
+      source_or_draws_cause u (bad_line game program style width db k is text line e) five = absurd (omega arith)
+      source_or_draws_cause u (bad_width game program style width db placed is text none wide e) five = absurd (omega arith)
       source_or_draws_cause u (bad_draws load at is lists e) five =
           from_files shelf.files (λ files. DrawsHave files (Some request) (λ bytes. (place : ℕ) × (listed_draws bytes ≡ Err place))) _ (λ files h. inr h)
           (draws_have (λ bytes. (place : ℕ) × (listed_draws bytes ≡ Err place)) load is (at, lists))
@@ -185,16 +214,29 @@ module _ (shelf shelf' : ShelfView) (console console' : ConsoleView) (status : �
       program_cause u (bad_database load fault is reads e) six = absurd (omega arith)
       program_cause u (bad_source source game is why e) six = absurd (omega arith)
       program_cause u (bad_program name source steps width fault is why e) six = program_has name source steps width fault is why
+      program_cause u (bad_line game program style width db k is text line e) six = absurd (omega arith)
+      program_cause u (bad_width game program style width db placed is text none wide e) six = absurd (omega arith)
       program_cause u (bad_draws load at is lists e) six = absurd (omega arith)
 
-      content_is : (u : Unfit) (n : ℕ) → Fails request texts u → status ≡ content_status u.fault → status ≡ n → (n ≡ 4) ⊎ (n ≡ 5) ⊎ (n ≡ 6)
+      width_cause : (u : Unfit) → Fails request texts u → content_status u.fault ≡ 7 → TooWide
+      width_cause u (bad_database load fault is reads e) seven = absurd (omega arith)
+      width_cause u (bad_source source game is why e) seven = absurd (omega arith)
+      width_cause u (bad_program name source steps width fault is why e) seven = absurd (omega arith)
+      width_cause u (bad_line game program style width db k is text line e) seven = absurd (omega arith)
+      width_cause u (bad_width game program style width db placed is text none wide e) seven = wide_has game program style width db placed is text none wide
+      width_cause u (bad_draws load at is lists e) seven = absurd (omega arith)
+
+      content_is : (u : Unfit) (n : ℕ) → Fails request texts u → status ≡ content_status u.fault → status ≡ n → (n ≡ 4) ⊎ (n ≡ 5) ⊎ (n ≡ 6) ⊎ (n ≡ 7)
       content_is u n (bad_database load fault is reads e) s f = inl (omega arith)
       content_is u n (bad_source source game is why e) s f = inr (inl (omega arith))
-      content_is u n (bad_program name source steps width fault is why e) s f = inr (inr (omega arith))
+      content_is u n (bad_program name source steps width fault is why e) s f = inr (inr (inl (omega arith)))
+      content_is u n (bad_line game program style width db k is text line e) s f = inl (omega arith)
+      content_is u n (bad_width game program style width db placed is text none wide e) s f = inr (inr (inr (omega arith)))
       content_is u n (bad_draws load at is lists e) s f = inr (inl (omega arith))
 
-      not_content : (u : Unfit) (n : ℕ) → Fails request texts u → status ≡ content_status u.fault → (n ≡ 4 → ⊥) → (n ≡ 5 → ⊥) → (n ≡ 6 → ⊥) → status ≡ n → ⊥
-      not_content u n f s not_4 not_5 not_6 e = elim (content_is u n f s e) [ inl h ↦ not_4 h | inr (inl h) ↦ not_5 h | inr (inr h) ↦ not_6 h ]
+      not_content : (u : Unfit) (n : ℕ) → Fails request texts u → status ≡ content_status u.fault → (n ≡ 4 → ⊥) → (n ≡ 5 → ⊥) → (n ≡ 6 → ⊥) → (n ≡ 7 → ⊥) → status ≡ n → ⊥
+      not_content u n f s not_4 not_5 not_6 not_7 e =
+          elim (content_is u n f s e) [ inl h ↦ not_4 h | inr (inl h) ↦ not_5 h | inr (inr (inl h)) ↦ not_6 h | inr (inr (inr h)) ↦ not_7 h ]
 
       -- the run of the request ends with this status, with the lines that are left
       abbrev Ended : ℕ → Type 0
@@ -213,6 +255,7 @@ module _ (shelf shelf' : ShelfView) (console console' : ConsoleView) (status : �
       task_ended laws (reporting db) is h not_0 = absurd (not_0 (sym (only 0 status h)))
       task_ended laws (storing name bytes) is h not_0 = absurd (not_0 (sym (only 0 status h)))
       task_ended laws (playing style db draws) is h not_0 = absurd (not_0 (sym (only 0 status h)))
+      task_ended laws (translating name style width db) is h not_0 = absurd (not_0 (sym (only 0 status h)))
       task_ended laws (running width p draws steps) is h not_0 =
           let q = run_request request texts width p draws steps is in
           run_ended laws q.0 q.1 steps width q.2 (task_end (running width p draws steps) status h)
@@ -228,6 +271,7 @@ module _ (shelf shelf' : ShelfView) (console console' : ConsoleView) (status : �
             no_database = λ e. absurd (no 4 end (λ n. omega arith) (λ n. omega arith) (λ n. omega arith) e);
             no_source_or_draws = λ e. absurd (no 5 end (λ n. omega arith) (λ n. omega arith) (λ n. omega arith) e);
             no_program = λ e. absurd (no 6 end (λ n. omega arith) (λ n. omega arith) (λ n. omega arith) e);
+            too_wide = λ e. absurd (no 7 end (λ n. omega arith) (λ n. omega arith) (λ n. omega arith) e);
             trapped = λ e. subst Ended e (task_ended laws task is h (λ z. omega arith));
             memory = λ e. refl;
             spent = λ e. subst Ended e (task_ended laws task is h (λ z. omega arith));
@@ -236,16 +280,17 @@ module _ (shelf shelf' : ShelfView) (console console' : ConsoleView) (status : �
       worked_cause laws (of_fault u is s) =
           let f = fails laws request texts u is in
           record {
-            no_request = λ e. absurd (not_content u 1 f s (λ n. omega arith) (λ n. omega arith) (λ n. omega arith) e);
-            unread = λ e. absurd (not_content u 2 f s (λ n. omega arith) (λ n. omega arith) (λ n. omega arith) e);
-            unsaid = λ e. absurd (not_content u 3 f s (λ n. omega arith) (λ n. omega arith) (λ n. omega arith) e);
+            no_request = λ e. absurd (not_content u 1 f s (λ n. omega arith) (λ n. omega arith) (λ n. omega arith) (λ n. omega arith) e);
+            unread = λ e. absurd (not_content u 2 f s (λ n. omega arith) (λ n. omega arith) (λ n. omega arith) (λ n. omega arith) e);
+            unsaid = λ e. absurd (not_content u 3 f s (λ n. omega arith) (λ n. omega arith) (λ n. omega arith) (λ n. omega arith) e);
             no_database = λ e. database_cause laws u f (sym s ∙ e);
             no_source_or_draws = λ e. source_or_draws_cause u f (sym s ∙ e);
             no_program = λ e. program_cause u f (sym s ∙ e);
-            trapped = λ e. absurd (not_content u 8 f s (λ n. omega arith) (λ n. omega arith) (λ n. omega arith) e);
-            spent = λ e. absurd (not_content u 10 f s (λ n. omega arith) (λ n. omega arith) (λ n. omega arith) e);
+            too_wide = λ e. width_cause u f (sym s ∙ e);
+            trapped = λ e. absurd (not_content u 8 f s (λ n. omega arith) (λ n. omega arith) (λ n. omega arith) (λ n. omega arith) e);
+            spent = λ e. absurd (not_content u 10 f s (λ n. omega arith) (λ n. omega arith) (λ n. omega arith) (λ n. omega arith) e);
             memory = λ e. refl;
-            too_long = λ e. absurd (not_content u 11 f s (λ n. omega arith) (λ n. omega arith) (λ n. omega arith) e);
+            too_long = λ e. absurd (not_content u 11 f s (λ n. omega arith) (λ n. omega arith) (λ n. omega arith) (λ n. omega arith) e);
           }
       worked_cause laws (of_memory nine) = record {
         no_request = λ e. absurd (omega arith);
@@ -254,6 +299,7 @@ module _ (shelf shelf' : ShelfView) (console console' : ConsoleView) (status : �
         no_database = λ e. absurd (omega arith);
         no_source_or_draws = λ e. absurd (omega arith);
         no_program = λ e. absurd (omega arith);
+        too_wide = λ e. absurd (omega arith);
         trapped = λ e. absurd (omega arith);
         spent = λ e. absurd (omega arith);
         memory = λ e. refl;
@@ -266,6 +312,7 @@ module _ (shelf shelf' : ShelfView) (console console' : ConsoleView) (status : �
         no_database = λ e. absurd (omega arith);
         no_source_or_draws = λ e. absurd (omega arith);
         no_program = λ e. absurd (omega arith);
+        too_wide = λ e. absurd (omega arith);
         trapped = λ e. absurd (omega arith);
         spent = λ e. absurd (omega arith);
         memory = λ e. refl;
@@ -278,6 +325,7 @@ module _ (shelf shelf' : ShelfView) (console console' : ConsoleView) (status : �
         no_database = λ e. absurd (omega arith);
         no_source_or_draws = λ e. absurd (omega arith);
         no_program = λ e. absurd (omega arith);
+        too_wide = λ e. absurd (omega arith);
         trapped = λ e. absurd (omega arith);
         spent = λ e. absurd (omega arith);
         memory = λ e. refl;
@@ -385,7 +433,8 @@ module _ (shelf shelf' : ShelfView) (console console' : ConsoleView) (status : �
       → shelf'.files ≡ Some (insert files name bytes)
   stored_files files name bytes task is same leaves zero =
       let keeps = subst (λ (t : Task). Leaves shelf shelf' (Ok t) status) (sym same) leaves in
-      keeps.stored zero ∙ ap (λ known. with_file known name bytes) is
+      let kept = keeps.stored zero in
+      kept.2 ∙ ap (λ out. with_file shelf.files name out) kept.1 ∙ ap (λ known. with_file known name bytes) is
 
   compiled_by : (laws : Laws) (source game : List ℕ) (texts : Texts) (files : Files) → shelf.files ≡ Some files → texts_of files (compile source game) ≡ Ok texts
       → (task : Task) → work (compile source game) texts ≡ Ok task → Leaves shelf shelf' (Ok task) status → status ≡ 0 → Compiled files source game shelf'.files
@@ -411,9 +460,39 @@ module _ (shelf shelf' : ShelfView) (console console' : ConsoleView) (status : �
       let same : storing source (plain d.0) ≡ task = (let f = d.2 in cc) in
       record { bytes = texts.main; db = d.0; there = m.0; text = m.1; stored = stored_files files source (plain d.0) task is same leaves zero }
 
+  -- the files after a request that stores a program
+  stored_program : (files : Files) (game program : List ℕ) (style : Style) (width : Width) (bytes : List ℕ) (db : Database) → shelf.files ≡ Some files
+      → get files game ≡ Some bytes → DatText bytes db → Leaves shelf shelf' (Ok (translating program style width db)) status → status ≡ 0
+      → Translated files game program style width shelf'.files
+  stored_program files game program style width bytes db is there text keeps zero =
+      let kept = keeps.stored zero in
+      record {
+        bytes = bytes;
+        db = db;
+        out = kept.0;
+        there = there;
+        text = text;
+        faithful = kept.1;
+        stored = kept.2 ∙ ap (λ known. with_file known program kept.0) is;
+      }
+
+  translated_by : (laws : Laws) (game program : List ℕ) (style : Style) (width : Width) (texts : Texts) (files : Files) → shelf.files ≡ Some files
+      → texts_of files (translate game program style width) ≡ Ok texts → (task : Task) → work (translate game program style width) texts ≡ Ok task
+      → Leaves shelf shelf' (Ok task) status → status ≡ 0 → Translated files game program style width shelf'.files
+  translated_by laws game program style width texts files is e task w leaves zero =
+      let d = bind-ok (database_of_file game texts.main) (λ db. translatable game width db >>= λ fit. Ok (translating program style width fit)) task w in
+      let r = bind-ok (translatable game width d.0) (λ fit. Ok (translating program style width fit)) task d.2 in
+      let m = main_is files laws game texts.main d.0 (texts-loaded files (translate game program style width) texts e).0 d.1 in
+      let same : translating program style width r.0 ≡ task = (let f = r.2 in cc) in
+      let fits : translating program style width d.0 ≡ task = subst (λ (db : Database). translating program style width db ≡ task) (translatable_same game width d.0 r.0 r.1) same in
+      stored_program files game program style width texts.main d.0 is m.0 m.1 (subst (λ (t : Task). Leaves shelf shelf' (Ok t) status) (sym fits) leaves) zero
+
+  keeps_some : (name : List ℕ) (MayBe : List ℕ → Type 0) → Keeps shelf shelf' name MayBe status → NameKeeps shelf shelf' (Some name) status
+  keeps_some name MayBe h = elim h.stay [ inl zero ↦ (let kept = h.stored zero in inl (zero, (kept.0, kept.2))) | inr other ↦ inr other ]
+
   kept_as : (name : List ℕ) (text : Database → List ℕ) (read : Result Database Unfit) → Leaves shelf shelf' (refusing (read >>= λ db. Ok (storing name (text db)))) status
       → NameKeeps shelf shelf' (Some name) status
-  kept_as name text (Ok db) h = elim h.stay [ inl zero ↦ inl (zero, (text db, h.stored zero)) | inr other ↦ inr other ]
+  kept_as name text (Ok db) h = keeps_some name (λ out. out ≡ text db) h
   kept_as name text (Err u) h = inr (inl h)
 
   -- what a request stores is under the name that it has for it
@@ -425,6 +504,17 @@ module _ (shelf shelf' : ShelfView) (console console' : ConsoleView) (status : �
       by (Err u) h = h
   keeps_name (compile source game) texts leaves = kept_as game canon (compiled_from source texts.main) leaves
   keeps_name (decompile game source) texts leaves = kept_as source plain (database_of_file game texts.main) leaves
+  keeps_name (translate game program style width) texts leaves = by (database_of_file game texts.main) leaves
+    where
+      by : (read : Result Database Unfit) → Leaves shelf shelf' (refusing (read >>= λ db. translatable game width db >>= λ fit. Ok (translating program style width fit))) status
+          → NameKeeps shelf shelf' (Some program) status
+      by (Err u) h = inr (inl h)
+      by (Ok db) h = by_fit (translatable game width db) h
+        where
+          by_fit : (fit : Result Database Unfit) → Leaves shelf shelf' (refusing (fit >>= λ db. Ok (translating program style width db))) status
+              → NameKeeps shelf shelf' (Some program) status
+          by_fit (Ok db) h = keeps_some program (Faithful style width db None) h
+          by_fit (Err u) h = inr (inl h)
   keeps_name (run name source steps width) texts leaves = by (program_of_file width name texts.main) (draws_from source texts.draws) leaves
     where
       by : (read : Result (List DirectiveTree) Unfit) (listed : Result (List ℕ) Unfit)
@@ -471,6 +561,11 @@ module _ (shelf shelf' : ShelfView) (console console' : ConsoleView) (status : �
             let is : request ≡ play game source style = cc in
             known_both (play game source style) texts (subst P is there) (subst Q is obeys) (λ files lines. Played files lines game source style console console') zero
             (λ files lines f d. played_by laws game source style texts files lines f d.0 d.1 d.2 d.3 d.4);
+        translated = λ zero game program style width e.
+            let is : request ≡ translate game program style width = cc in
+            let m = made (translate game program style width) texts (subst P is there) (subst Q is obeys) zero in
+            known_files (translate game program style width) texts (subst P is there) (subst Q is obeys) (λ files. Translated files game program style width shelf'.files)
+            (λ files known f. translated_by laws game program style width texts files known f m.0 m.1 m.2 zero);
         ran = λ end name source steps width e.
             let is : request ≡ run name source steps width = cc in
             let O : Request → Type 0 = λ r. IfSome console.left (λ lines. Answers shelf shelf' console console' lines (refusing (work r texts)) status) in

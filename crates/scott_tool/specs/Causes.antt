@@ -8,8 +8,10 @@ use Rattle.adv_io.specs.Shelf.{Files, ShelfView, Lacks}
 use Rattle.scott_format.specs.Faults.{Fault}
 use Rattle.scott_format.specs.File.{DatText, DatFault}
 use Rattle.scott_requests.specs.Settings.{DrawSource}
-use Rattle.scott_requests.specs.Request.{Request, check, compile, decompile, play, run}
+use Rattle.scott_requests.specs.Request.{Request, check, compile, decompile, play, translate, run}
 use Rattle.scott_types.specs.Database.{Database}
+use Rattle.trans_rows.specs.Wide.{Placed, wide_at}
+use Rattle.translator.specs.Refusals.{first_line}
 use Rattle.adv_compiler.specs.Meaning.{meant}
 use Rattle.source_reader.specs.Text.{SourceText}
 use Rattle.source_reader.specs.declared.tree.Source.{Source}
@@ -42,6 +44,19 @@ abbrev pub HasNoProgram : Files → Option Request → Type 0
 HasNoProgram files (Some (run name source steps width)) = (bytes : List ℕ) × (fault : program.Fault) × (get files name ≡ Some bytes) × IsFaulty width bytes fault
 HasNoProgram files _ = ⊥
 
+-- the database that the request translates has a line that isn't all zeros
+abbrev pub HasLine : Files → Option Request → Type 0
+HasLine files (Some (translate game program style width)) =
+    (bytes : List ℕ) × (db : Database) × (k : ℕ) × (get files game ≡ Some bytes) × DatText bytes db × (first_line db ≡ Some k)
+HasLine files _ = ⊥
+
+-- it has no such line, and a number that is no word of the request's width
+abbrev pub HasWideNumber : Files → Option Request → Type 0
+HasWideNumber files (Some (translate game program style width)) =
+    (bytes : List ℕ) × (db : Database) × (placed : Placed) × (get files game ≡ Some bytes) × DatText bytes db
+    × (first_line db ≡ None) × (wide_at width db ≡ Some placed)
+HasWideNumber files _ = ⊥
+
 -- the run of the request, with these lines, ends with this status
 abbrev pub RunEnds : Files → List (List ℕ) → Option Request → ℕ → Type 0
 RunEnds files lines (Some (run name source steps width)) status =
@@ -63,9 +78,10 @@ pub record HasCause (shelf shelf' : ShelfView) (console console' : ConsoleView) 
   pub no_request : status ≡ 1 → asked ≡ None
   pub unread : status ≡ 2 → Rose shelf.faults shelf'.faults ⊎ OneLoaded asked (λ load. Lacks shelf.files load.name)
   pub unsaid : status ≡ 3 → Rose console.faults console'.faults
-  pub no_database : status ≡ 4 → IfSome shelf.files (λ files. MainHas files asked (λ bytes. (fault : Fault) × DatFault bytes fault))
+  pub no_database : status ≡ 4 → IfSome shelf.files (λ files. MainHas files asked (λ bytes. (fault : Fault) × DatFault bytes fault) ⊎ HasLine files asked)
   pub no_source_or_draws : status ≡ 5 → IfSome shelf.files (λ files. SourceHas files asked IsNoSource ⊎ DrawsHave files asked (λ bytes. (at : ℕ) × (listed_draws bytes ≡ Err at)))
   pub no_program : status ≡ 6 → IfSome shelf.files (λ files. HasNoProgram files asked)
+  pub too_wide : status ≡ 7 → IfSome shelf.files (λ files. HasWideNumber files asked)
   pub trapped : status ≡ 8 → IfSome shelf.files (λ files. IfSome console.left (λ lines. RunEnds files lines asked 8))
   pub memory : status ≡ 9 → IsSome asked
   pub spent : status ≡ 10 → IfSome shelf.files (λ files. IfSome console.left (λ lines. RunEnds files lines asked 10))
@@ -79,6 +95,12 @@ IsLoadable files load bytes = (get files load.name ≡ Some bytes) × (length by
 
 abbrev pub IsGame : Files → List ℕ → Type 0
 IsGame files name = (bytes : List ℕ) × (db : Database) × IsLoadable files (database_load name) bytes × DatText bytes db
+
+-- a text of a database without lines, whose numbers are words of this width
+abbrev pub IsTranslatable : Files → List ℕ → Width → Type 0
+IsTranslatable files name width =
+    (bytes : List ℕ) × (db : Database) × IsLoadable files (database_load name) bytes × DatText bytes db
+    × (first_line db ≡ None) × (wide_at width db ≡ None)
 
 -- a text of a source that means a database
 abbrev pub IsSource : Files → List ℕ → Type 0
@@ -103,4 +125,5 @@ IsAccepted files left (Some (check game)) = IsGame files game
 IsAccepted files left (Some (compile source game)) = IsSource files source
 IsAccepted files left (Some (decompile game source)) = IsGame files game
 IsAccepted files left (Some (play game source style)) = IsGame files game × HasDraws files (draws_load source)
+IsAccepted files left (Some (translate game program style width)) = IsTranslatable files game width
 IsAccepted files left (Some (run name source steps width)) = IsRun files left name source steps width × HasDraws files (draws_load source)

@@ -6,6 +6,7 @@ pub mod Check
 pub mod Compile
 pub mod Decompile
 pub mod Play
+pub mod Translate
 pub mod Run
 pub mod Work
 pub mod Views

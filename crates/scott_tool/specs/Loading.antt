@@ -4,7 +4,7 @@ use Rattle.std.specs.FinMap.{get}
 use Rattle.adv_io.specs.Shelf.{Files}
 use Rattle.scott_format.specs.declared.reading.TheConstants.{DATABASE_LIMIT}
 use Rattle.scott_requests.specs.Settings.{DrawSource, listed, seeded}
-use Rattle.scott_requests.specs.Request.{Request, check, compile, decompile, play, run}
+use Rattle.scott_requests.specs.Request.{Request, check, compile, decompile, play, translate, run}
 use Rattle.inform_reader.specs.declared.reading.TheConstants.{PROGRAM_LIMIT}
 use Rattle.scott_tool.specs.declared.loads.TheConstants.{SOURCE_LIMIT, DRAWS_LIMIT}
 use Rattle.scott_tool.specs.Steps.{◌>>=◌}
@@ -35,6 +35,7 @@ main_of (check game) = Some (database_load game)
 main_of (compile source game) = Some (source_load source)
 main_of (decompile game source) = Some (database_load game)
 main_of (play game source style) = Some (database_load game)
+main_of (translate game program style width) = Some (database_load game)
 main_of (run program source steps width) = Some (program_load program)
 
 abbrev pub draws_of : Request → Option Load
@@ -42,6 +43,7 @@ draws_of (check game) = None
 draws_of (compile source game) = None
 draws_of (decompile game source) = None
 draws_of (play game source style) = draws_load source
+draws_of (translate game program style width) = None
 draws_of (run program source steps width) = draws_load source
 
 -- the name of the file that a request stores
@@ -50,6 +52,7 @@ stores (check game) = None
 stores (compile source game) = Some game
 stores (decompile game source) = Some source
 stores (play game source style) = None
+stores (translate game program style width) = Some program
 stores (run program source steps width) = None
 
 -- one of the files that a request loads

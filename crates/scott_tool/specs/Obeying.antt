@@ -10,9 +10,10 @@ use Rattle.scott_requests.specs.Request.{Request}
 use Rattle.scott_tool.specs.declared.refusals.ContentFault.TheVariants.{NoDatabase}
 use Rattle.scott_tool.specs.declared.refusals.Refusal.{Refusal as HeldRefusal}
 use Rattle.scott_tool.specs.Refusal.{Refusal, Unfit, no_request, unread, too_long, unfit, unwritten, refusing}
-use Rattle.scott_tool.specs.Outcome.{Outcome, done, refused, Concludes, Silent, Loses, Ends}
+use Rattle.translator.specs.Faithful.{Faithful}
+use Rattle.scott_tool.specs.Outcome.{Outcome, done, keeping, refused, Concludes, Silent, Loses, Ends}
 use Rattle.scott_tool.specs.Loading.{Load, Texts, main_of, IsLoad, texts_of}
-use Rattle.scott_tool.specs.Work.{Task, reporting, storing, playing, running, Does, work, statuses_of, IsExpected}
+use Rattle.scott_tool.specs.Work.{Task, reporting, storing, playing, translating, running, Does, work, statuses_of, IsExpected}
 use Rattle.scott_tool.specs.Views.{refusal_of}
 
 -- ---- outcomes
@@ -27,16 +28,17 @@ abbrev pub Answers : (shelf shelf' : ShelfView) → (old new : ConsoleView) → 
 Answers shelf shelf' old new lines expected status =
     ((o : Outcome) × IsExpected expected lines o × Ends shelf shelf' old new o status) ⊎ Silent old new status
 
--- the file is stored with status 0; else the files stay, or the shelf failed as it stored
-pub record Keeps (shelf shelf' : ShelfView) (name bytes : List ℕ) (status : ℕ) : Type 0 where
-  pub stored : status ≡ 0 → shelf'.files ≡ with_file shelf.files name bytes
+-- bytes that may be are stored with status 0; else the files stay, or the shelf failed as it stored
+pub record Keeps (shelf shelf' : ShelfView) (name : List ℕ) (MayBe : List ℕ → Type 0) (status : ℕ) : Type 0 where
+  pub stored : status ≡ 0 → (bytes : List ℕ) × MayBe bytes × (shelf'.files ≡ with_file shelf.files name bytes)
   pub stay : (status ≡ 0) ⊎ (shelf'.files ≡ shelf.files) ⊎ Loses shelf shelf' name
 
 -- the files after what is expected; they stay where it stores nothing
 abbrev pub Leaves : (shelf shelf' : ShelfView) → Result Task Refusal → (status : ℕ) → Type 0
 Leaves shelf shelf' (Ok (reporting db)) status = shelf'.files ≡ shelf.files
-Leaves shelf shelf' (Ok (storing name bytes)) status = Keeps shelf shelf' name bytes status
+Leaves shelf shelf' (Ok (storing name bytes)) status = Keeps shelf shelf' name (λ out. out ≡ bytes) status
 Leaves shelf shelf' (Ok (playing style db draws)) status = shelf'.files ≡ shelf.files
+Leaves shelf shelf' (Ok (translating name style width db)) status = Keeps shelf shelf' name (Faithful style width db None) status
 Leaves shelf shelf' (Ok (running width p draws steps)) status = shelf'.files ≡ shelf.files
 Leaves shelf shelf' (Err refusal) status = shelf'.files ≡ shelf.files
 
@@ -101,9 +103,9 @@ abbrev pub Makes : {A : Type 0} → Result (Vec ℕ A) HeldRefusal → Result Ta
 Makes (Ok bytes) expected = (task : Task) × (expected ≡ Ok task) × ((lines : List (List ℕ)) → Does task lines (done (says bytes.items)))
 Makes (Err refusal) expected = Declines expected (refusal_of refusal)
 
--- bytes are what the expected task stores under a name
+-- bytes are what the expected task stores under a name, whatever lines are left
 abbrev pub MakesFile : {A : Type 0} → List ℕ → Result (Vec ℕ A) HeldRefusal → Result Task Unfit → Type 0
-MakesFile name (Ok bytes) expected = expected ≡ Ok (storing name bytes.items)
+MakesFile name (Ok bytes) expected = (task : Task) × (expected ≡ Ok task) × ((lines : List (List ℕ)) → Does task lines (keeping name bytes.items))
 MakesFile name (Err refusal) expected = Declines expected (refusal_of refusal)
 
 -- why a file wasn't stored: memory ran out and all stayed, or the shelf failed

@@ -7,10 +7,10 @@ use Rattle.adv_io.specs.History.{says, grown, GrewByPrefix}
 use Rattle.adv_io.specs.Shelf.{Files, ShelfView, with_file, without}
 use Rattle.scott_tool.specs.Refusal.{Refusal, unwritten, status_of, line_of}
 
--- 0: done. 1: no request. 2: a file can't be read or written. 3: the console failed. 4: no database. 5: no source or no draws. 6: no
--- program that is accepted. 8: a trap. 9: want of memory. 10: steps spent. 11: a file is too long.
+-- 0: done. 1: no request. 2: a file can't be read or written. 3: the console failed. 4: no database, or one with a line that can't be translated yet. 5: no source or no draws. 6: no
+-- program that is accepted. 7: a number is too wide for a program. 8: a trap. 9: want of memory. 10: steps spent. 11: a file is too long.
 abbrev pub statuses : List ℕ
-statuses = 0 ∷ 1 ∷ 2 ∷ 3 ∷ 4 ∷ 5 ∷ 6 ∷ 8 ∷ 9 ∷ 10 ∷ 11 ∷ []
+statuses = 0 ∷ 1 ∷ 2 ∷ 3 ∷ 4 ∷ 5 ∷ 6 ∷ 7 ∷ 8 ∷ 9 ∷ 10 ∷ 11 ∷ []
 
 pub record File : Type 0 where
   pub name : List ℕ

@@ -4,7 +4,7 @@ use Rattle.adv_io.specs.Console.{ConsoleView}
 use Rattle.adv_io.specs.Faults.{Rose}
 use Rattle.adv_io.specs.Shelf.{Files, ShelfView, with_file}
 use Rattle.scott_requests.specs.Settings.{DrawSource}
-use Rattle.scott_requests.specs.Request.{Request, check, compile, decompile, play, run}
+use Rattle.scott_requests.specs.Request.{Request, check, compile, decompile, play, translate, run}
 use Rattle.scott_types.specs.declared.styles.Style.{Style}
 use Rattle.scott_tool.specs.Refusal.{no_request, unread}
 use Rattle.scott_tool.specs.Outcome.{statuses, refused, Concludes, Loses}
@@ -16,6 +16,7 @@ use Rattle.scott_tool.specs.Check.{Checked}
 use Rattle.scott_tool.specs.Compile.{Compiled}
 use Rattle.scott_tool.specs.Decompile.{Decompiled}
 use Rattle.scott_tool.specs.Play.{Played}
+use Rattle.scott_tool.specs.Translate.{Translated}
 use Rattle.scott_tool.specs.Run.{Ran}
 use Rattle.inform_tree.specs.declared.widths.Width.{Width}
 
@@ -29,7 +30,7 @@ IfKnown shelf console P = IfSome shelf.files (λ files. IfSome console.left (P f
 abbrev pub IsOneOf : (shelf shelf' : ShelfView) → (console console' : ConsoleView) → List ℕ → (status : ℕ) → Type 0
 IsOneOf shelf shelf' console console' wanted status = Stands (Rose shelf.faults shelf'.faults) (Rose console.faults console'.faults) wanted status
 
--- There are eleven statuses, each comes only with its cause, and it is the expected one: that of the first refusal in the order of the
+-- There are twelve statuses, each comes only with its cause, and it is the expected one: that of the first refusal in the order of the
 -- steps, or of what is done.
 pub record HasStatus (shelf shelf' : ShelfView) (console console' : ConsoleView) (asked : Option Request) (status : ℕ) : Type 0 where
   pub known : Contains statuses status
@@ -87,6 +88,11 @@ abbrev pub HasPlayed : ShelfView → (console console' : ConsoleView) → Option
 HasPlayed shelf console console' asked =
     (game : List ℕ) (source : DrawSource) (style : Style) → asked ≡ Some (play game source style)
     → IfKnown shelf console (λ files lines. Played files lines game source style console console')
+
+abbrev pub HasTranslated : (shelf shelf' : ShelfView) → Option Request → Type 0
+HasTranslated shelf shelf' asked =
+    (game program : List ℕ) (style : Style) (width : Width) → asked ≡ Some (translate game program style width)
+    → IfSome shelf.files (λ files. Translated files game program style width shelf'.files)
 
 -- with 0, and with the statuses of a run that ends otherwise
 abbrev pub HasRun : ShelfView → (console console' : ConsoleView) → Option Request → (status : ℕ) → Type 0

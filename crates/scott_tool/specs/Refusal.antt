@@ -6,8 +6,11 @@ use Rattle.adv_draws.specs.Texts as draws
 use Rattle.scott_format.specs.FaultTexts as format
 use Rattle.inform_reader.specs.FaultTexts as program
 use Rattle.source_reader.specs.FaultTexts as source
+use Rattle.translator.specs.declared.faults.TransFault.{TransFault}
+use Rattle.translator.specs.declared.faults.TransFault.TheVariants.{NotBuilt, Wide, Memory}
+use Rattle.translator.specs.FaultTexts as translator
 use Rattle.scott_tool.specs.declared.refusals.ContentFault.{ContentFault}
-use Rattle.scott_tool.specs.declared.refusals.ContentFault.TheVariants.{NoDatabase, NoSource, NoMeaning, NoDraws, NoProgram}
+use Rattle.scott_tool.specs.declared.refusals.ContentFault.TheVariants.{NoDatabase, NoSource, NoMeaning, NoDraws, NoProgram, NoTranslation}
 
 -- the content of the file of this name has a fault
 pub record Unfit : Type 0 where
@@ -29,12 +32,19 @@ refusing (Err u) = Err (unfit u)
 
 -- ---- statuses
 
+-- a line can't be translated yet; a number is too wide for the words of a program; want of memory is no fault of a database
+abbrev pub translation_status : TransFault → ℕ
+translation_status (NotBuilt k) = 4
+translation_status (Wide place value) = 7
+translation_status Memory = 7
+
 abbrev pub content_status : ContentFault → ℕ
 content_status (NoDatabase fault) = 4
 content_status (NoSource fault) = 5
 content_status (NoMeaning fault) = 5
 content_status (NoDraws fault) = 5
 content_status (NoProgram fault) = 6
+content_status (NoTranslation fault) = translation_status fault
 
 abbrev pub status_of : Refusal → ℕ
 status_of no_request = 1
@@ -47,7 +57,7 @@ status_of (unwritten name) = 2
 
 -- how the program is called
 unfoldable pub usage : List ℕ
-usage = codes "usage: scott check F | compile S F | decompile F S | play F | run G\n"
+usage = codes "usage: scott check F | compile S F | decompile F S | play F | translate F G | run G\n"
 
 unfoldable pub cannot_read : List ℕ
 cannot_read = codes "cannot read "
@@ -73,6 +83,7 @@ content_pieces (NoSource fault) = source.fault_pieces fault
 content_pieces (NoMeaning fault) = compiler.fault_pieces fault
 content_pieces (NoDraws fault) = draws.fault_pieces fault
 content_pieces (NoProgram fault) = program.fault_pieces fault
+content_pieces (NoTranslation fault) = translator.fault_pieces fault
 
 abbrev pub whole : List (List ℕ) → List ℕ
 whole pieces = flat_map (λ piece. piece) pieces

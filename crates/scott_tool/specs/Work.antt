@@ -5,7 +5,7 @@ use Rattle.adv_decompiler.specs.Plain.{plain}
 use Rattle.adv_io.specs.History.{says, shown}
 use Rattle.adv_io.specs.Shelf.{Files}
 use Rattle.scott_format.specs.Canon.{canon}
-use Rattle.scott_requests.specs.Request.{Request, check, compile, decompile, play, run}
+use Rattle.scott_requests.specs.Request.{Request, check, compile, decompile, play, translate, run}
 use Rattle.scott_rules.specs.Play as rules
 use Rattle.adv_io.specs.Steps.{trace_of}
 use Rattle.scott_types.specs.declared.styles.Style.{Style}
@@ -18,16 +18,20 @@ use Rattle.scott_tool.specs.Loading.{Texts, texts_of}
 use Rattle.scott_tool.specs.Check.{database_of_file}
 use Rattle.scott_tool.specs.Compile.{compiled_from}
 use Rattle.scott_tool.specs.Play.{draws_from}
+use Rattle.scott_tool.specs.Translate.{translatable}
 use Rattle.scott_tool.specs.Run.{program_of_file, ran, run_outcome}
+use Rattle.translator.specs.Faithful.{Faithful}
 use Rattle.inform_tree.specs.declared.widths.Width.{Width}
 use Rattle.inform_tree.specs.Programs.{DirectiveTree}
 
 -- a database is to be reported on, bytes are to be stored under a name, a database is to be played in this style with these draws,
--- or a program to be run with these draws for so many steps at most, with words of this width
+-- a program that is faithful to a database in this style is to be stored under a name, for words of this width, or a program to be
+-- run with these draws for so many steps at most, with words of this width
 pub data Task : Type 0 where
   reporting : Database → Task
   storing : List ℕ → List ℕ → Task
   playing : Style → Database → List ℕ → Task
+  translating : List ℕ → Style → Width → Database → Task
   running : Width → List DirectiveTree → List ℕ → ℕ → Task
 
 -- what a task does, by the lines that are left
@@ -35,6 +39,7 @@ abbrev pub Does : Task → List (List ℕ) → Outcome → Type 0
 Does (reporting db) lines o = o ≡ done (says (report_text db))
 Does (storing name bytes) lines o = o ≡ keeping name bytes
 Does (playing style db draws) lines o = o ≡ done (shown (trace_of (rules.play (in_style style db) lines draws).events))
+Does (translating name style width db) lines o = (out : List ℕ) × Faithful style width db None out × (o ≡ keeping name out)
 Does (running width p draws steps) lines o = o ≡ run_outcome p (ran width p steps lines draws)
 
 -- the statuses with which it can end
@@ -42,6 +47,7 @@ abbrev pub task_statuses : Task → List ℕ
 task_statuses (reporting db) = 0 ∷ []
 task_statuses (storing name bytes) = 0 ∷ []
 task_statuses (playing style db draws) = 0 ∷ []
+task_statuses (translating name style width db) = 0 ∷ []
 task_statuses (running width p draws steps) = 0 ∷ 8 ∷ 10 ∷ []
 
 -- The task of a request, by what was loaded; or the first content that is refused, the database before the draws.
@@ -59,6 +65,10 @@ work (play game source style) texts = do
   db ← database_of_file game texts.main
   draws ← draws_from source texts.draws
   Ok (playing style db draws)
+work (translate game program style width) texts = do
+  db ← database_of_file game texts.main
+  fit ← translatable game width db
+  Ok (translating program style width fit)
 work (run program source steps width) texts = do
   p ← program_of_file width program texts.main
   draws ← draws_from source texts.draws

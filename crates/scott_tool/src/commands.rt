@@ -12,6 +12,7 @@ mod play;
 mod run;
 mod saying;
 mod storing;
+mod translate;
 
 use crate::loads::Texts;
 use adv_io::{Console, Shelf};
@@ -22,6 +23,7 @@ use play::play;
 use run::run;
 use scott_requests::Request;
 use std::alloc::Global;
+use translate::translate;
 
 /// Does what was asked for.
 pub fn work<S: Shelf, C: Console>(
@@ -40,6 +42,9 @@ pub fn work<S: Shelf, C: Console>(
         Request::Compile(source, game) => compile(alloc, source, game, texts, shelf, console),
         Request::Decompile(game, source) => decompile(alloc, game, source, texts, shelf, console),
         Request::Play(game, source, style) => play(alloc, game, source, style, texts, console),
+        Request::Translate(game, program, style, width) => {
+            translate(alloc, game, program, style, width, texts, shelf, console)
+        }
         Request::Run(program, source, steps, width) => {
             run(alloc, program, source, steps, width, texts, console)
         }

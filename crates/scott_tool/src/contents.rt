@@ -1,5 +1,5 @@
 //! What the bytes of a file hold, or why they are refused.
-ghost use Rattle.std.specs.Prelude.{◌≡◌, ◌≤◌, IfOk, length};
+ghost use Rattle.std.specs.Prelude.{◌≡◌, ◌≤◌, None, IfOk, length};
 ghost use Rattle.scott_requests.specs.Views.{source_of};
 ghost use Rattle.adv_compiler.specs.Meaning.{meant};
 ghost use Rattle.adv_draws.specs.Listed.{listed_draws};
@@ -8,7 +8,9 @@ ghost use Rattle.source_reader.specs.WellFormed.{WellFormed};
 ghost use Rattle.scott_tool.specs.Check.{database_of_file};
 ghost use Rattle.scott_tool.specs.Compile.{source_or_unfit, meaning_or_unfit, compiled_from};
 ghost use Rattle.scott_tool.specs.Play.{draws_or_unfit, draws_from};
+ghost use Rattle.scott_tool.specs.Translate.{translatable};
 ghost use Rattle.scott_tool.specs.Run.{program_of_file};
+ghost use Rattle.translator.specs.Faithful.{Faithful};
 ghost use Rattle.inform_names.specs.Views.{directives_of};
 ghost use Rattle.scott_tool.specs.Views.{refusal_of};
 ghost use Rattle.scott_tool.specs.Obeying.{Gives, database_refusal};
@@ -21,10 +23,11 @@ use inform_reader::{ProgramFault, read_program};
 use inform_tree::Width;
 use scott_format::{DATABASE_LIMIT, FormatFault, read_db};
 use scott_requests::DrawSource;
-use scott_types::Db;
+use scott_types::{Db, Style};
 use source_reader::{Source, SourceFault, read_source};
 use std::alloc::Global;
 use std::mem::forget;
+use translator::{TransFault, translate};
 
 // Why a file with this fault is refused. Want of memory is no fault of a file.
 fn refusal_for(name: &str, fault: FormatFault) -> Refusal<'_>
@@ -93,6 +96,25 @@ fn listed<'a>(alloc: Global, name: &'a str, bytes: &[u8]) -> Result<Draws, Refus
             Err(Refusal::Unfit(name, ContentFault::NoDraws(DrawFault::NotADraw(at))))
         }
         Err(DrawFault::Memory) => Err(Refusal::Memory),
+    }
+}
+
+/// The text of a program that is faithful to a database, in this style and for words of this width.
+/// The file of this name has the database.
+pub fn translated<'a>(
+    alloc: Global,
+    name: &'a str,
+    db: &Db,
+    style: Style,
+    width: Width,
+) -> Result<Vec<u8>, Refusal<'a>>
+    ensures given { Gives (λ _. db.now) result (translatable name.now width db.now) }
+    ensures faithful { IfOk result (λ text. Faithful style width db.now None text.items) }
+{
+    match translate(alloc, db, style, width, None) {
+        Ok(text) => Ok(text),
+        Err(TransFault::Memory) => Err(Refusal::Memory),
+        Err(fault) => Err(Refusal::Unfit(name, ContentFault::NoTranslation(fault))),
     }
 }
 

@@ -81,6 +81,7 @@ fn main_of(request: Request<'_>) -> Option<Load<'_>>
         Request::Compile(source, _) => Some(source_load(source)),
         Request::Decompile(game, _) => Some(database_load(game)),
         Request::Play(game, _, _) => Some(database_load(game)),
+        Request::Translate(game, _, _, _) => Some(database_load(game)),
         Request::Run(program, _, _, _) => Some(program_load(program)),
     }
 }
@@ -94,6 +95,7 @@ fn draws_of(request: Request<'_>) -> Option<Load<'_>>
         Request::Compile(_, _) => None,
         Request::Decompile(_, _) => None,
         Request::Play(_, source, _) => draws_load(source),
+        Request::Translate(_, _, _, _) => None,
         Request::Run(_, source, _, _) => draws_load(source),
     }
 }

@@ -8,6 +8,7 @@ ghost use Rattle.scott_tool.specs.Start.{status_without_words};
 // What is loaded, what it holds, and why it is refused.
 mod contents;
 mod loads;
+mod refusal_texts;
 mod refusals;
 
 // What each command does.

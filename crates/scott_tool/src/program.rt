@@ -3,7 +3,7 @@ ghost use Rattle.std.specs.Prelude.{◌≡◌, ◌⊎◌, Some};
 ghost use Rattle.scott_requests.specs.Request.{asked_by};
 ghost use Rattle.scott_requests.specs.Views.{request_of};
 ghost use Rattle.scott_tool.specs.Obeying.{Handled};
-ghost use Rattle.scott_tool.specs.Promises.{HasStatus, IsSeen, KeepsFiles, Completes, HasChecked, HasCompiled, HasDecompiled, HasPlayed, HasRun, Counts};
+ghost use Rattle.scott_tool.specs.Promises.{HasStatus, IsSeen, KeepsFiles, Completes, HasChecked, HasCompiled, HasDecompiled, HasPlayed, HasTranslated, HasRun, Counts};
 
 use crate::commands::work;
 use crate::loads::load_texts;
@@ -88,6 +88,11 @@ pub fn scott<S: Shelf, C: Console>(
     // With 0 `play` has shown the play of the file's database.
     ensures played { result ≡ 0 → HasPlayed (S.seen shelf.old)
         (C.seen console.old) (C.seen console.new) (asked_by words.now) }
+
+    // With 0 `translate` has stored the text of a program that is faithful to the file's database:
+    // for every list of lines and draws its run is the play of the database.
+    ensures translated { result ≡ 0 → HasTranslated (S.seen shelf.old) (S.seen shelf.new)
+        (asked_by words.now) }
 
     // With 0, 8 and 10 `run` has shown the run of the file's program, and then its line.
     ensures ran { (result ≡ 0) ⊎ (result ≡ 8) ⊎ (result ≡ 10) → HasRun (S.seen shelf.old)

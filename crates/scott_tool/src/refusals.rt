@@ -2,9 +2,12 @@
 ghost use Rattle.std.specs.Prelude.{◌≡◌, ◌≤◌, [], ◌∷◌, ◌++◌, map, MatchResult};
 ghost use Rattle.adv_io.specs.History.{says};
 ghost use Rattle.adv_io.specs.Console.{Speaks};
-ghost use Rattle.scott_tool.specs.declared.refusals.ContentFault.TheVariants.{NoDatabase, NoSource, NoMeaning, NoDraws, NoProgram};
-ghost use Rattle.scott_tool.specs.Refusal.{no_request, unread, too_long, unfit, unwritten, content_status, whole, usage, cannot_read, cannot_write, after_name, longer_than, bytes_end, line_end, line_of};
+ghost use Rattle.scott_tool.specs.declared.refusals.ContentFault.TheVariants.{NoDatabase, NoSource, NoMeaning, NoDraws, NoProgram, NoTranslation};
+ghost use Rattle.scott_tool.specs.Refusal.{no_request, unread, too_long, unfit, unwritten, translation_status, content_status, whole, after_name, line_end, line_of};
 
+use crate::refusal_texts::{
+    after_name, bytes_end, cannot_read, cannot_write, line_end, longer_than, usage,
+};
 use adv_compiler::CompileFault;
 use adv_draws::DrawFault;
 use adv_io::{Console, ConsoleFault, say_all};
@@ -12,9 +15,11 @@ use inform_reader::ProgramFault;
 use itoa::Buffer;
 use scott_format::FormatFault;
 use source_reader::SourceFault;
+use translator::TransFault;
 
 /// What is wrong with the content of a file: it is no database, no source, a source that means no
-/// database, no list of draws, or no Inform program that is accepted. `Memory` is no fault of a content.
+/// database, no list of draws, no Inform program that is accepted, or a database that isn't
+/// translated. `Memory` is no fault of a content.
 #[derive(Drop)]
 pub enum ContentFault {
     NoDatabase(FormatFault),
@@ -22,6 +27,7 @@ pub enum ContentFault {
     NoMeaning(CompileFault),
     NoDraws(DrawFault),
     NoProgram(ProgramFault),
+    NoTranslation(TransFault),
 }
 
 /// Why a request isn't done.
@@ -40,56 +46,6 @@ pub enum Refusal<'a> {
     Unfit(&'a str, ContentFault),
     Unwritten(&'a str),
     Memory,
-}
-
-// The line that tells how the program is called.
-#[tactic(auto, unfolding(crate::specs::Refusal::usage))]
-fn usage<'a>() -> &'a [u8]
-    ensures { result.now ≡ usage }
-{
-    b"usage: scott check F | compile S F | decompile F S | play F | run G\n"
-}
-
-#[tactic(auto, unfolding(crate::specs::Refusal::cannot_read))]
-fn cannot_read<'a>() -> &'a [u8]
-    ensures { result.now ≡ cannot_read }
-{
-    b"cannot read "
-}
-
-#[tactic(auto, unfolding(crate::specs::Refusal::cannot_write))]
-fn cannot_write<'a>() -> &'a [u8]
-    ensures { result.now ≡ cannot_write }
-{
-    b"cannot write "
-}
-
-#[tactic(auto, unfolding(crate::specs::Refusal::after_name))]
-fn after_name<'a>() -> &'a [u8]
-    ensures { result.now ≡ after_name }
-{
-    b": "
-}
-
-#[tactic(auto, unfolding(crate::specs::Refusal::longer_than))]
-fn longer_than<'a>() -> &'a [u8]
-    ensures { result.now ≡ longer_than }
-{
-    b": longer than "
-}
-
-#[tactic(auto, unfolding(crate::specs::Refusal::bytes_end))]
-fn bytes_end<'a>() -> &'a [u8]
-    ensures { result.now ≡ bytes_end }
-{
-    b" bytes\n"
-}
-
-#[tactic(auto, unfolding(crate::specs::Refusal::line_end))]
-fn line_end<'a>() -> &'a [u8]
-    ensures { result.now ≡ line_end }
-{
-    b"\n"
 }
 
 fn say_usage<C: Console>(console: &mut C) -> Result<(), ConsoleFault>
@@ -240,6 +196,48 @@ fn say_no_program<C: Console>(
     say_pieces(name, fault.pieces(&mut digits), console)
 }
 
+fn say_no_translation<C: Console>(
+    name: &str,
+    fault: TransFault,
+    console: &mut C,
+) -> Result<(), ConsoleFault>
+    ensures { Speaks (C.seen console.old) (C.seen console.new) result
+        (says (line_of (unfit (record { name = name.now; fault = NoTranslation fault })))) }
+{
+    let mut line_digits = Buffer::new();
+    let mut part_digits = Buffer::new();
+    let mut value_digits = Buffer::new();
+    let line = fault.line(&mut line_digits);
+    let number = fault.number(&mut part_digits);
+    let value = fault.value(&mut value_digits);
+    say_all(
+        console,
+        &[
+            name.as_bytes(),
+            after_name(),
+            fault.opening(),
+            line,
+            fault.part(),
+            number,
+            fault.before_value(),
+            value,
+            fault.ending(),
+            line_end(),
+        ],
+    )
+}
+
+// The status of a database that isn't translated.
+fn translation_status(fault: TransFault) -> u8
+    ensures { result ≡ translation_status fault }
+{
+    match fault {
+        TransFault::NotBuilt(_) => 4,
+        TransFault::Wide(_, _) => 7,
+        TransFault::Memory => 7,
+    }
+}
+
 /// The status after something that was said: this one, or 3 where the console failed.
 pub fn concluded(said: Result<(), ConsoleFault>, status: u8) -> u8
     ensures { MatchResult said (λ _. result ≡ status) (λ _. result ≡ 3) }
@@ -263,6 +261,7 @@ impl ContentFault {
             ContentFault::NoMeaning(_) => 5,
             ContentFault::NoDraws(_) => 5,
             ContentFault::NoProgram(_) => 6,
+            ContentFault::NoTranslation(fault) => translation_status(*fault),
         }
     }
 
@@ -277,6 +276,7 @@ impl ContentFault {
             ContentFault::NoMeaning(fault) => say_no_meaning(name, *fault, console),
             ContentFault::NoDraws(fault) => say_no_draws(name, *fault, console),
             ContentFault::NoProgram(fault) => say_no_program(name, fault, console),
+            ContentFault::NoTranslation(fault) => say_no_translation(name, *fault, console),
         }
     }
 }

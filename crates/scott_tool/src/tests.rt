@@ -10,6 +10,7 @@ mod plays;
 mod refusals;
 mod runs;
 mod sources;
+mod translations;
 
 // The tests.
 mod answers;

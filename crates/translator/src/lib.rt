@@ -8,6 +8,9 @@ mod wide;
 /// Why a database isn't translated.
 pub mod faults;
 
+// What is said of it.
+mod fault_texts;
+
 // The text.
 mod translating;
 

@@ -3,7 +3,7 @@ use super::games::T;
 use super::plays::{self, WALK};
 use super::refusals::{self, USAGE};
 use super::trying::{Case, File, NOTHING, answer_of, console_of, expect};
-use super::{runs, sources};
+use super::{runs, sources, translations};
 use crate::program::scott;
 use crate::status_without_words;
 use adv_io::MemoryShelf;
@@ -27,6 +27,11 @@ fn commands_are_answered(rt: HostRuntime) -> Result<(), Fail> {
     expect_all(&rt, &refusals::ALL)?;
     expect_all(&rt, &sources::ALL)?;
     Ok(())
+}
+
+#[test]
+fn translations_are_answered(rt: HostRuntime) -> Result<(), Fail> {
+    expect_all(&rt, &translations::ALL)
 }
 
 #[test]

@@ -3,7 +3,8 @@ use super::games::T;
 use super::plays::{ASK, HALL};
 use super::trying::{Case, File, NOTHING};
 
-pub const USAGE: &str = "usage: scott check F | compile S F | decompile F S | play F | run G\n";
+pub const USAGE: &str =
+    "usage: scott check F | compile S F | decompile F S | play F | translate F G | run G\n";
 
 const UNASKED: Case<'static> = Case {
     status: 1,

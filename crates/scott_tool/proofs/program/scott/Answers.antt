@@ -100,3 +100,13 @@ returns-clause-decompiled g c = (promised (record {
   program = c.program_in.ensures;
   program_fault = c.fault_in-3.ensures;
 }) _ _ _ _ _ _ c.handle.ensures).decompiled
+
+pub returns-clause-translated : goal.returns-clause-translated
+returns-clause-translated g c = (promised (record {
+  database = c.database_in.ensures;
+  database_fault = c.fault_in.ensures;
+  source = c.source_in.ensures;
+  source_fault = c.fault_in-2.ensures;
+  program = c.program_in.ensures;
+  program_fault = c.fault_in-3.ensures;
+}) _ _ _ _ _ _ c.handle.ensures).translated

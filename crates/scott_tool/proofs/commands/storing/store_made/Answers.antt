@@ -11,8 +11,9 @@ returns-in-Ok-store_file g c = λ expected makes.
     let shelf = g.S.Shelf.seen c.args.shelf.now in
     let shelf' = g.S.Shelf.seen c.store_file.new.shelf in
     let view = g.C.Console.seen c.args.console.now in
-    subst (λ (r : Result Task Unfit). Obeys shelf shelf' view view (refusing r) 0) (sym (rw c.in-Ok.is at makes))
-    (obeys-stored shelf shelf' view c.args.name.now c.in-Ok.bytes.items
+    let made = rw c.in-Ok.is at makes in
+    subst (λ (r : Result Task Unfit). Obeys shelf shelf' view view (refusing r) 0) (sym made.1)
+    (obeys-stored shelf shelf' view made.0 c.args.name.now c.in-Ok.bytes.items made.2
     (rw c.deref.ensures.value at c.in-Ok-store_file.ensures.stored) c.in-Ok-store_file.ensures.steady)
 
 pub returns-in-Ok : goal.returns-in-Ok
@@ -22,8 +23,9 @@ returns-in-Ok g c = λ expected makes.
     let old = g.C.Console.seen c.args.console.now in
     let new = g.C.Console.seen c.end.new.console in
     let status = c.end.result in
-    subst (λ (r : Result Task Unfit). Obeys shelf shelf' old new (refusing r) status) (sym (rw c.in-Ok.is at makes))
-    (obeys-not_stored old new status shelf shelf' c.args.name.now c.in-Ok.bytes.items (refusal_of c.in-Err-store_file.refusal)
+    let made = rw c.in-Ok.is at makes in
+    subst (λ (r : Result Task Unfit). Obeys shelf shelf' old new (refusing r) status) (sym made.1)
+    (obeys-not_stored old new status shelf shelf' made.0 c.args.name.now c.in-Ok.bytes.items made.2 (refusal_of c.in-Err-store_file.refusal)
     c.in-Err-store_file.ensures.failed c.store_file.ensures.later c.end.ensures)
 
 pub returns : goal.returns
