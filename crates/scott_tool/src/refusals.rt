@@ -17,9 +17,8 @@ use scott_format::FormatFault;
 use source_reader::SourceFault;
 use translator::TransFault;
 
-/// What is wrong with the content of a file: it is no database, no source, a source that means no
-/// database, no list of draws, no Inform program that is accepted, or a database that isn't
-/// translated. `Memory` is no fault of a content.
+/// What is wrong with the content of a file: it is no database, no source or one that means none, no
+/// list of draws, no accepted Inform program, or it isn't translated. `Memory` is no fault of it.
 #[derive(Drop)]
 pub enum ContentFault {
     NoDatabase(FormatFault),
