@@ -5,6 +5,7 @@ use Rattle.inform_tree.specs.declared.widths.Width.{Width}
 use Rattle.inform_tree.specs.Programs.{RoutineTree, Routine}
 use Rattle.inform_meaning.specs.Worlds.{Program}
 use Rattle.inform_logic.specs.Holding.{Held, Holds, Has}
+use Rattle.inform_logic.proofs.Holding.{holds_first, holds_rest}
 use Rattle.inform_codes.specs.declared.codes.Code.{Code}
 use Rattle.inform_codes.specs.Routines.{row_routine, rows_directives}
 use Rattle.scott_types.specs.declared.styles.Style.{Style}
@@ -21,28 +22,16 @@ use Rattle.trans_data.specs.Routines.{routine_names, table_rows, chosen_rows, fi
 use Rattle.trans_data.specs.Texts.{text_routine, message_directives, item_texts, room_texts, spoken_directives, text_directives}
 use Rattle.trans_data.specs.Laws.{PartsAreServed}
 
--- ---- two lists
-
-first_part : {X : Type 0} (P : X → Type 0) (xs ys : List X) → AllByRecursion P (xs ++ ys)
-    → AllByRecursion P xs
-first_part P [] ys h = tt
-first_part P (x ∷ xs) ys h = (h.0, first_part P xs ys h.1)
-
-last_part : {X : Type 0} (P : X → Type 0) (xs ys : List X) → AllByRecursion P (xs ++ ys)
-    → AllByRecursion P ys
-last_part P [] ys h = h
-last_part P (x ∷ xs) ys h = last_part P xs ys h.1
-
 pub parts_are_served : PartsAreServed
 parts_are_served width xs ys p h = (
   record {
     width_is = h.width_is;
-    holds = first_part (Held p) xs ys h.holds;
+    holds = holds_first p xs ys h.holds;
     notes_lines = h.notes_lines;
   },
   record {
     width_is = h.width_is;
-    holds = last_part (Held p) xs ys h.holds;
+    holds = holds_rest p xs ys h.holds;
     notes_lines = h.notes_lines;
   },
 )
@@ -91,16 +80,16 @@ pub all_of_them : (style : Style) (db : Database) (width : Width) (p : Program)
 unfolding table_rows routine_names
 all_of_them style db width p serves =
     let fixed : Holds p (fixed_directives style db) =
-    first_part (Held p) (fixed_directives style db) (spoken_directives style db) serves.holds in
+    holds_first p (fixed_directives style db) (spoken_directives style db) serves.holds in
     let table : Holds p (rows_directives (routine_names style) (numbers db) table_rows) =
-    first_part (Held p) (rows_directives (routine_names style) (numbers db) table_rows)
+    holds_first p (rows_directives (routine_names style) (numbers db) table_rows)
     (rows_directives (routine_names style) (numbers db) (chosen_rows style db)) fixed in
     let chosen : Holds p (rows_directives (routine_names style) (numbers db) (chosen_rows style db))
     =
-    last_part (Held p) (rows_directives (routine_names style) (numbers db) table_rows)
+    holds_rest p (rows_directives (routine_names style) (numbers db) table_rows)
     (rows_directives (routine_names style) (numbers db) (chosen_rows style db)) fixed in
     let spoken : Holds p (spoken_directives style db) =
-    last_part (Held p) (fixed_directives style db) (spoken_directives style db) serves.holds in
+    holds_rest p (fixed_directives style db) (spoken_directives style db) serves.holds in
     record {
       place = has_it serves.notes_lines refl table.0;
       near = has_it serves.notes_lines refl table.1.0;

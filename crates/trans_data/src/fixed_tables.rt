@@ -6,12 +6,12 @@ ghost use Rattle.trans_rows.specs.Tables.{start_places as the_places, exits as t
 ghost use Rattle.trans_rows.specs.Directives.{words as the_array, bytes as the_bytes, buffers as the_buffers, fixed_arrays as the_arrays};
 
 use crate::classes::classes;
-use crate::directives::joined;
 use crate::entries::{bytes, with_guard, words, zero_bytes};
 use crate::exit_tables::exits;
 use crate::item_tables::{item_classes, item_nouns, items_with_words, start_places, treasures};
 use crate::word_tables::{bases, word_letters};
 use adv_io::Memory;
+use inform_codes::joined;
 use inform_tree::Directive;
 use scott_types::{Column, Db};
 use std::alloc::Global;

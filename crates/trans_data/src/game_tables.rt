@@ -9,12 +9,12 @@ ghost use Rattle.trans_data.specs.Tables.{table_directives};
 
 use crate::choices::text_routine;
 use crate::descriptions::{item_texts, room_texts};
-use crate::directives::joined;
 use crate::fixed_tables::{buffers, fixed_arrays};
 use crate::messages::messages;
 use crate::routines::fixed_directives;
 use crate::state_tables::{state_arrays, state_globals, turn_globals};
 use adv_io::Memory;
+use inform_codes::joined;
 use inform_tree::{Directive, Width};
 use scott_types::{Db, State, Style};
 use std::alloc::Global;

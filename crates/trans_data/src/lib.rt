@@ -3,7 +3,6 @@
 #![tactic(auto)]
 
 // The routines as codes, smallest first, and what they are written with.
-mod directives;
 mod helpers;
 mod lights;
 mod listing;

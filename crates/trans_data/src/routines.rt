@@ -5,7 +5,6 @@ ghost use Rattle.inform_tree.specs.Programs.{directive_of};
 ghost use Rattle.inform_codes.specs.Routines.{rows_directives};
 ghost use Rattle.trans_data.specs.Routines.{routine_names, table_rows, chosen_rows, hundredths_codes as the_hundredths, light_codes as the_light, out_codes as the_out, fixed_directives};
 
-use crate::directives::joined;
 use crate::helpers::{CARRIED, COUNT, DARK, FULL, NEAR, PLACE};
 use crate::lights::{BURN, COUNTED_LIGHT, DIM_LIGHT, OUT, VANISHED};
 use crate::listing::{INVENTORY, LISTED_EXITS, LISTED_ITEMS, LOOK, WAY};
@@ -17,7 +16,7 @@ use crate::names::{
 use crate::numbers::numbers;
 use crate::scoring::{HUNDREDTHS, LESS_HUNDREDTHS, SCORE, STORED};
 use adv_io::Memory;
-use inform_codes::{Code, Row, routines};
+use inform_codes::{Code, Row, joined, routines};
 use inform_tree::Directive;
 use scott_types::{Db, Phrase, Style};
 use std::alloc::Global;

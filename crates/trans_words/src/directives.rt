@@ -1,5 +1,5 @@
 //! The directives of the word reader of a database.
-ghost use Rattle.std.specs.Prelude.{◌≡◌, ◌++◌, IfOk, map};
+ghost use Rattle.std.specs.Prelude.{◌≡◌, IfOk, map};
 ghost use Rattle.inform_tree.specs.Programs.{directive_of};
 ghost use Rattle.trans_rows.specs.Tables.{or_zero};
 ghost use Rattle.scott_rules.specs.Words.{which};
@@ -7,7 +7,7 @@ ghost use Rattle.trans_words.specs.Directives.{numbers, line_directives, column_
 
 use crate::{columns, lines};
 use adv_io::Memory;
-use inform_codes::routines;
+use inform_codes::{joined, routines};
 use inform_tree::Directive;
 use scott_types::{Column, Db};
 use scott_vocab::which;
@@ -57,17 +57,6 @@ fn line_directives(alloc: Global) -> Result<Vec<Directive>, Memory>
     ensures { IfOk result (λ directives. map directive_of directives.items ≡ line_directives) }
 {
     routines(alloc, &lines::NAMES, &[], &lines::ROUTINES)
-}
-
-// Two lists of directives, one after the other.
-fn joined(first: Vec<Directive>, second: Vec<Directive>) -> Result<Vec<Directive>, Memory>
-    ensures { IfOk result (λ all. map directive_of all.items
-        ≡ map directive_of first.items ++ map directive_of second.items) }
-{
-    let mut all = first;
-    let mut others = second;
-    all.append(&mut others)?;
-    Ok(all)
 }
 
 /// The routines of the word reader, which is called as `hear()`.
