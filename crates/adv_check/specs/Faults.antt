@@ -30,15 +30,18 @@ naming_fault db Number n = None
 -- ---- conditions
 
 abbrev pub condition_fault : Database → ℕ → Option Fault
-condition_fault db packed = naming_fault db (names_of (condition_of (condition_code packed))) (argument_of packed)
+condition_fault db packed =
+    naming_fault db (names_of (condition_of (condition_code packed))) (argument_of packed)
 
 -- ---- opcodes
 
--- the parameters of an opcode, of those that are left: the first of them that has a fault has the opcode's
+-- the parameters of an opcode, of those that are left: the first of them that has a fault has the
+-- opcode's
 abbrev pub parameters_fault : Database → List Parameter → List ℕ → Option Fault
 parameters_fault db [] left = None
 parameters_fault db (kind ∷ kinds) [] = Some (record { what = NoParameter; value = pos 0 })
-parameters_fault db (kind ∷ kinds) (n ∷ left) = option_or (naming_fault db kind n) (parameters_fault db kinds left)
+parameters_fault db (kind ∷ kinds) (n ∷ left) =
+    option_or (naming_fault db kind n) (parameters_fault db kinds left)
 
 -- a number that no opcode has
 abbrev pub is_unused : ℕ → Bool
@@ -46,16 +49,21 @@ is_unused n = nat_le 90 n && nat_le n 101
 
 -- an opcode that has a number: the message that it says, or its parameters
 abbrev pub meant_fault : Database → Opcode → List ℕ → Option Fault
-meant_fault db (Say message) left = unless (nat_lt message (length db.messages)) NoMessage (pos message)
+meant_fault db (Say message) left =
+    unless (nat_lt message (length db.messages)) NoMessage (pos message)
 meant_fault db opcode left = parameters_fault db (parameters_of opcode) left
 
 abbrev pub opcode_fault : Database → ℕ → List ℕ → Option Fault
-opcode_fault db n left = if is_unused n then Some (record { what = Unused; value = pos n }) else meant_fault db (opcode_of n) left
+opcode_fault db n left =
+    if is_unused n then Some (record { what = Unused; value = pos n })
+    else meant_fault db (opcode_of n) left
 
--- each opcode has those parameters that the opcodes before it leave, where each takes its own, a get too
+-- each opcode has those parameters that the opcodes before it leave, where each takes its own, a
+-- get too
 abbrev pub opcode_faults : Database → List ℕ → List ℕ → List (Option Fault)
 opcode_faults db [] left = []
-opcode_faults db (n ∷ opcodes) left = opcode_fault db n left ∷ opcode_faults db opcodes (drop (uses (opcode_of n)) left)
+opcode_faults db (n ∷ opcodes) left =
+    opcode_fault db n left ∷ opcode_faults db opcodes (drop (uses (opcode_of n)) left)
 
 -- ---- exits
 

@@ -13,7 +13,8 @@ taken_by numbers = sum_by (λ n. uses (opcode_of n)) numbers
 -- an opcode is held to the parameters after those that the opcodes before it take
 abbrev pub EachOpcodeTakesItsOwn : Type 0
 EachOpcodeTakesItsOwn = (db : Database) (numbers left : List ℕ) (j : ℕ) → j < length numbers
-    → slice_index_or (opcode_faults db numbers left) j None ≡ opcode_fault db (slice_index numbers j) (drop (taken_by (take j numbers)) left)
+    → slice_index_or (opcode_faults db numbers left) j None
+    ≡ opcode_fault db (slice_index numbers j) (drop (taken_by (take j numbers)) left)
 
 -- nothing is wrong at any place of the database
 abbrev pub IsFaultless : Database → Type 0

@@ -26,7 +26,8 @@ summary_text db =
 
 -- where a warning is
 abbrev pub place_text : Part → ℕ → ℕ → List ℕ
-place_text Condition line place = counted (codes "line ") line ++ counted (codes ", condition ") place
+place_text Condition line place =
+    counted (codes "line ") line ++ counted (codes ", condition ") place
 place_text Opcode line place = counted (codes "line ") line ++ counted (codes ", opcode ") place
 place_text Exit room place = counted (codes "room ") room ++ counted (codes ", exit ") place
 place_text Place item place = counted (codes "item ") item
@@ -42,7 +43,8 @@ what_text Unused value = codes "unused " ++ signed_decimal value
 what_text NoParameter value = codes "no parameter left"
 
 abbrev pub warning_text : Warning → List ℕ
-warning_text w = place_text w.part w.index w.place ++ (codes ": " ++ (what_text w.what w.value ++ codes "\n"))
+warning_text w =
+    place_text w.part w.index w.place ++ (codes ": " ++ (what_text w.what w.value ++ codes "\n"))
 
 -- how many warnings there are
 abbrev pub total_text : List Warning → List ℕ
@@ -50,4 +52,5 @@ total_text ws = counted (codes "warnings ") (length ws) ++ codes "\n"
 
 -- the lengths of the lists, a line for each warning, and how many there are
 abbrev pub report_text : Database → List ℕ
-report_text db = summary_text db ++ (flat_map warning_text (warnings db) ++ total_text (warnings db))
+report_text db =
+    summary_text db ++ (flat_map warning_text (warnings db) ++ total_text (warnings db))

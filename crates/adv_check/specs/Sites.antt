@@ -27,12 +27,16 @@ each_from first of xs = flat_map (λ pair. of pair.0 pair.1) (enumerate_from fir
 
 -- the places of one part in an entry, from 1 on
 abbrev pub row : Part → ℕ → List (Option Fault) → List Site
-row part index faults = each_from 1 (λ place fault. record { part = part; index = index; place = place; fault = fault } ∷ []) faults
+row part index faults =
+    each_from 1
+    (λ place fault. record { part = part; index = index; place = place; fault = fault } ∷ [])
+    faults
 
 -- a line's five conditions and four opcodes
 abbrev pub action_sites : Database → ℕ → Action → List Site
 action_sites db line a =
-    row Condition line (map (condition_fault db) a.conds) ++ row Opcode line (opcode_faults db (opcode_numbers a) (parameters a))
+    row Condition line (map (condition_fault db) a.conds)
+    ++ row Opcode line (opcode_faults db (opcode_numbers a) (parameters a))
 
 -- a room's six exits
 abbrev pub room_sites : Database → ℕ → Room → List Site
@@ -40,15 +44,26 @@ room_sites db room r = row Exit room (map (exit_fault db) r.exits)
 
 -- where an item starts
 abbrev pub item_sites : Database → ℕ → Item → List Site
-item_sites db item i = record { part = Start; index = item; place = 0; fault = naming_fault db Place i.place } ∷ []
+item_sites db item i =
+    record { part = Start; index = item; place = 0; fault = naming_fault db Place i.place } ∷ []
 
 -- all places: line by line, then room by room, then item by item
 abbrev pub sites : Database → List Site
-sites db = each_from 0 (action_sites db) db.actions ++ (each_from 0 (room_sites db) db.rooms ++ each_from 0 (item_sites db) db.items)
+sites db =
+    each_from 0 (action_sites db) db.actions
+    ++ (each_from 0 (room_sites db) db.rooms ++ each_from 0 (item_sites db) db.items)
 
 -- the warning of a place, where something is wrong
 abbrev pub warning_at : Site → Option Warning
-warning_at s = option_map (λ f. record { part = s.part; index = s.index; place = s.place; what = f.what; value = f.value }) s.fault
+warning_at s =
+    option_map
+    (λ f. record {
+      part = s.part;
+      index = s.index;
+      place = s.place;
+      what = f.what;
+      value = f.value;
+    }) s.fault
 
 -- the warnings of places, in their order
 abbrev pub warnings_of : List Site → List Warning

@@ -1,5 +1,5 @@
-//! Laws of the warnings, and a report that was worked out by hand. Each is the contract of a function
-//! that does nothing.
+//! Laws of the warnings, and a report that was worked out by hand. Each is the contract of a
+//! function that does nothing.
 ghost use Rattle.adv_check.specs.Laws.{EachOpcodeTakesItsOwn, NoWarningsWhereFaultless};
 ghost use Rattle.adv_check.specs.Worked.{DropWithoutAParameter};
 

@@ -1,5 +1,5 @@
-//! The report on a database: how much there is of each thing, and each place that names something that
-//! isn't there.
+//! The report on a database: how much there is of each thing, and each place that names something
+//! that isn't there.
 #![tactic(auto)]
 
 // What is found.

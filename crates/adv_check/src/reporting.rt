@@ -113,7 +113,8 @@ fn put_total(alloc: Global, out: &mut Vec<u8>, found: &[Warning]) -> Result<(), 
     Ok(())
 }
 
-/// The report on a database: the lengths of its lists, a line for each warning, and how many they are.
+/// The report on a database: the lengths of its lists, a line for each warning, and how many they
+/// are.
 ///
 /// docs/FORMAT.md has its text.
 pub fn report(alloc: Global, db: &Db) -> Result<Vec<u8>, Memory>

@@ -30,7 +30,8 @@ pub fn add(
     Ok(())
 }
 
-/// Adds the warnings of one part of an entry at the end: the faults are those at its places, from 1 on.
+/// Adds the warnings of one part of an entry at the end: the faults are those at its places, from 1
+/// on.
 pub fn add_row(
     alloc: Global,
     found: &mut Vec<Warning>,

@@ -8,8 +8,8 @@ use adv_io::Memory;
 use scott_types::Db;
 use std::alloc::Global;
 
-/// The warnings of a database: line by line, in a line conditions and then opcodes, then room by room
-/// and exit by exit, then item by item.
+/// The warnings of a database: line by line, in a line conditions and then opcodes, then room by
+/// room and exit by exit, then item by item.
 ///
 /// docs/FORMAT.md says what is warned of. Parameters are counted as if each get takes its own.
 pub fn warnings(alloc: Global, db: &Db) -> Result<Vec<Warning>, Memory>

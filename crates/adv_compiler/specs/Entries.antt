@@ -32,11 +32,13 @@ word known k e = Ok (record { verb = e.what.verb; noun = e.what.noun })
 -- the exits from here on, after those before
 abbrev pub exits : Known → List ℤ → List (At Ref) → Result (List ℤ) Fault
 exits known before [] = Ok before
-exits known before (r ∷ refs) = value_of known.rooms r.at r.what >>= λ z. exits known (before ++ z ∷ []) refs
+exits known before (r ∷ refs) =
+    value_of known.rooms r.at r.what >>= λ z. exits known (before ++ z ∷ []) refs
 
 abbrev pub room : Known → ℕ → At RoomPart → Result Room Fault
 room known k e =
-    named_once known.rooms k e.what.name >>= λ once. exits known [] e.what.exits >>= λ ways. Ok (record { exits = ways; text = e.what.text })
+    named_once known.rooms k e.what.name >>= λ once. exits known [] e.what.exits
+    >>= λ ways. Ok (record { exits = ways; text = e.what.text })
 
 abbrev pub message : Known → ℕ → At MessagePart → Result (List ℕ) Fault
 message known k e = named_once known.messages k e.what.name >>= λ once. Ok e.what.text
@@ -45,9 +47,11 @@ abbrev pub place : Known → ℕ → Spot → Result ℕ Fault
 place known at spot.Carried = Ok 255
 place known at spot.Nowhere = Ok 0
 place known at (spot.Room room) =
-    value_of known.rooms at room >>= λ z. in_range at (pos 0) (pos 255) z >>= λ in_it. Ok (unsigned_abs in_it)
+    value_of known.rooms at room >>= λ z. in_range at (pos 0) (pos 255) z
+    >>= λ in_it. Ok (unsigned_abs in_it)
 
 abbrev pub item : Known → ℕ → At ItemPart → Result Item Fault
 item known k e =
     named_once known.items k e.what.name
-    >>= λ once. place known e.what.place.at e.what.place.what >>= λ p. Ok (record { text = e.what.text; place = p })
+    >>= λ once. place known e.what.place.at e.what.place.what
+    >>= λ p. Ok (record { text = e.what.text; place = p })

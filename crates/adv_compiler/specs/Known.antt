@@ -15,7 +15,8 @@ has_name word None = false
 -- the number of the first entry with this name, where the first of these names is entry k's
 abbrev pub named_from : List (Option (List ℕ)) → ℕ → List ℕ → Option ℤ
 named_from [] k word = None
-named_from (name ∷ names) k word = if has_name word name then Some (pos k) else named_from names (k + 1) word
+named_from (name ∷ names) k word =
+    if has_name word name then Some (pos k) else named_from names (k + 1) word
 
 -- the name of an entry
 abbrev pub title_of : Option (At (List ℕ)) → Option (List ℕ)
@@ -28,7 +29,8 @@ column_of Verb w = Some w.verb
 column_of Noun w = Some w.noun
 column_of Name w = None
 
--- what each name is found as: rooms, messages and items by their names, verbs and nouns by their texts
+-- what each name is found as: rooms, messages and items by their names, verbs and nouns by their
+-- texts
 pub record Known : Type 0 where
   pub rooms : List ℕ → Option ℤ
   pub messages : List ℕ → Option ℤ

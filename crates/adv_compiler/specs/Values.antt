@@ -41,19 +41,23 @@ natural at z = if int_le (pos 0) z then Ok (unsigned_abs z) else Err (limit at z
 
 -- the number of one of so many entries
 abbrev pub entry_number : ℕ → ℕ → ℤ → Result ℤ Fault
-entry_number at count z = if int_le (pos 0) z && nat_lt (unsigned_abs z) count then Ok z else Err (limit at z)
+entry_number at count z =
+    if int_le (pos 0) z && nat_lt (unsigned_abs z) count then Ok z else Err (limit at z)
 
 -- ---- packed numbers, at most 2147483647
 
 -- 150 times the first of two
 abbrev pub first_of_two : ℕ → ℤ → ℕ → Result ℕ Fault
-first_of_two at written n = if nat_le (150 * n) 2147483647 then Ok (150 * n) else Err (limit at written)
+first_of_two at written n =
+    if nat_le (150 * n) 2147483647 then Ok (150 * n) else Err (limit at written)
 
 -- and the second added, which is at most 149
 abbrev pub second_of_two : ℕ → ℤ → ℕ → ℕ → Result ℕ Fault
-second_of_two at written first n = if nat_le n 149 && nat_le (first + n) 2147483647 then Ok (first + n) else Err (limit at written)
+second_of_two at written first n =
+    if nat_le n 149 && nat_le (first + n) 2147483647 then Ok (first + n) else Err (limit at written)
 
 -- 20 times an argument, and a condition's code
 abbrev pub packed_condition : ℕ → ℕ → ℤ → Result ℕ Fault
 packed_condition at code z =
-    natural at z >>= λ n. if nat_le (20 * n + code) 2147483647 then Ok (20 * n + code) else Err (limit at z)
+    natural at z >>= λ n. if nat_le (20 * n + code) 2147483647 then Ok (20 * n + code)
+    else Err (limit at z)

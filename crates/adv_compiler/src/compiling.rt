@@ -121,7 +121,8 @@ pub fn compile(alloc: Global, source: &Source) -> Result<Db, CompileFault>
     ensures found { IfOk result (λ db. meant source.now ≡ Ok db) }
     ensures only { (db : Database) → meant source.now ≡ Ok db → IsDb result db }
 
-    // A fault but `Memory` is answered only where it is the first one, and there, unless memory runs out.
+    // A fault but `Memory` is answered only where it is the first one, and there, unless memory
+    // runs out.
     ensures exact { (fault : Fault) → result ≡ Err (fault_answer fault)
         → meant source.now ≡ Err fault }
     ensures expected { (fault : Fault) → meant source.now ≡ Err fault

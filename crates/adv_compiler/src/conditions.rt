@@ -1,4 +1,5 @@
-//! What the conditions of lines mean, and the parameters of opcodes, which are conditions of code 0.
+//! What the conditions of lines mean, and the parameters of opcodes, which are conditions of code
+//! 0.
 ghost use Rattle.std.specs.Prelude.{OnOk, IsTrue};
 ghost use Rattle.std.specs.List.{list_all};
 ghost use Rattle.scott_types.specs.Limits.{is_natural};

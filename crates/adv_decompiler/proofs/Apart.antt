@@ -41,7 +41,8 @@ is_led below = true
 abbrev pub opens : Chunk → Bool
 opens c = is_led c.lead || is_a_mark c.token
 
--- each token can be written, and ends the one before it, unless that is a mark; free tells that nothing before needs an end
+-- each token can be written, and ends the one before it, unless that is a mark; free tells that
+-- nothing before needs an end
 abbrev pub laid : Bool → List Chunk → Bool
 laid free [] = true
 laid free (c ∷ chunks) = is_written c.token && ((opens c || free) && laid (is_a_mark c.token) chunks)

@@ -1,4 +1,5 @@
--- Tokens that are fed to a plan, wherever they stand; and that bytes of tokens which stand apart are read by it.
+-- Tokens that are fed to a plan, wherever they stand; and that bytes of tokens which stand apart
+-- are read by it.
 use Rattle.std.proofs.Common.{◌≡◌, ℕ, ◌+◌, ◌≤◌, ◌⊎◌, inl, inr, ◌||◌, Bool, true, false, List, [], ◌∷◌, ◌++◌, take, drop, length, ℤ, pos, negsuc, ◌≤ℤ◌, refl, sym, ap, subst, ◌∙◌, append_assoc, arith, length-append}
 use Rattle.std.specs.Prelude.{int_le}
 use Rattle.std.specs.List.{list_all}
@@ -20,7 +21,8 @@ use Rattle.adv_decompiler.proofs.FirstBytes.{Ends, ends-digit, lead-gap, number-
 
 -- ---- feeding
 
--- fed with the tokens of these chunks, wherever they stand, the plan ends with a value of which P holds
+-- fed with the tokens of these chunks, wherever they stand, the plan ends with a value of which P
+-- holds
 abbrev pub Fed : {X : Type 0} → Plan X → List Chunk → (X → Type 0) → Type 0
 Fed (done x) [] P = P x
 Fed (done x) (c ∷ chunks) P = ⊥

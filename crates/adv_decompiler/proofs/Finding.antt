@@ -1,4 +1,5 @@
--- References: what is written of a room, a message or an item is read as what stands for it, wherever its name is found.
+-- References: what is written of a room, a message or an item is read as what stands for it,
+-- wherever its name is found.
 use Rattle.std.proofs.Common.{◌≡◌, ℕ, ◌^◌, ◌≤◌, ◌<◌, ◌&&◌, Bool, true, cond, leb, ltb, List, [], ◌∷◌, ℤ, pos, negsuc, Option, Some, None, Ok, refl, sym, ap, subst, ◌∙◌, arith}
 use Rattle.std.specs.Option.{option_or}
 use Rattle.std.proofs.lemmas.Bool.{and_parts, and_from, cond_both, ltb-true}

@@ -1,4 +1,5 @@
--- Lists of entries: fed with a line for each, a list has an entry for each, and means what they mean.
+-- Lists of entries: fed with a line for each, a list has an entry for each, and means what they
+-- mean.
 use Rattle.std.proofs.Common.{◌≡◌, ℕ, zero, suc, ◌+◌, ◌≤◌, ◌<◌, Bool, false, cond, leb, List, [], ◌∷◌, ◌++◌, map, length, Result, Ok, refl, sym, ap, subst, ◌∙◌, append_assoc, arith, length-append}
 use Rattle.std.specs.List.{AllByRecursion}
 use Rattle.std.proofs.lemmas.Bool.{cond-true, le-leb}
@@ -26,7 +27,8 @@ Each R k [] (e ∷ entries) = ⊥
 Each R k (x ∷ xs) [] = ⊥
 Each R k (x ∷ xs) (e ∷ entries) = R k x e × Each R (k + 1) xs entries
 
--- fed with this line, a piece ends with an entry of which R holds; it doesn't begin with a closing brace
+-- fed with this line, a piece ends with an entry of which R holds; it doesn't begin with a closing
+-- brace
 abbrev pub EntryFed : {E : Type 0} → (ℕ → Token → Plan E) → List Chunk → (At E → Type 0) → Type 0
 EntryFed piece [] R = ⊥
 EntryFed piece (c ∷ chunks) R = (is_mark 125 c.token ≡ false) × ((at : ℕ) → Fed (piece at c.token) chunks (λ x. R (here at x)))

@@ -1,4 +1,5 @@
--- What opcodes mean that were read: they are packed one after another, and their parameters are conditions.
+-- What opcodes mean that were read: they are packed one after another, and their parameters are
+-- conditions.
 use Rattle.std.proofs.Common.{◌≡◌, ℕ, ◌+◌, ◌*◌, ◌≤◌, ◌<◌, ◌&&◌, leb, ltb, List, [], ◌∷◌, ◌++◌, map, length, get_or, ℤ, pos, Result, Ok, refl, sym, ap, subst, ◌∙◌, append_assoc, arith, length-append}
 use Rattle.std.specs.Prelude.{int_le, flat_map}
 use Rattle.std.specs.List.{AllByRecursion}

@@ -1,4 +1,5 @@
--- The pieces of an action are right: each number is one of an opcode, and brackets have as many parameters as it takes.
+-- The pieces of an action are right: each number is one of an opcode, and brackets have as many
+-- parameters as it takes.
 use Rattle.std.proofs.Common.{◌≡◌, ℕ, zero, suc, ◌+◌, ◌-◌, ◌≤◌, ◌<◌, ◌⊎◌, inl, inr, true, leb, ltb, List, [], ◌∷◌, take, drop, length, refl, ap, subst, ◌∙◌, arith, length-drop, length-take-le}
 use Rattle.std.specs.List.{AllByRecursion}
 use Rattle.std.proofs.lemmas.Bool.{cond_both, leb-true, agree_below, agree_below_at}

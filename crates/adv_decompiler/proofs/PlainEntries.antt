@@ -1,4 +1,5 @@
--- Lines of words, rooms, messages and items: each is read as an entry that means what it was written of.
+-- Lines of words, rooms, messages and items: each is read as an entry that means what it was
+-- written of.
 use Rattle.std.proofs.Common.{◌≡◌, ℕ, ◌^◌, ◌≤◌, ◌<◌, ◌&&◌, Bool, true, cond, eqb, leb, ltb, List, [], ◌∷◌, ◌++◌, map, length, ℤ, pos, Option, Some, None, Result, Ok, refl, sym, ap, subst, ◌∙◌, arith}
 use Rattle.std.specs.Prelude.{codes, int_le, unsigned_abs}
 use Rattle.std.proofs.lemmas.Bool.{and_parts, and_from, cond_both, cond-true, eqb-true, leb-true, ltb-true, le-leb}

@@ -47,7 +47,8 @@ step_lines {X = X} line xs i n d x old mid new there e is so_far h =
     ∙ ap (λ (chunks : List Chunk). old ++ text_of (lines_of line (take i xs) ++ chunks)) same
     ∙ ap (λ (chunks : List Chunk). old ++ text_of chunks) (sym (lines_of-more line xs i d there))
 
--- the opcodes from a place on: the first of them, with the parameters that it takes, and then the others
+-- the opcodes from a place on: the first of them, with the parameters that it takes, and then the
+-- others
 pub pieces-step : (left numbers : List ℕ) (i d : ℕ) → i < length numbers
     → pieces left (drop i numbers)
     ≡ piece_of (get_or numbers i d) (take (uses (opcode_of (get_or numbers i d))) left) (opcode_of (get_or numbers i d))

@@ -1,4 +1,5 @@
--- What is written of an action keeps the limits of a line: five conditions, four opcodes, and numbers that can be packed.
+-- What is written of an action keeps the limits of a line: five conditions, four opcodes, and
+-- numbers that can be packed.
 use Rattle.std.proofs.Common.{◌≡◌, ℕ, zero, suc, ◌+◌, ◌-◌, ◌≤◌, inl, inr, ◌&&◌, true, eqb, leb, List, [], ◌∷◌, map, take, drop, length, refl, sym, subst, arith, length-drop, length-take}
 use Rattle.std.specs.Prelude.{flat_map}
 use Rattle.std.specs.List.{list_all, AllByRecursion}

@@ -11,7 +11,8 @@ use Rattle.adv_decompiler.specs.Plain.{plain}
 
 -- what is written of an action means that action
 abbrev pub WrittenIsMeant : Type 0
-WrittenIsMeant = (a : Action) → length a.conds ≡ 5 → length a.pairs ≡ 2 → action_of a.vocab (written a) ≡ a
+WrittenIsMeant =
+    (a : Action) → length a.conds ≡ 5 → length a.pairs ≡ 2 → action_of a.vocab (written a) ≡ a
 
 -- the bytes are a text of just one source, which means the database
 pub record ReadsBack (bytes : List ℕ) (db : Database) : Type 0 where

@@ -18,27 +18,32 @@ abbrev pub head : ℕ → List Chunk
 head vocab =
     if vocab == 0 then word below (codes "also") ∷ []
     else if verb_of vocab == 0 then word below (codes "auto") ∷ number spaced (noun_of vocab) ∷ []
-    else word below (codes "line") ∷ number spaced (verb_of vocab) ∷ number spaced (noun_of vocab) ∷ []
+    else word below (codes "line") ∷ number spaced (verb_of vocab) ∷ number spaced (noun_of vocab)
+    ∷ []
 
 -- a condition, with what its argument names
 abbrev pub condition : Sizes → ℕ → List Chunk
 condition sizes c =
     word spaced (condition_word (condition_code c))
-    ∷ chunk spaced (thing_token sizes (names_of (condition_of (condition_code c))) (argument_of c)) ∷ semicolon ∷ []
+    ∷ chunk spaced (thing_token sizes (names_of (condition_of (condition_code c))) (argument_of c))
+    ∷ semicolon ∷ []
 
 -- the tokens of parameters, each with what it names
 abbrev pub parameter_tokens : Sizes → List Parameter → List ℕ → List Token
 parameter_tokens sizes [] parameters = []
 parameter_tokens sizes (kind ∷ kinds) [] = []
-parameter_tokens sizes (kind ∷ kinds) (p ∷ parameters) = thing_token sizes kind p ∷ parameter_tokens sizes kinds parameters
+parameter_tokens sizes (kind ∷ kinds) (p ∷ parameters) =
+    thing_token sizes kind p ∷ parameter_tokens sizes kinds parameters
 
 abbrev pub opcode : Sizes → Piece → List Chunk
-opcode sizes (says message) = word spaced (codes "say") ∷ chunk spaced (message_token sizes message) ∷ semicolon ∷ []
+opcode sizes (says message) =
+    word spaced (codes "say") ∷ chunk spaced (message_token sizes message) ∷ semicolon ∷ []
 opcode sizes (numbered n) = word spaced (codes "op") ∷ number spaced n ∷ semicolon ∷ []
 opcode sizes (named n) = word spaced (opcode_word n) ∷ semicolon ∷ []
 opcode sizes (bracketed n parameters) =
     word spaced (opcode_word n) ∷ mark joined 40
-    ∷ (listed joined (parameter_tokens sizes (kinds_of (opcode_of n)) parameters) ++ mark joined 41 ∷ semicolon ∷ [])
+    ∷ (listed joined (parameter_tokens sizes (kinds_of (opcode_of n)) parameters) ++ mark joined 41
+    ∷ semicolon ∷ [])
 
 -- the line of an action, and its comment
 abbrev pub action_line : Sizes → ℕ → Action × List ℕ → List Chunk

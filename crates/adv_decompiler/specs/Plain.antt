@@ -27,11 +27,13 @@ first_settings sizes h =
 
 abbrev pub middle_settings : Header → List Chunk
 middle_settings h =
-    setting (codes "treasures") (token.Number h.treasures) ++ setting (codes "length") (token.Number (pos h.length))
+    setting (codes "treasures") (token.Number h.treasures)
+    ++ setting (codes "length") (token.Number (pos h.length))
 
 abbrev pub last_settings : Sizes → Header → List Chunk
 last_settings sizes h =
-    setting (codes "light") (token.Number h.light) ++ setting (codes "home") (exit_token sizes h.home)
+    setting (codes "light") (token.Number h.light)
+    ++ setting (codes "home") (exit_token sizes h.home)
 
 abbrev pub header_lines : Sizes → Header → List Chunk
 header_lines sizes h = first_settings sizes h ++ (middle_settings h ++ last_settings sizes h)
@@ -48,7 +50,8 @@ room_line sizes k room =
 
 abbrev pub message_line : Sizes → ℕ → List ℕ → List Chunk
 message_line sizes k text =
-    word below (codes "message") ∷ word spaced (message_name k) ∷ quoted spaced text ∷ semicolon ∷ []
+    word below (codes "message") ∷ word spaced (message_name k) ∷ quoted spaced text ∷ semicolon
+    ∷ []
 
 abbrev pub item_line : Sizes → ℕ → Item → List Chunk
 item_line sizes k item =
@@ -57,7 +60,8 @@ item_line sizes k item =
 
 abbrev pub trailer_line : Trailer → List Chunk
 trailer_line t =
-    chunk below (token.Number t.version) ∷ chunk spaced (token.Number t.adventure) ∷ chunk spaced (token.Number t.third) ∷ []
+    chunk below (token.Number t.version) ∷ chunk spaced (token.Number t.adventure)
+    ∷ chunk spaced (token.Number t.third) ∷ []
 
 -- ---- the whole
 

@@ -18,7 +18,9 @@ as_written conds ops = record { conds = conds; ops = ops }
 
 -- a get and a drop, each with its own parameter
 abbrev pub BracketsWritten : Type 0
-BracketsWritten = written (action (0 ∷ 20 ∷ 0 ∷ 0 ∷ 0 ∷ []) (7853 ∷ 0 ∷ [])) ≡ as_written [] (bracketed 52 (0 ∷ []) ∷ bracketed 53 (1 ∷ []) ∷ [])
+BracketsWritten =
+    written (action (0 ∷ 20 ∷ 0 ∷ 0 ∷ 0 ∷ []) (7853 ∷ 0 ∷ []))
+    ≡ as_written [] (bracketed 52 (0 ∷ []) ∷ bracketed 53 (1 ∷ []) ∷ [])
 
 -- the same with a test after the parameters
 abbrev pub TestAfterParameters : Type 0
@@ -27,16 +29,23 @@ TestAfterParameters = written (action (0 ∷ 20 ∷ 0 ∷ 0 ∷ 1 ∷ []) (7853 
 
 -- a parameter that no opcode takes is kept where it isn't 0: then nothing has brackets
 abbrev pub SpareParameter : Type 0
-SpareParameter = written (action (0 ∷ 20 ∷ 0 ∷ 0 ∷ 0 ∷ []) (7800 ∷ 0 ∷ [])) ≡ as_written (0 ∷ 20 ∷ []) (named 52 ∷ [])
+SpareParameter =
+    written (action (0 ∷ 20 ∷ 0 ∷ 0 ∷ 0 ∷ []) (7800 ∷ 0 ∷ []))
+    ≡ as_written (0 ∷ 20 ∷ []) (named 52 ∷ [])
 
 -- after four tests there is room for one parameter, and a put takes two
 abbrev pub NoRoomForTwo : Type 0
-NoRoomForTwo = (written (action (1 ∷ 1 ∷ 1 ∷ 1 ∷ 40 ∷ []) (9300 ∷ 0 ∷ [])) ≡ as_written (1 ∷ 1 ∷ 1 ∷ 1 ∷ 40 ∷ []) (named 62 ∷ []))
-    × (written (action (1 ∷ 1 ∷ 1 ∷ 1 ∷ 40 ∷ []) (7950 ∷ 0 ∷ [])) ≡ as_written (1 ∷ 1 ∷ 1 ∷ 1 ∷ []) (bracketed 53 (2 ∷ []) ∷ []))
+NoRoomForTwo =
+    (written (action (1 ∷ 1 ∷ 1 ∷ 1 ∷ 40 ∷ []) (9300 ∷ 0 ∷ []))
+    ≡ as_written (1 ∷ 1 ∷ 1 ∷ 1 ∷ 40 ∷ []) (named 62 ∷ []))
+    × (written (action (1 ∷ 1 ∷ 1 ∷ 1 ∷ 40 ∷ []) (7950 ∷ 0 ∷ []))
+    ≡ as_written (1 ∷ 1 ∷ 1 ∷ 1 ∷ []) (bracketed 53 (2 ∷ []) ∷ []))
 
 -- zeros are written before an opcode, and not after the last one; opcode 102 says message 52
 abbrev pub ZerosWritten : Type 0
-ZerosWritten = written (action (0 ∷ 0 ∷ 0 ∷ 0 ∷ 0 ∷ []) (90 ∷ 15300 ∷ [])) ≡ as_written [] (numbered 0 ∷ numbered 90 ∷ says 52 ∷ [])
+ZerosWritten =
+    written (action (0 ∷ 0 ∷ 0 ∷ 0 ∷ 0 ∷ []) (90 ∷ 15300 ∷ []))
+    ≡ as_written [] (numbered 0 ∷ numbered 90 ∷ says 52 ∷ [])
 
 -- ---- texts
 
@@ -45,16 +54,27 @@ some_sizes = record { rooms = 3; messages = 1; items = 2 }
 
 -- `get` and `drop` with items that are there, after a head with two numbers
 abbrev pub LineWritten : Type 0
-LineWritten = text_of (action_line some_sizes 0 (action (0 ∷ 20 ∷ 0 ∷ 0 ∷ 0 ∷ []) (7853 ∷ 0 ∷ []), codes "two"))
+LineWritten =
+    text_of (action_line some_sizes 0
+    (action (0 ∷ 20 ∷ 0 ∷ 0 ∷ 0 ∷ []) (7853 ∷ 0 ∷ []), codes "two"))
     ≡ codes "\nline 3 0 { } { get(i0); drop(i1); } \"two\";"
 
 -- a game with one entry in each list
 abbrev cell : Database
 cell = record {
-  header = record { unused = pos 0; carry = pos 5; start = 0; treasures = pos 0; length = 3; light = negsuc 0; home = pos 7 };
+  header = record {
+    unused = pos 0;
+    carry = pos 5;
+    start = 0;
+    treasures = pos 0;
+    length = 3;
+    light = negsuc 0;
+    home = pos 7;
+  };
   actions = record { vocab = 0; conds = 0 ∷ 0 ∷ 0 ∷ 0 ∷ 0 ∷ []; pairs = 0 ∷ 0 ∷ [] } ∷ [];
   words = record { verb = codes "AUT"; noun = codes "ANY" } ∷ [];
-  rooms = record { exits = pos 0 ∷ pos 0 ∷ pos 0 ∷ pos 0 ∷ pos 0 ∷ negsuc 0 ∷ []; text = codes "cell" } ∷ [];
+  rooms = record
+      { exits = pos 0 ∷ pos 0 ∷ pos 0 ∷ pos 0 ∷ pos 0 ∷ negsuc 0 ∷ []; text = codes "cell" } ∷ [];
   messages = [] ∷ [];
   items = record { text = codes "Rug"; place = 255 } ∷ [];
   comments = [] ∷ [];

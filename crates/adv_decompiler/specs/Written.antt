@@ -35,11 +35,13 @@ abbrev pub takes : List ℕ → ℕ
 takes [] = 0
 takes (n ∷ numbers) = uses (opcode_of n) + takes numbers
 
--- with brackets, where the parameters stand last, are enough, and those that no opcode takes are zeros
+-- with brackets, where the parameters stand last, are enough, and those that no opcode takes are
+-- zeros
 abbrev pub has_brackets : List ℕ → List ℕ → Bool
 has_brackets conds numbers =
     list_all is_parameter (drop (tests_first conds) conds)
-    && (nat_le (tests_first conds + takes numbers) 5 && list_all is_zero (drop (tests_first conds + takes numbers) conds))
+    && (nat_le (tests_first conds + takes numbers) 5
+    && list_all is_zero (drop (tests_first conds + takes numbers) conds))
 
 -- the numbers up to the last one that isn't 0
 abbrev pub without_zeros : List ℕ → List ℕ
@@ -60,16 +62,19 @@ piece_of n parameters _ = name_piece n parameters
 abbrev pub pieces : List ℕ → List ℕ → List Piece
 pieces parameters [] = []
 pieces parameters (n ∷ ns) =
-    piece_of n (take (uses (opcode_of n)) parameters) (opcode_of n) ∷ pieces (drop (uses (opcode_of n)) parameters) ns
+    piece_of n (take (uses (opcode_of n)) parameters) (opcode_of n)
+    ∷ pieces (drop (uses (opcode_of n)) parameters) ns
 
 abbrev pub written : Action → WrittenAction
 written a =
     if has_brackets a.conds (opcode_numbers a)
     then record {
       conds = take (tests_first a.conds) a.conds;
-      ops = pieces (drop (tests_first a.conds) (map argument_of a.conds)) (without_zeros (opcode_numbers a));
+      ops = pieces (drop (tests_first a.conds) (map argument_of a.conds))
+          (without_zeros (opcode_numbers a));
     }
-    else record { conds = without_zeros a.conds; ops = pieces [] (without_zeros (opcode_numbers a)) }
+    else record
+    { conds = without_zeros a.conds; ops = pieces [] (without_zeros (opcode_numbers a)) }
 
 -- ---- what is meant by it
 
@@ -90,7 +95,8 @@ as_condition parameter = 20 * parameter
 
 -- the first four of these and zeros, in two pairs
 abbrev pub two_pairs : List ℕ → List ℕ
-two_pairs ns = (150 * slice_index ns 0 + slice_index ns 1) ∷ (150 * slice_index ns 2 + slice_index ns 3) ∷ []
+two_pairs ns =
+    (150 * slice_index ns 0 + slice_index ns 1) ∷ (150 * slice_index ns 2 + slice_index ns 3) ∷ []
 
 -- the parameters in brackets follow the conditions, and zeros fill what is left
 abbrev pub action_of : ℕ → WrittenAction → Action

@@ -124,7 +124,8 @@ fn put_action_list(
     requires { KeepsLimits (database_of parts.now) }
     ensures { OnOk result (out.new.items ≡ out.old.items
         ++ text_of (section below (codes "lines")
-        (lines_of (action_line sizes.now) (zip parts.now.actions.items parts.now.comments.items)))) }
+        (lines_of (action_line sizes.now)
+        (zip parts.now.actions.items parts.now.comments.items)))) }
 {
     out.extend_from_slice(b"\nlines {")?;
     put_actions(alloc, out, sizes, &parts.actions, &parts.comments)?;

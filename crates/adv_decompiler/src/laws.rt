@@ -9,7 +9,8 @@ pub fn written_is_meant()
     ensures { WrittenIsMeant }
 {}
 
-/// The plain text of a database within the limits is a text of one source, which means the database.
+/// The plain text of a database within the limits is a text of one source, which means the
+/// database.
 pub fn plain_reads_back()
     ensures { PlainReadsBack }
 {

@@ -1,5 +1,5 @@
-//! Worked examples of what is written. Each is the contract of a function that does nothing, and is proved by
-//! computing.
+//! Worked examples of what is written. Each is the contract of a function that does nothing, and is
+//! proved by computing.
 ghost use Rattle.adv_decompiler.specs.Worked.{BracketsWritten, TestAfterParameters, SpareParameter, NoRoomForTwo, ZerosWritten, LineWritten, CellWritten};
 
 /// A get and a drop are written with a parameter each.

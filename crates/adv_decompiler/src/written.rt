@@ -44,8 +44,8 @@ fn are_zeros(numbers: &[u32]) -> bool
     numbers.iter().all(|n| *n == 0)
 }
 
-/// Whether an action is written with brackets: its parameters stand last, are enough for its opcodes, and
-/// those that no opcode takes are zeros.
+/// Whether an action is written with brackets: its parameters stand last, are enough for its
+/// opcodes, and those that no opcode takes are zeros.
 pub fn has_brackets(conds: &[u32; 5], numbers: &[u32; 4]) -> bool
     ensures { result ≡ has_brackets conds.now numbers.now }
 {

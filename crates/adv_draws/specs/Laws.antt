@@ -1,4 +1,5 @@
--- What lists of draws are, in laws: a run alone, and two texts with a byte of whitespace between them.
+-- What lists of draws are, in laws: a run alone, and two texts with a byte of whitespace between
+-- them.
 use Rattle.std.specs.Prelude.{◌≡◌, ℕ, ◌+◌, true, List, [], ◌∷◌, ◌++◌, length, Result, Ok, Err}
 use Rattle.std.specs.List.{list_all}
 use Rattle.adv_io.specs.Text.{is_whitespace}
@@ -25,7 +26,8 @@ RunAlone =
     (byte : ℕ) (run : List ℕ) → list_all is_solid (byte ∷ run) ≡ true
     → listed_draws (byte ∷ run) ≡ with_draw (draw_of (byte ∷ run)) 0 (Ok [])
 
--- two texts with a byte of whitespace between them list the draws of both, or have the first fault of both
+-- two texts with a byte of whitespace between them list the draws of both, or have the first fault
+-- of both
 abbrev pub SpaceBetween : Type 0
 SpaceBetween =
     (first second : List ℕ) (space : ℕ) → is_whitespace space ≡ true

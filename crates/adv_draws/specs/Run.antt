@@ -20,7 +20,8 @@ abbrev pub runs_after : ℕ → ℕ → List ℕ → List Run
 runs_after before offset [] = []
 runs_after before offset (byte ∷ rest) =
     if is_whitespace before && is_solid byte
-    then record { offset = offset; bytes = take_while is_solid (byte ∷ rest) } ∷ runs_after byte (offset + 1) rest
+    then record { offset = offset; bytes = take_while is_solid (byte ∷ rest) }
+    ∷ runs_after byte (offset + 1) rest
     else runs_after byte (offset + 1) rest
 
 -- the runs of a text, whose start counts as after a byte of whitespace

@@ -5,8 +5,8 @@ use std::alloc::{AllocError, AllocFailed};
 
 /// Why a text is no list of draws.
 ///
-/// - `NotADraw`: the run of bytes that begins at this offset is no number of 1..100; it is the first
-///   such run.
+/// - `NotADraw`: the run of bytes that begins at this offset is no number of 1..100; it is the
+///   first such run.
 /// - `Memory`: memory ran out.
 #[derive(Clone, Copy, Debug, PartialEq, Eq)]
 pub enum DrawFault {

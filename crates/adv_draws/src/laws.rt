@@ -12,7 +12,8 @@ pub fn run_alone()
     ensures { RunAlone }
 {}
 
-/// Two texts with a byte of whitespace between them list the draws of both, or have the first fault of both.
+/// Two texts with a byte of whitespace between them list the draws of both, or have the first fault
+/// of both.
 pub fn space_between()
     ensures { SpaceBetween }
 {}

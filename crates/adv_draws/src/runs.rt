@@ -4,7 +4,8 @@ ghost use Rattle.adv_draws.specs.Run.{is_draw, draw_of, first_run};
 
 use adv_io::is_whitespace;
 
-/// The draw of the run that `text` begins with and the run's length, or none where that run is no draw.
+/// The draw of the run that `text` begins with and the run's length, or none where that run is no
+/// draw.
 #[inline(always)]
 pub fn first_draw(text: &[u8]) -> Option<(u8, usize)>
     ensures value { IfSome result (λ read. draw_of (first_run text.now) ≡ Some read.0) }
@@ -18,8 +19,8 @@ pub fn first_draw(text: &[u8]) -> Option<(u8, usize)>
     }
 }
 
-/// The same where the run is a number of 1..99 without needless zeros, and a byte of whitespace stands after it.
-/// Most draws stand so; where there is none here, `any_draw` reads byte by byte.
+/// The same where the run is a number of 1..99 without needless zeros, and a byte of whitespace
+/// stands after it. Most draws stand so; where there is none here, `any_draw` reads byte by byte.
 #[inline(always)]
 fn short_draw(text: &[u8]) -> Option<(u8, usize)>
     ensures value { IfSome result (λ read. draw_of (first_run text.now) ≡ Some read.0) }

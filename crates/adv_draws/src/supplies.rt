@@ -46,9 +46,9 @@ impl Model for Draws {
 }
 
 impl Draws {
-    /// The draws that a text lists: decimal numbers of 1..100 without a sign, between whitespace, which
-    /// are the bytes 9..13 and 32. Leading zeros are allowed, and a text of whitespace lists none.
-    /// docs/FORMAT.md states the rule.
+    /// The draws that a text lists: decimal numbers of 1..100 without a sign, between whitespace,
+    /// which are the bytes 9..13 and 32. Leading zeros are allowed, and a text of whitespace lists
+    /// none. docs/FORMAT.md states the rule.
     pub fn listed(alloc: Global, bytes: &[u8]) -> Result<Draws, DrawFault>
         ensures listed { IfOk result (λ d. listed_draws bytes.now ≡ Ok d.left) }
         ensures fresh { IfOk result (λ d. d.taken ≡ 0) }

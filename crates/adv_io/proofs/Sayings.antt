@@ -48,7 +48,8 @@ part_whole old new a b grew = record { done = a; rest = b; whole = refl; grew = 
 pub part_none : (history : Option (List Event)) (a : List Event) → GrewByPrefix history history a
 part_none history a = record { done = []; rest = a; whole = refl; grew = sym (grown-nil history) }
 
--- ---- the same of a call's answer, one after the other, to be named where a function says two texts
+-- ---- the same of a call's answer, one after the other, to be named where a function says two
+-- texts
 
 -- what failed said a part of more
 pub text_stop : {T E : Type 0} (r : Result T E) (old new : Option (List Event)) (a b : List Event) → GrewByPrefix old new a → OnErr r (GrewByPrefix old new (a ++ b))

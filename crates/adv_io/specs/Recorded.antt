@@ -15,11 +15,18 @@ pub record Recorded : Type 0 where
 
 -- what a clause sees of it as of every console
 abbrev pub seen_of : Recorded → ConsoleView
-seen_of c = record { history = Some c.history; left = Some c.left; bound = length c.left; faults = c.calls.faults }
+seen_of c =
+    record {
+      history = Some c.history;
+      left = Some c.left;
+      bound = length c.left;
+      faults = c.calls.faults;
+    }
 
 -- nothing said or taken yet
 abbrev pub untouched : List (List ℕ) → List ℕ → ℕ → Recorded
-untouched lines failing room = record { history = []; left = lines; room = room; calls = unused failing }
+untouched lines failing room =
+    record { history = []; left = lines; room = room; calls = unused failing }
 
 -- bytes that fit were said
 abbrev pub with_said : Recorded → List ℕ → Recorded
@@ -42,7 +49,8 @@ called c = record c { calls = after_next c.calls }
 abbrev pub after_saying : Recorded → List ℕ → Recorded
 after_saying c bytes =
     if fails_next c.calls then called c else
-    if nat_le (length bytes) c.room then with_said (called c) bytes else with_prefix_said (called c) bytes
+    if nat_le (length bytes) c.room then with_said (called c) bytes
+    else with_prefix_said (called c) bytes
 
 -- a take whose number fails changes nothing else; another takes the next line
 abbrev pub after_taking : Recorded → Recorded
@@ -64,7 +72,8 @@ AreMarks first [] last = first ≤ last
 AreMarks first (mark ∷ marks) last = (first ≤ mark) × AreMarks mark marks last
 
 -- what is kept is in order, and there is room for all that can be said and taken
-pub record IsKept (said marks : List ℕ) (lines : List (List ℕ)) (room said_places mark_places : ℕ) : Type 0 where
+pub record IsKept (said marks : List ℕ) (lines : List (List ℕ)) (room said_places mark_places : ℕ)
+    : Type 0 where
   pub in_order : AreMarks 0 marks (length said)
   pub taken : length marks ≤ length lines
   pub said_fits : length said + room ≤ said_places

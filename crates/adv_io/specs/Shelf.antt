@@ -22,7 +22,8 @@ IsFile known name bytes = IfSome known (λ files. get files name ≡ Some bytes)
 
 -- where the files are known, the name has a file of at least so many bytes
 abbrev pub HasAtLeast : Option Files → List ℕ → ℕ → Type 0
-HasAtLeast known name n = IfSome known (λ files. IsSomeAnd (get files name) (λ bytes. n ≤ length bytes))
+HasAtLeast known name n =
+    IfSome known (λ files. IsSomeAnd (get files name) (λ bytes. n ≤ length bytes))
 
 -- the files are known, and the name is none of them
 abbrev pub Lacks : Option Files → List ℕ → Type 0
@@ -32,11 +33,13 @@ Lacks known name = IsSomeAnd known (λ files. get files name ≡ None)
 abbrev pub RefusesLoad : (old new : ShelfView) → (name : List ℕ) → (limit : ℕ) → ShelfFault → Type 0
 RefusesLoad old new name limit Absent = Lacks old.files name × (new.faults ≡ old.faults)
 RefusesLoad old new name limit Failed = Rose old.faults new.faults
-RefusesLoad old new name limit (TooLong n) = (limit < n) × HasAtLeast old.files name n × (new.faults ≡ old.faults)
+RefusesLoad old new name limit (TooLong n) =
+    (limit < n) × HasAtLeast old.files name n × (new.faults ≡ old.faults)
 RefusesLoad old new name limit Memory = new.faults ≡ old.faults
 
 -- what a call promises that loads a file of at most so many bytes
-pub record Loads {A : Type 0} (old new : ShelfView) (name : List ℕ) (limit : ℕ) (result : Result (Vec ℕ A) ShelfFault) : Type 0 where
+pub record Loads {A : Type 0} (old new : ShelfView) (name : List ℕ) (limit : ℕ)
+    (result : Result (Vec ℕ A) ShelfFault) : Type 0 where
   pub within : IfOk result (λ bytes. length bytes.items ≤ limit)
   pub found : IfOk result (λ bytes. IsFile old.files name bytes.items)
   pub refused : IfErr result (RefusesLoad old new name limit)
@@ -55,12 +58,14 @@ without known name = option_map (λ files. remove files name) known
 -- why a store was refused, and what it left; only a shelf that failed counts it
 abbrev pub RefusesStore : (old new : ShelfView) → (name : List ℕ) → ShelfFault → Type 0
 RefusesStore old new name Absent = ⊥
-RefusesStore old new name Failed = Rose old.faults new.faults × ((new.files ≡ old.files) ⊎ (new.files ≡ without old.files name))
+RefusesStore old new name Failed =
+    Rose old.faults new.faults × ((new.files ≡ old.files) ⊎ (new.files ≡ without old.files name))
 RefusesStore old new name (TooLong n) = ⊥
 RefusesStore old new name Memory = (new.files ≡ old.files) × (new.faults ≡ old.faults)
 
 -- what a call promises that stores a file
-pub record Stores {T : Type 0} (old new : ShelfView) (name bytes : List ℕ) (result : Result T ShelfFault) : Type 0 where
+pub record Stores {T : Type 0} (old new : ShelfView) (name bytes : List ℕ)
+    (result : Result T ShelfFault) : Type 0 where
   pub stored : OnOk result (new.files ≡ with_file old.files name bytes)
   pub refused : IfErr result (RefusesStore old new name)
   pub later : old.faults ≤ new.faults

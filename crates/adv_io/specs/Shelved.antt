@@ -20,7 +20,8 @@ stock_of s = record { files = Some s.files; faults = s.calls.faults }
 -- it is stored as the pair of its fields
 abbrev pub coded_shelved : Coded Shelved
 coded_shelved =
-    code_by (Files × CallCount) (coded× (code (coded_list coded_ℕ) (coded_list coded_ℕ)) coded_call_count)
+    code_by (Files × CallCount)
+    (coded× (code (coded_list coded_ℕ) (coded_list coded_ℕ)) coded_call_count)
     (λ s. (s.files, s.calls))
     (λ p. record { files = p.0; calls = p.1 })
     (λ _. refl)
@@ -37,7 +38,8 @@ files_of files = from_entries (map entry files)
 abbrev pub names_differ : {A B : Type 0} → List (String A × Vec ℕ B) → Bool
 names_differ [] = true
 names_differ (file ∷ files) =
-    not (list_any (λ other. bytes_eq (string_bytes file.0) (string_bytes other.0)) files) && names_differ files
+    not (list_any (λ other. bytes_eq (string_bytes file.0) (string_bytes other.0)) files)
+    && names_differ files
 
 -- no call yet
 abbrev pub shelved : {A B : Type 0} → List (String A × Vec ℕ B) → List ℕ → Shelved
@@ -50,19 +52,24 @@ called shelf = record shelf { calls = after_next shelf.calls }
 -- a file of at most so many bytes
 abbrev pub within : ℕ → Option (List ℕ) → Result (List ℕ) ShelfFault
 within limit None = Err Absent
-within limit (Some bytes) = if nat_le (length bytes) limit then Ok bytes else Err (TooLong (length bytes))
+within limit (Some bytes) =
+    if nat_le (length bytes) limit then Ok bytes else Err (TooLong (length bytes))
 
 -- what a load answers where memory is ample
 abbrev pub loaded : Shelved → List ℕ → ℕ → Result (List ℕ) ShelfFault
-loaded shelf name limit = if fails_next shelf.calls then Err Failed else within limit (get shelf.files name)
+loaded shelf name limit =
+    if fails_next shelf.calls then Err Failed else within limit (get shelf.files name)
 
 -- the answer is that one, and memory can run out only in place of bytes
-abbrev pub AnswersLoad : {A : Type 0} → Result (List ℕ) ShelfFault → Result (Vec ℕ A) ShelfFault → Type 0
+abbrev pub AnswersLoad : {A : Type 0} → Result (List ℕ) ShelfFault → Result (Vec ℕ A) ShelfFault
+    → Type 0
 AnswersLoad answer (Ok bytes) = answer ≡ Ok bytes.items
 AnswersLoad answer (Err Memory) = is_ok answer ≡ true
 AnswersLoad answer (Err fault) = answer ≡ Err fault
 
 -- what a store leaves, by what it answers
-abbrev pub LeavesStored : Shelved → List ℕ → List ℕ → Result (Unit {0}) ShelfFault → Shelved → Type 0
-LeavesStored old name bytes (Ok done) new = new ≡ record (called old) { files = insert old.files name bytes }
+abbrev pub LeavesStored : Shelved → List ℕ → List ℕ → Result (Unit {0}) ShelfFault → Shelved
+    → Type 0
+LeavesStored old name bytes (Ok done) new =
+    new ≡ record (called old) { files = insert old.files name bytes }
 LeavesStored old name bytes (Err fault) new = new ≡ called old

@@ -5,7 +5,8 @@ use Rattle.adv_io.specs.History.{shown, lines_taken, draws_taken}
 use Rattle.adv_io.specs.declared.events.Event.{Event}
 use Rattle.adv_io.specs.declared.events.Event.TheVariants.{Say, Take, Draw}
 
--- a byte was said, a line was taken, a draw was taken, or a part of the program was entered that has this number
+-- a byte was said, a line was taken, a draw was taken, or a part of the program was entered that
+-- has this number
 pub data Step : Type 0 where
   Said : ℕ → Step
   Took : List ℕ → Step
@@ -63,6 +64,7 @@ noted steps = filter_map noted_of steps
 -- ---- what steps take
 
 -- what the steps take and draw, followed by what is left after them, is what there was before them
-pub record Spends (lines : List (List ℕ)) (draws : List ℕ) (steps : List Step) (lines_left : List (List ℕ)) (draws_left : List ℕ) : Type 0 where
+pub record Spends (lines : List (List ℕ)) (draws : List ℕ) (steps : List Step)
+    (lines_left : List (List ℕ)) (draws_left : List ℕ) : Type 0 where
   pub lines_spent : lines_taken (trace_of steps) ++ lines_left ≡ lines
   pub draws_spent : draws_taken (trace_of steps) ++ draws_left ≡ draws

@@ -15,9 +15,10 @@ pub enum Taken {
 /// Bytes are said to a console, and lines are taken from it. docs/ARCHITECTURE.md says which
 /// consoles there are.
 ///
-/// A clause sees one view of it, `seen`. Of some consoles the `history` is known, the events so far,
-/// and the lines that are `left`. The `bound` is at least the number of lines that can still be got,
-/// so a loop that takes lines ends by it. `faults` counts what failed outside, and never falls.
+/// A clause sees one view of it, `seen`. Of some consoles the `history` is known, the events so
+/// far, and the lines that are `left`. The `bound` is at least the number of lines that can still
+/// be got, so a loop that takes lines ends by it. `faults` counts what failed outside, and never
+/// falls.
 pub trait Console {
     ghost seen: { Self → ConsoleView };
 

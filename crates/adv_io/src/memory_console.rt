@@ -1,4 +1,5 @@
-//! A console in memory: its history and its lines are known, and it fails at the calls that are given.
+//! A console in memory: its history and its lines are known, and it fails at the calls that are
+//! given.
 ghost use Rattle.std.specs.Prelude.{◌≡◌, ◌≤◌, ◌<◌, ◌⊎◌, ◌↔◌, length, IsErr, IsTrue, IfOk, slice_get, List};
 ghost use Rattle.adv_io.specs.History.{says, transcript, marks};
 ghost use Rattle.adv_io.specs.Console.{Speaks, Takes};

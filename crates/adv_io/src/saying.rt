@@ -52,8 +52,8 @@ impl SayBuffer {
         Ok(())
     }
 
-    /// Buffers one more text. Where it has no room, what was buffered is said first, and a text that
-    /// has none by itself is said after it.
+    /// Buffers one more text. Where it has no room, what was buffered is said first, and a text
+    /// that has none by itself is said after it.
     pub fn buffer_text<C: Console>(
         &mut self,
         text: &[u8],

@@ -6,8 +6,9 @@ use std::alloc::Global;
 
 /// Files by their names. docs/ARCHITECTURE.md says which shelves there are.
 ///
-/// A clause sees one view of it, `seen`. Of some shelves the `files` are known: the map from the bytes
-/// of each name to the bytes of its file. `faults` counts what failed outside, and never falls.
+/// A clause sees one view of it, `seen`. Of some shelves the `files` are known: the map from the
+/// bytes of each name to the bytes of its file. `faults` counts what failed outside, and never
+/// falls.
 pub trait Shelf {
     ghost seen: { Self → ShelfView };
 

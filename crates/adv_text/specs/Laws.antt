@@ -1,5 +1,5 @@
--- The laws of reading and writing: what is read is so spelled, what is so spelled is read, and what was
--- written reads back.
+-- The laws of reading and writing: what is read is so spelled, what is so spelled is read, and what
+-- was written reads back.
 use Rattle.std.specs.Prelude.{ℕ, Bool, nat_lt, ◌≡◌, ◌+◌, ◌↔◌, ◌≤ℤ◌, List, ◌++◌, ℤ, pos, negsuc, IsTrue, Ok, Err}
 use Rattle.std.specs.List.{list_all}
 use Rattle.adv_text.specs.Spelling.{AfterWhitespace, Number, NoNumber, BigNumber, NoDigit, Quoted, NoString, Opened, Unclosed, Overlong, NoQuote}
@@ -11,7 +11,8 @@ use Rattle.adv_text.specs.Writing.{number_text, quoted_text}
 
 -- a number that is read is spelled so
 abbrev pub NumberIsSpelled : Type 0
-NumberIsSpelled = (s after : Spot) (z : ℤ) → number_at s ≡ Ok (z, after) → Number z s.rest after.rest
+NumberIsSpelled =
+    (s after : Spot) (z : ℤ) → number_at s ≡ Ok (z, after) → Number z s.rest after.rest
 
 -- a number that is spelled so is read, and the spot after it has the rest
 abbrev pub SpelledNumberIsRead : Type 0
@@ -19,7 +20,9 @@ SpelledNumberIsRead = (s : Spot) (z : ℤ) (rest : List ℕ) → Number z s.rest
     → (after : Spot) × (after.rest ≡ rest) × (number_at s ≡ Ok (z, after))
 
 abbrev pub StringIsSpelled : Type 0
-StringIsSpelled = (s after : Spot) (text : List ℕ) → quoted_at s ≡ Ok (text, after) → Quoted text s.rest after.rest
+StringIsSpelled =
+    (s after : Spot) (text : List ℕ) → quoted_at s ≡ Ok (text, after)
+    → Quoted text s.rest after.rest
 
 abbrev pub SpelledStringIsRead : Type 0
 SpelledStringIsRead = (s : Spot) (text rest : List ℕ) → Quoted text s.rest rest
@@ -82,11 +85,14 @@ AreBytes bytes = IsTrue (list_all is_byte bytes)
 
 -- what follows a number in a list of bytes are bytes
 abbrev pub NumberLeavesBytes : Type 0
-NumberLeavesBytes = (z : ℤ) (bytes rest : List ℕ) → Number z bytes rest → AreBytes bytes → AreBytes rest
+NumberLeavesBytes =
+    (z : ℤ) (bytes rest : List ℕ) → Number z bytes rest → AreBytes bytes → AreBytes rest
 
 -- the text of a string in a list of bytes, and what follows it, are bytes
 abbrev pub StringLeavesBytes : Type 0
-StringLeavesBytes = (text bytes rest : List ℕ) → Quoted text bytes rest → AreBytes bytes → AreBytes text × AreBytes rest
+StringLeavesBytes =
+    (text bytes rest : List ℕ) → Quoted text bytes rest → AreBytes bytes → AreBytes text
+    × AreBytes rest
 
 -- ---- texts that were written
 

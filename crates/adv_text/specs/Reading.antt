@@ -31,7 +31,8 @@ pub data Fault : Type 0 where
 -- the spot after the whitespace
 abbrev pub past_whitespace : ℕ → List ℕ → Spot
 past_whitespace at [] = spot at []
-past_whitespace at (b ∷ bytes) = if is_whitespace b then past_whitespace (at + 1) bytes else spot at (b ∷ bytes)
+past_whitespace at (b ∷ bytes) =
+    if is_whitespace b then past_whitespace (at + 1) bytes else spot at (b ∷ bytes)
 
 -- ---- numbers
 
@@ -57,7 +58,8 @@ digits_at negative start n at (b ∷ bytes) =
 abbrev pub amount_at : Bool → ℕ → ℕ → List ℕ → Result (ℤ × Spot) Fault
 amount_at negative start at [] = Err (no_number start)
 amount_at negative start at (b ∷ bytes) =
-    if is_ascii_digit b then digits_at negative start (b - 48) (at + 1) bytes else Err (no_number start)
+    if is_ascii_digit b then digits_at negative start (b - 48) (at + 1) bytes
+    else Err (no_number start)
 
 -- the number at a spot, and the spot after it
 unfoldable pub number_at : Spot → Result (ℤ × Spot) Fault
@@ -69,10 +71,13 @@ number_at s =
 -- ---- strings
 
 -- one more byte is kept, unless there are 4,096 already
-abbrev pub keep : ℕ → List ℕ → ℕ → (List ℕ → Result (List ℕ × Spot) Fault) → Result (List ℕ × Spot) Fault
-keep opened kept b go_on = if nat_lt (length kept) text_limit then go_on (kept ++ b ∷ []) else Err (long_string opened)
+abbrev pub keep : ℕ → List ℕ → ℕ → (List ℕ → Result (List ℕ × Spot) Fault)
+    → Result (List ℕ × Spot) Fault
+keep opened kept b go_on =
+    if nat_lt (length kept) text_limit then go_on (kept ++ b ∷ []) else Err (long_string opened)
 
--- inside a string; held tells that the byte before was a quote, which ends it unless a second follows
+-- inside a string; held tells that the byte before was a quote, which ends it unless a second
+-- follows
 abbrev pub inside_at : ℕ → Bool → List ℕ → ℕ → List ℕ → Result (List ℕ × Spot) Fault
 inside_at opened held kept at [] = if held then Ok (kept, spot at []) else Err (open_string opened)
 inside_at opened held kept at (b ∷ bytes) =
@@ -81,12 +86,14 @@ inside_at opened held kept at (b ∷ bytes) =
     else inside_at opened true kept (at + 1) bytes)
     else if held then Ok (kept, spot at (b ∷ bytes))
     else if b == carriage_return then inside_at opened false kept (at + 1) bytes
-    else keep opened kept (if b == grave_accent then quote else b) (λ more. inside_at opened false more (at + 1) bytes)
+    else keep opened kept (if b == grave_accent then quote else b)
+    (λ more. inside_at opened false more (at + 1) bytes)
 
 -- the opening quote
 abbrev pub opening_at : ℕ → List ℕ → Result (List ℕ × Spot) Fault
 opening_at at [] = Err (no_quote at)
-opening_at at (b ∷ bytes) = if b == quote then inside_at at false [] (at + 1) bytes else Err (no_quote at)
+opening_at at (b ∷ bytes) =
+    if b == quote then inside_at at false [] (at + 1) bytes else Err (no_quote at)
 
 -- the text of the string at a spot, and the spot after it
 unfoldable pub quoted_at : Spot → Result (List ℕ × Spot) Fault
@@ -128,7 +135,8 @@ IsText (Err fault) text = fault ≡ answer.Memory
 abbrev pub IsErrOrMemory : Result (Vec ℕ) TextFault → TextFault → Type 0
 IsErrOrMemory r fault = IsErrOr answer.Memory r fault
 
--- more bytes of the string that was opened at this place make it longer than 4,096, unless memory ran out
+-- more bytes of the string that was opened at this place make it longer than 4,096, unless memory
+-- ran out
 abbrev pub IsLong : TextFault → ℕ → ℕ → Type 0
 IsLong (answer.NoNumber at) opened size = ⊥
 IsLong (answer.BigNumber at) opened size = ⊥
@@ -137,10 +145,14 @@ IsLong (answer.OpenString at) opened size = ⊥
 IsLong (answer.LongString at) opened size = (at ≡ opened) × (text_limit < size)
 IsLong answer.Memory opened size = Unit {0}
 
--- From any place: a piece of a string takes bytes, and what was kept by then goes on after it; or the string ends here, or the file.
+-- From any place: a piece of a string takes bytes, and what was kept by then goes on after it; or
+-- the string ends here, or the file.
 abbrev pub GoesOn : ℕ → Bool → List ℕ → List ℕ → List ℕ → Option (ℕ × Bool) → Type 0
 GoesOn opened held kept rest more None =
-    (more ≡ kept) × ((at : ℕ) → inside_at opened held kept at rest ≡ (if held then Ok (kept, spot at rest) else Err (open_string opened)))
+    (more ≡ kept)
+    × ((at : ℕ) → inside_at opened held kept at rest
+    ≡ (if held then Ok (kept, spot at rest) else Err (open_string opened)))
 GoesOn opened held kept rest more (Some piece) =
     (1 ≤ piece.0) × (piece.0 ≤ length rest)
-    × ((at : ℕ) → inside_at opened held kept at rest ≡ inside_at opened piece.1 more (at + piece.0) (drop piece.0 rest))
+    × ((at : ℕ) → inside_at opened held kept at rest
+    ≡ inside_at opened piece.1 more (at + piece.0) (drop piece.0 rest))

@@ -1,4 +1,5 @@
--- How numbers and strings are spelled: a spelling stands at the beginning of the bytes, and a rest follows it.
+-- How numbers and strings are spelled: a spelling stands at the beginning of the bytes, and a rest
+-- follows it.
 use Rattle.std.specs.Prelude.{ℕ, suc, not, ◌≡◌, ◌+◌, ◌-◌, ◌*◌, ◌≤◌, ◌<◌, ◌==◌, ◌||◌, ◌&&◌, nat_le, Bool, true, false, IsTrue, IsFalse, List, [], ◌∷◌, length, ℤ, pos, neg_ℤ}
 use Rattle.std.specs.Char.{is_ascii_digit}
 use Rattle.adv_io.specs.Text.{carriage_return, quote, plus_sign, minus_sign, grave_accent, is_whitespace, text_limit}
@@ -8,7 +9,8 @@ use Rattle.adv_io.specs.Text.{carriage_return, quote, plus_sign, minus_sign, gra
 -- after k bytes of whitespace the bytes go on as P says
 pub data AfterWhitespace (P : List ℕ → Type 0) : ℕ → List ℕ → Type 0 where
   here : {bytes : List ℕ} → P bytes → AfterWhitespace P 0 bytes
-  space : {k b : ℕ} {bytes : List ℕ} → IsTrue (is_whitespace b) → AfterWhitespace P k bytes → AfterWhitespace P (suc k) (b ∷ bytes)
+  space : {k b : ℕ} {bytes : List ℕ} → IsTrue (is_whitespace b) → AfterWhitespace P k bytes
+      → AfterWhitespace P (suc k) (b ∷ bytes)
 
 -- ---- numbers
 
@@ -20,7 +22,8 @@ NoDigit (b ∷ bytes) = IsFalse (is_ascii_digit b)
 -- after digits that make n, the digits up to the rest make m of it
 pub data Digits : ℕ → ℕ → List ℕ → List ℕ → Type 0 where
   last : {n : ℕ} {rest : List ℕ} → NoDigit rest → Digits n n rest rest
-  digit : {n m b : ℕ} {bytes rest : List ℕ} → IsTrue (is_ascii_digit b) → Digits (n * 10 + (b - 48)) m bytes rest → Digits n m (b ∷ bytes) rest
+  digit : {n m b : ℕ} {bytes rest : List ℕ} → IsTrue (is_ascii_digit b)
+      → Digits (n * 10 + (b - 48)) m bytes rest → Digits n m (b ∷ bytes) rest
 
 -- at least one digit, and all up to the rest make n
 abbrev pub Amount : ℕ → List ℕ → List ℕ → Type 0
@@ -30,8 +33,10 @@ Amount n (b ∷ bytes) rest = IsTrue (is_ascii_digit b) × Digits (b - 48) n byt
 -- the digits may have a sign before them: `+`, or `-` for a negative number
 pub data Signed : Bool → ℕ → List ℕ → List ℕ → Type 0 where
   bare : {n : ℕ} {bytes rest : List ℕ} → Amount n bytes rest → Signed false n bytes rest
-  plus : {n : ℕ} {bytes rest : List ℕ} → Amount n bytes rest → Signed false n (plus_sign ∷ bytes) rest
-  minus : {n : ℕ} {bytes rest : List ℕ} → Amount n bytes rest → Signed true n (minus_sign ∷ bytes) rest
+  plus : {n : ℕ} {bytes rest : List ℕ} → Amount n bytes rest
+      → Signed false n (plus_sign ∷ bytes) rest
+  minus : {n : ℕ} {bytes rest : List ℕ} → Amount n bytes rest
+      → Signed true n (minus_sign ∷ bytes) rest
 
 -- the number of an amount, negative or not
 abbrev pub signed : Bool → ℕ → ℤ
@@ -55,10 +60,13 @@ pub record BeginsNumber (z : ℤ) (rest bytes : List ℕ) : Type 0 where
 abbrev pub Number : ℤ → List ℕ → List ℕ → Type 0
 Number z bytes rest = (k : ℕ) × AfterWhitespace (BeginsNumber z rest) k bytes
 
--- neither a byte of whitespace nor a digit stands first, and no digit after a sign that stands first
+-- neither a byte of whitespace nor a digit stands first, and no digit after a sign that stands
+-- first
 abbrev pub NoNumber : List ℕ → Type 0
 NoNumber [] = Unit {0}
-NoNumber (b ∷ bytes) = IsFalse (is_whitespace b) × IsFalse (is_ascii_digit b) × (IsTrue (b == plus_sign || b == minus_sign) → NoDigit bytes)
+NoNumber (b ∷ bytes) =
+    IsFalse (is_whitespace b) × IsFalse (is_ascii_digit b)
+    × (IsTrue (b == plus_sign || b == minus_sign) → NoDigit bytes)
 
 -- the bytes begin with a number that 32 bits can't hold
 pub record BigNumber (bytes : List ℕ) : Type 0 where
@@ -77,10 +85,14 @@ is_plain b = not (b == quote || (b == carriage_return || b == grave_accent))
 -- inside a string the bytes up to the rest are kept as the text
 pub data Inside : List ℕ → List ℕ → List ℕ → Type 0 where
   here : {rest : List ℕ} → Inside [] rest rest
-  plain : {b : ℕ} {text bytes rest : List ℕ} → IsTrue (is_plain b) → Inside text bytes rest → Inside (b ∷ text) (b ∷ bytes) rest
-  two_quotes : {text bytes rest : List ℕ} → Inside text bytes rest → Inside (quote ∷ text) (quote ∷ quote ∷ bytes) rest
-  grave : {text bytes rest : List ℕ} → Inside text bytes rest → Inside (quote ∷ text) (grave_accent ∷ bytes) rest
-  return : {text bytes rest : List ℕ} → Inside text bytes rest → Inside text (carriage_return ∷ bytes) rest
+  plain : {b : ℕ} {text bytes rest : List ℕ} → IsTrue (is_plain b) → Inside text bytes rest
+      → Inside (b ∷ text) (b ∷ bytes) rest
+  two_quotes : {text bytes rest : List ℕ} → Inside text bytes rest
+      → Inside (quote ∷ text) (quote ∷ quote ∷ bytes) rest
+  grave : {text bytes rest : List ℕ} → Inside text bytes rest
+      → Inside (quote ∷ text) (grave_accent ∷ bytes) rest
+  return : {text bytes rest : List ℕ} → Inside text bytes rest
+      → Inside text (carriage_return ∷ bytes) rest
 
 -- no quote stands first
 abbrev pub NoQuote : List ℕ → Type 0

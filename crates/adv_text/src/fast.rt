@@ -1,7 +1,8 @@
-//! Numbers and strings as most of them stand in a file: after one byte of whitespace, short and plain.
+//! Numbers and strings as most of them stand in a file: after one byte of whitespace, short and
+//! plain.
 //!
-//! They are read on a fast path. Where there is none here the scan reads on byte by byte, so nothing but the
-//! time that reading takes hangs on how often one is found here.
+//! They are read on a fast path. Where there is none here the scan reads on byte by byte, so
+//! nothing but the time that reading takes hangs on how often one is found here.
 ghost use Rattle.std.specs.Prelude.{◌≡◌, ◌+◌, ◌≤◌, ◌<◌, ℕ, Bool, true, Ok, IfSome, length, drop, slice_index_or};
 ghost use Rattle.std.specs.Char.{is_ascii_digit};
 ghost use Rattle.adv_text.specs.Spelling.{signed};
@@ -10,8 +11,9 @@ ghost use Rattle.adv_text.specs.Reading.{spot, amount_at, number_at, quoted_at};
 use crate::quoted::plain_length;
 use adv_io::is_whitespace;
 
-/// The amount of the digits that begin these bytes, where there are at most six of them, and how many
-/// there are. There is none where no digit stands first, or where fewer than seven bytes are there.
+/// The amount of the digits that begin these bytes, where there are at most six of them, and how
+/// many there are. There is none where no digit stands first, or where fewer than seven bytes are
+/// there.
 ///
 /// No digit is asked whether it is the last byte, or whether it makes a number too big.
 #[inline(always)]
@@ -40,8 +42,9 @@ pub fn short_amount(bytes: &[u8]) -> Option<(u32, usize)>
     None
 }
 
-/// The number without a sign that stands after one byte of whitespace at the beginning of these bytes, where it is as
-/// short, and how many bytes it takes with its space. There is none where it doesn't stand so.
+/// The number without a sign that stands after one byte of whitespace at the beginning of these
+/// bytes, where it is as short, and how many bytes it takes with its space. There is none where it
+/// doesn't stand so.
 #[inline(always)]
 pub fn short_number(bytes: &[u8]) -> Option<(i32, usize)>
     ensures value { IfSome result (λ x. (at : ℕ)
@@ -58,8 +61,9 @@ pub fn short_number(bytes: &[u8]) -> Option<(i32, usize)>
     Some((amount as i32, size + 1))
 }
 
-/// The text of the string that stands after one byte of whitespace at the beginning of these bytes, where it is all kept
-/// as it is. It takes three bytes more, its space and its quotes. There is none where it doesn't stand so.
+/// The text of the string that stands after one byte of whitespace at the beginning of these bytes,
+/// where it is all kept as it is. It takes three bytes more, its space and its quotes. There is
+/// none where it doesn't stand so.
 #[inline(always)]
 pub fn plain_string(bytes: &[u8]) -> Option<&[u8]>
     ensures value { IfSome result (λ text. (at : ℕ) → quoted_at (spot at bytes.now)

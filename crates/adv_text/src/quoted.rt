@@ -31,7 +31,8 @@ fn keep(_alloc: Global, text: &mut Vec<u8>, bytes: &[u8], opened: usize) -> Resu
     Ok(())
 }
 
-// After a quote that is held a second one is kept as one, and any other byte shows that the string has ended.
+// After a quote that is held a second one is kept as one, and any other byte shows that the string
+// has ended.
 fn after_quote(
     alloc: Global,
     text: &mut Vec<u8>,
@@ -52,7 +53,8 @@ fn after_quote(
     Ok(Some((1, false)))
 }
 
-// A byte that isn't kept as it is: a quote is held, a return is dropped, and a grave accent is kept as a quote.
+// A byte that isn't kept as it is: a quote is held, a return is dropped, and a grave accent is kept
+// as a quote.
 fn special(
     alloc: Global,
     text: &mut Vec<u8>,
@@ -77,8 +79,8 @@ fn special(
     Ok(Some((1, false)))
 }
 
-/// Reads the next piece of the string that was opened at this place: how many bytes it takes, and whether a
-/// quote is held after it. There is none where the string ends, or the file.
+/// Reads the next piece of the string that was opened at this place: how many bytes it takes, and
+/// whether a quote is held after it. There is none where the string ends, or the file.
 pub fn next_piece(
     alloc: Global,
     text: &mut Vec<u8>,

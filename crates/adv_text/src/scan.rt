@@ -82,10 +82,11 @@ impl<'a> Scan<'a> {
         self.rest = &self.rest[count..];
     }
 
-    /// Reads a number: whitespace, a sign or none, and decimal digits up to the first byte that is none.
+    /// Reads a number: whitespace, a sign or none, and decimal digits up to the first byte that is
+    /// none.
     ///
-    /// Its value lies within 32 bits with a sign. The faults are `NoNumber` and `BigNumber`. This call
-    /// takes no memory. docs/FORMAT.md has the rule.
+    /// Its value lies within 32 bits with a sign. The faults are `NoNumber` and `BigNumber`. This
+    /// call takes no memory. docs/FORMAT.md has the rule.
     #[inline(always)]
     pub fn number(&mut self) -> Result<i32, TextFault>
         // What is read is spelled so, and what is spelled so is read.
@@ -107,11 +108,12 @@ impl<'a> Scan<'a> {
         self.next_number()
     }
 
-    /// Reads a string: whitespace, a quote, and all up to the next quote that isn't directly followed by
-    /// another. Inside, two quotes and a grave accent are one quote each, and a return is dropped.
+    /// Reads a string: whitespace, a quote, and all up to the next quote that isn't directly
+    /// followed by another. Inside, two quotes and a grave accent are one quote each, and a return
+    /// is dropped.
     ///
-    /// At most 4,096 bytes are kept. The faults are `NoQuote`, `LongString`, `OpenString` and `Memory`.
-    /// docs/FORMAT.md has the rule.
+    /// At most 4,096 bytes are kept. The faults are `NoQuote`, `LongString`, `OpenString` and
+    /// `Memory`. docs/FORMAT.md has the rule.
     #[inline(always)]
     pub fn quoted(&mut self, alloc: Global) -> Result<Vec<u8>, TextFault>
         // What is read is spelled so, and what is spelled so is read, unless memory runs out.

@@ -7,8 +7,8 @@ use adv_io::Memory;
 use itoa::{Buffer, Integer};
 use std::alloc::Global;
 
-/// Writes an integer of any type at the end: its decimal digits without leading zeros, after `-` where
-/// it is negative.
+/// Writes an integer of any type at the end: its decimal digits without leading zeros, after `-`
+/// where it is negative.
 ///
 /// After a fault nothing was written.
 pub fn put_integer<I: Integer>(_alloc: Global, out: &mut Vec<u8>, n: I) -> Result<(), Memory>
@@ -32,8 +32,8 @@ pub fn put_number(alloc: Global, out: &mut Vec<u8>, n: i32) -> Result<(), Memory
 
 /// Writes a string at the end: the text between quotes, each quote in it twice.
 ///
-/// The text has at most 4,096 bytes, and neither a return nor a grave accent, which no string can give.
-/// After a fault nothing was written. docs/FORMAT.md has the rule.
+/// The text has at most 4,096 bytes, and neither a return nor a grave accent, which no string can
+/// give. After a fault nothing was written. docs/FORMAT.md has the rule.
 pub fn put_quoted(_alloc: Global, out: &mut Vec<u8>, text: &[u8]) -> Result<(), Memory>
     requires { IsTrue (is_text text.now) }
     ensures written { OnOk result (out.new.items ≡ out.old.items ++ quoted_text text.now) }

@@ -1,5 +1,6 @@
-//! Tests of the crates that read, check and play a database: what no clause says, and that each public
-//! call succeeds with ample memory. They stand apart, so that no crate is proved twice for its tests.
+//! Tests of the crates that read, check and play a database: what no clause says, and that each
+//! public call succeeds with ample memory. They stand apart, so that no crate is proved twice for
+//! its tests.
 #![tactic(auto)]
 
 // Consoles and shelves.

@@ -27,7 +27,8 @@ effect_of world (e.Says text) = m.Says text.now
 effect_of world (e.SaysNumber n) = m.Says (signed_decimal n)
 effect_of world (e.SaysByte byte) = m.Says (byte ∷ [])
 
--- the frames that stand after a move, what is handed to the innermost of them, and what the move does
+-- the frames that stand after a move, what is handed to the innermost of them, and what the move
+-- does
 pub data Made : Type 0 where
   made : List f.Frame → f.Outcome → m.Effect → Made
 
@@ -40,7 +41,8 @@ made_of (m.Draws n) rest = made rest f.Normal m.Keeps
 -- this is what a move makes of a stack
 abbrev pub Makes : w.World → m.Move → Stack → Stack → Next → Type 0
 Makes world move old new next =
-    made (stack_of new) (signal_of next.signal) (effect_of world next.effect) ≡ made_of move (stack_of old)
+    made (stack_of new) (signal_of next.signal) (effect_of world next.effect)
+    ≡ made_of move (stack_of old)
 
 -- the same of a move that puts no frame on the stack
 abbrev pub Hands : w.World → m.Move → Next → Type 0

@@ -19,8 +19,8 @@ use crate::statements::{block_next, statement_next};
 use crate::values::eval_next;
 use inform_worlds::World;
 
-/// The move of what hasn't begun, where so many more calls may be open. A line and a draw are for the machine to
-/// take.
+/// The move of what hasn't begun, where so many more calls may be open. A line and a draw are for
+/// the machine to take.
 pub fn begin_next<'a>(
     world: &World<'a>,
     stack: &mut Stack<'a>,

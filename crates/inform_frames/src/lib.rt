@@ -1,5 +1,5 @@
-//! The frames of a run of an Inform program, and the next move of each: the frames that take its place when the
-//! outcome of its part is handed to it, and what else the move does.
+//! The frames of a run of an Inform program, and the next move of each: the frames that take its
+//! place when the outcome of its part is handed to it, and what else the move does.
 #![tactic(auto)]
 
 // What has begun, and what is handed to it.

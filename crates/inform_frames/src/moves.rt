@@ -115,8 +115,8 @@ fn decided_next<'a>(stack: &mut Stack<'a>, decide: &Decide<'a>, signal: Signal) 
     }
 }
 
-/// The move of a frame to which this is handed, where so many more calls may be open. The frame was taken from the
-/// stack.
+/// The move of a frame to which this is handed, where so many more calls may be open. The frame was
+/// taken from the stack.
 pub fn next<'a>(
     world: &World<'a>,
     stack: &mut Stack<'a>,

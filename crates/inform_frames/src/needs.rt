@@ -8,7 +8,8 @@ use crate::frames::{Begin, Frame};
 use crate::signals::Signal;
 use inform_tree::Name;
 
-/// What a move needs: nothing, a step, a line for this buffer, or a draw for a number up to this one.
+/// What a move needs: nothing, a step, a line for this buffer, or a draw for a number up to this
+/// one.
 #[derive(Clone, Copy)]
 pub enum Need<'a> {
     Nothing,

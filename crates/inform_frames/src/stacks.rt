@@ -8,11 +8,12 @@ use crate::frames::Frame;
 use adv_io::Memory;
 use std::alloc::Global;
 
-/// How many frames there is room for: 130 of `Main` and of each of 200 calls, and two more, since a move may put three
-/// in the place of one.
+/// How many frames there is room for: 130 of `Main` and of each of 200 calls, and two more, since a
+/// move may put three in the place of one.
 pub const ROOM: usize = 26_132;
 
-/// The frames, the innermost one last, and how many calls are open among them. It has all its memory.
+/// The frames, the innermost one last, and how many calls are open among them. It has all its
+/// memory.
 #[derive(Drop)]
 pub struct Stack<'a> {
     frames: Vec<Frame<'a>>,

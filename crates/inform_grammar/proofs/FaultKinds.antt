@@ -16,7 +16,8 @@ abbrev pub Goes : {X : Type 0} → Outcome X → Type 0
 Goes (goes p n) = ⊤
 Goes _ = ⊥
 
--- a lexeme is refused as one that is unexpected, or it is a connective in whose place the other one goes on
+-- a lexeme is refused as one that is unexpected, or it is a connective in whose place the other one
+-- goes on
 abbrev pub Judged : {X : Type 0} → Lexeme → Outcome X → Outcome X → Type 0
 Judged x (stops Unexpected) other = ⊤
 Judged x (stops Mixed) other = (is_connective x ≡ true) × Goes other

@@ -72,7 +72,8 @@ leads-good place room (x ∷ xs) p q n i l g =
 
 -- ---- where a fault stands
 
--- the plan and the number of openers at a fault; there is no room for an opener, or the lexeme can't stand there
+-- the plan and the number of openers at a fault; there is no room for an opener, or the lexeme
+-- can't stand there
 abbrev StopsAt : {X : Type 0} → (ℕ → Bool) → Plan X → ℕ → FaultKind → List Lexeme → Type 0
 StopsAt room q i kind [] = at_end (step None q i) ≡ refused_with kind []
 StopsAt {X = X} room q i kind (x ∷ xs) =

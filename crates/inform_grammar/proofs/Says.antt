@@ -61,7 +61,8 @@ module _ (room : ℕ → Bool) where
   abbrev pub Fits : Lexeme → ℕ → Type 0
   Fits x n = MatchBool (is_opener x) (room n ≡ true) ⊤
 
-  -- from so many open, a plan reads the lexemes up to the rest as the value, and leaves so many open
+  -- from so many open, a plan reads the lexemes up to the rest as the value, and leaves so many
+  -- open
   abbrev pub Holds : {X : Type 0} → Plan X → ℕ → X → List Lexeme → ℕ → List Lexeme → Type 0
   Holds (done x) n v ts m rest = (x ≡ v) × (n ≡ m) × (ts ≡ rest)
   Holds refuse n v ts m rest = ⊥

@@ -14,7 +14,8 @@ use Rattle.inform_grammar.specs.Trees.{AllOf, AnyOf, Guard, Join, Plain, Tested,
 -- what follows a value: a relation and another value, or nothing
 unfoldable pub relation_after : Expression → Plan Guard
 relation_after x =
-    next is_relation (λ sign. one r.Value (λ y. done (Tested (c.Compare (relation_of sign) x y)))) (done (Plain x))
+    next is_relation (λ sign. one r.Value (λ y. done (Tested (c.Compare (relation_of sign) x y))))
+    (done (Plain x))
 
 -- the value goes on after a first part in brackets
 unfoldable pub value_after : Expression → Plan Expression
@@ -27,7 +28,8 @@ bracket_after (Tested test) = done (Tested test)
 
 unfoldable pub test : Lexeme → Option (Plan Guard)
 test (Sign Not) =
-    Some (take (is_sign LeftRound) (one r.Condition (λ x. take (is_sign RightRound) (done (Tested (c.Not (condition x)))))))
+    Some (take (is_sign LeftRound)
+    (one r.Condition (λ x. take (is_sign RightRound) (done (Tested (c.Not (condition x)))))))
 test (Sign LeftRound) = Some (one r.Condition (λ x. take (is_sign RightRound) (bracket_after x)))
 test x = onward (value x) relation_after
 
@@ -40,7 +42,8 @@ member _ _ = None
 -- the further members after the first two; the other connective can't stand after them
 unfoldable pub members_after : Join → Condition → Condition → Plan Guard
 members_after join x y =
-    chain (r.Member join) (is_sign (other_connective join)) (x ∷ y ∷ []) (λ xs. done (Tested (joined join xs)))
+    chain (r.Member join) (is_sign (other_connective join)) (x ∷ y ∷ [])
+    (λ xs. done (Tested (joined join xs)))
 
 -- what follows the first test
 unfoldable pub tests_after : Guard → Plan Guard

@@ -12,24 +12,33 @@ use Rattle.inform_grammar.specs.Sentences.{Sentence}
 
 -- a sentence is read as its program, to its end
 abbrev pub SentenceIsRead : Type 0
-SentenceIsRead = (room : ℕ → Bool) (p : List DirectiveTree) (ts : List Lexeme) → Sentence room p ts → reads room ts program 0 ≡ Ok (p, spot 0 [])
+SentenceIsRead =
+    (room : ℕ → Bool) (p : List DirectiveTree) (ts : List Lexeme) → Sentence room p ts
+    → reads room ts program 0 ≡ Ok (p, spot 0 [])
 
 -- what is read as a program is a sentence of it
 abbrev pub ReadIsSentence : Type 0
-ReadIsSentence = (room : ℕ → Bool) (p : List DirectiveTree) (ts : List Lexeme) (n : ℕ) (rest : List Lexeme)
+ReadIsSentence =
+    (room : ℕ → Bool) (p : List DirectiveTree) (ts : List Lexeme) (n : ℕ) (rest : List Lexeme)
     → reads room ts program 0 ≡ Ok (p, spot n rest) → Sentence room p ts
 
 -- a list of lexemes has one program at most
 abbrev pub OneProgram : Type 0
-OneProgram = (room : ℕ → Bool) (p q : List DirectiveTree) (ts : List Lexeme) → Sentence room p ts → Sentence room q ts → p ≡ q
+OneProgram =
+    (room : ℕ → Bool) (p q : List DirectiveTree) (ts : List Lexeme) → Sentence room p ts
+    → Sentence room q ts → p ≡ q
 
 -- each list of lexemes is a sentence, or it has a fault
 abbrev pub SentenceOrFault : Type 0
-SentenceOrFault = (room : ℕ → Bool) (ts : List Lexeme) → ((p : List DirectiveTree) × Sentence room p ts) ⊎ ((f : Fault) × (reads room ts program 0 ≡ Err f))
+SentenceOrFault =
+    (room : ℕ → Bool) (ts : List Lexeme) → ((p : List DirectiveTree) × Sentence room p ts)
+    ⊎ ((f : Fault) × (reads room ts program 0 ≡ Err f))
 
 -- and never both
 abbrev pub NeverBoth : Type 0
-NeverBoth = (room : ℕ → Bool) (p : List DirectiveTree) (ts : List Lexeme) (f : Fault) → Sentence room p ts → reads room ts program 0 ≡ Err f → ⊥
+NeverBoth =
+    (room : ℕ → Bool) (p : List DirectiveTree) (ts : List Lexeme) (f : Fault) → Sentence room p ts
+    → reads room ts program 0 ≡ Err f → ⊥
 
 -- ---- the first fault
 
@@ -47,7 +56,9 @@ abbrev pub Stands : FaultKind → List Lexeme → List Lexeme → Type 0
 -- no sentence goes on here, whatever room it takes
 Stands Unexpected before rest = NoneGoesOn no_limit before rest
 -- the same at a connective, in whose place a sentence goes on with the other one
-Stands Mixed before (x ∷ rest) = (is_connective x ≡ true) × NoneGoesOn no_limit before (x ∷ rest) × IsPrefix no_limit (before ++ swapped x ∷ [])
+Stands Mixed before (x ∷ rest) =
+    (is_connective x ≡ true) × NoneGoesOn no_limit before (x ∷ rest)
+    × IsPrefix no_limit (before ++ swapped x ∷ [])
 -- a sentence goes on with this opener, but takes more room
 Stands TooDeep before (x ∷ rest) = (is_opener x ≡ true) × IsPrefix no_limit (before ++ x ∷ [])
 Stands kind before [] = ⊥
@@ -64,4 +75,6 @@ pub record FirstFault (room : ℕ → Bool) (ts : List Lexeme) (f : Fault) : Typ
 
 -- the fault that is read is the first one
 abbrev pub FaultIsFirst : Type 0
-FaultIsFirst = (room : ℕ → Bool) (ts : List Lexeme) (f : Fault) → reads room ts program 0 ≡ Err f → FirstFault room ts f
+FaultIsFirst =
+    (room : ℕ → Bool) (ts : List Lexeme) (f : Fault) → reads room ts program 0 ≡ Err f
+    → FirstFault room ts f

@@ -1,4 +1,5 @@
--- What lexemes mean to the grammar: their classes, the operators that they are, and which of them open and close.
+-- What lexemes mean to the grammar: their classes, the operators that they are, and which of them
+-- open and close.
 use Rattle.std.specs.Prelude.{ℕ, zero, suc, Bool, true, false, List, [], ◌∷◌, Option, Some, None, is_some, unwrap_or, ◌≡◌}
 use Rattle.inform_tree.specs.declared.values.SumOp.{SumOp}
 use Rattle.inform_tree.specs.declared.values.SumOp.TheVariants.{Add, Sub}

@@ -10,12 +10,13 @@ pub data Plan (X : Type 0) : Type 0 where
   refuse : Plan X
   -- a lexeme that passes the test is taken; where none stands next, the other plan
   next : (Lexeme → Bool) → (Lexeme → Plan X) → Plan X → Plan X
-  -- the first plan where a lexeme that passes the test stands next, and else the second; none is taken
+  -- the first plan where a lexeme that passes the test stands next, and else the second; none is
+  -- taken
   look : (Lexeme → Bool) → Plan X → Plan X → Plan X
   -- what a rule reads; where nothing that it may begin with stands next, the other plan
   maybe : (r : Rule) → (TreeOf r → Plan X) → Plan X → Plan X
-  -- what a rule reads, as often as something that it may begin with stands next, after those that were read so far; no lexeme
-  -- that passes the test may follow
+  -- what a rule reads, as often as something that it may begin with stands next, after those that
+  -- were read so far; no lexeme that passes the test may follow
   chain : (r : Rule) → (Lexeme → Bool) → List (TreeOf r) → (List (TreeOf r) → Plan X) → Plan X
   -- a statement that was open has ended
   shut : Plan X → Plan X

@@ -61,14 +61,17 @@ opened_after x n = if is_opener x then suc n else if is_closer x then one_less n
 
 -- a lexeme that is taken: an opener only where there is room for one more
 abbrev pub taken : {X : Type 0} → (ℕ → Bool) → Lexeme → List Lexeme → ℕ → (ℕ → Answer X) → Answer X
-taken room x xs n go = if is_opener x then (if room n then go (suc n) else Err (fault TooDeep (x ∷ xs))) else go (opened_after x n)
+taken room x xs n go =
+    if is_opener x then (if room n then go (suc n) else Err (fault TooDeep (x ∷ xs)))
+    else go (opened_after x n)
 
 abbrev pub at_end : {X : Type 0} → Outcome X → Answer X
 at_end (stops kind) = Err (fault kind [])
 at_end (gives x n) = Ok (x, spot n [])
 at_end (goes p n) = Err (fault Unexpected [])
 
-abbrev pub at_lexeme : {X : Type 0} → (ℕ → Bool) → Lexeme → List Lexeme → Outcome X → (Plan X → ℕ → Answer X) → Answer X
+abbrev pub at_lexeme : {X : Type 0} → (ℕ → Bool) → Lexeme → List Lexeme → Outcome X
+    → (Plan X → ℕ → Answer X) → Answer X
 at_lexeme room x xs (stops kind) go = Err (fault kind (x ∷ xs))
 at_lexeme room x xs (gives v n) go = Ok (v, spot n (x ∷ xs))
 at_lexeme room x xs (goes p n) go = taken room x xs n (go p)

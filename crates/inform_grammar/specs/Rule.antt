@@ -21,11 +21,14 @@ abbrev pub named : {X : Type 0} → (List ℕ → Plan X) → Plan X
 named k = next is_name (λ x. k (name_in x)) refuse
 
 unfoldable pub constant_after : Plan DirectiveTree
-constant_after = named (λ name. take (is_sign Assign) (one r.Constant (λ x. take (is_sign Semicolon) (done (d.Constant name x)))))
+constant_after =
+    named (λ name. take (is_sign Assign)
+    (one r.Constant (λ x. take (is_sign Semicolon) (done (d.Constant name x)))))
 
 unfoldable pub global_after : Plan DirectiveTree
 global_after =
-    named (λ name. next (is_sign Assign) (λ _. one r.Constant (λ x. take (is_sign Semicolon) (done (d.Global name (Some x)))))
+    named (λ name. next (is_sign Assign)
+    (λ _. one r.Constant (λ x. take (is_sign Semicolon) (done (d.Global name (Some x)))))
     (take (is_sign Semicolon) (done (d.Global name None))))
 
 unfoldable pub array_after : Plan DirectiveTree
@@ -36,7 +39,8 @@ array_after =
 unfoldable pub routine_after : Plan DirectiveTree
 routine_after =
     named (λ name. many r.Local [] (λ locals. take (is_sign Semicolon) (many r.Statement []
-    (λ xs. take (is_sign RightSquare) (take (is_sign Semicolon) (done (routine_tree name locals xs)))))))
+    (λ xs. take (is_sign RightSquare)
+    (take (is_sign Semicolon) (done (routine_tree name locals xs)))))))
 
 unfoldable pub directive : Lexeme → Option (Plan DirectiveTree)
 directive (Word w.Constant) = Some constant_after

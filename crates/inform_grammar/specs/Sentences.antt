@@ -26,19 +26,25 @@ pub data Names : List (List ℕ) → List Lexeme → List Lexeme → Type 0 wher
 
 pub data Directive (room : ℕ → Bool) : DirectiveTree → List Lexeme → List Lexeme → Type 0 where
   -- Constant name = const ;
-  constant : {name : List ℕ} {x : Const} {ts rest : List Lexeme} → Constant x ts (Sign Semicolon ∷ rest)
+  constant : {name : List ℕ} {x : Const} {ts rest : List Lexeme}
+      → Constant x ts (Sign Semicolon ∷ rest)
       → Directive room (d.Constant name x) (Word w.Constant ∷ Name name ∷ Sign Assign ∷ ts) rest
   -- Global name [ = const ] ;
-  global : {name : List ℕ} {rest : List Lexeme} → Directive room (d.Global name None) (Word w.Global ∷ Name name ∷ Sign Semicolon ∷ rest) rest
-  global_with : {name : List ℕ} {x : Const} {ts rest : List Lexeme} → Constant x ts (Sign Semicolon ∷ rest)
+  global : {name : List ℕ} {rest : List Lexeme}
+      → Directive room (d.Global name None) (Word w.Global ∷ Name name ∷ Sign Semicolon ∷ rest) rest
+  global_with : {name : List ℕ} {x : Const} {ts rest : List Lexeme}
+      → Constant x ts (Sign Semicolon ∷ rest)
       → Directive room (d.Global name (Some x)) (Word w.Global ∷ Name name ∷ Sign Assign ∷ ts) rest
   -- Array name ( -> | --> ) entry { entry } ;
   array : {name : List ℕ} {words : Bool} {x : Const} {xs : List Const} {ts mid rest : List Lexeme}
       → Entry room 0 x ts mid → Entries room 0 xs mid (Sign Semicolon ∷ rest)
-      → Directive room (d.Array name words (x ∷ xs)) (Word w.Array ∷ Name name ∷ Sign (arrow words) ∷ ts) rest
+      → Directive room (d.Array name words (x ∷ xs))
+      (Word w.Array ∷ Name name ∷ Sign (arrow words) ∷ ts) rest
   -- [ name { name } ; { statement } ] ;
-  routine : {name : List ℕ} {locals : List (List ℕ)} {xs : List s.Statement} {ts mid rest : List Lexeme}
-      → Names locals ts (Sign Semicolon ∷ mid) → Statements room 0 xs mid (Sign RightSquare ∷ Sign Semicolon ∷ rest)
+  routine : {name : List ℕ} {locals : List (List ℕ)} {xs : List s.Statement}
+      {ts mid rest : List Lexeme}
+      → Names locals ts (Sign Semicolon ∷ mid)
+      → Statements room 0 xs mid (Sign RightSquare ∷ Sign Semicolon ∷ rest)
       → Directive room (routine_tree name locals xs) (Sign LeftSquare ∷ Name name ∷ ts) rest
 
 -- program = { directive }, and nothing after it

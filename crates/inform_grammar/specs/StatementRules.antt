@@ -22,7 +22,10 @@ use Rattle.inform_grammar.specs.Trees.{Guard, condition, cases_tree}
 unfoldable pub change_after : List ℕ → Plan Assignment
 change_after name =
     next (is_sign Assign) (λ _. one r.Value (λ x. done (s.Set name x)))
-    (next is_arrow (λ a. one r.Primary (λ i. take (is_sign Assign) (one r.Value (λ x. done (s.SetEntry name (is_sign WordArrow a) i x)))))
+    (next is_arrow
+    (λ a. one r.Primary
+    (λ i. take (is_sign Assign)
+    (one r.Value (λ x. done (s.SetEntry name (is_sign WordArrow a) i x)))))
     (next (is_sign Increment) (λ _. done (s.Inc name))
     (next (is_sign Decrement) (λ _. done (s.Dec name))
     refuse)))
@@ -34,7 +37,8 @@ change _ = None
 -- a call or a change, with its semicolon
 unfoldable pub statement_after : List ℕ → Plan Statement
 statement_after name =
-    next (is_sign LeftRound) (λ _. arguments >>= λ xs. take (is_sign Semicolon) (done (s.Call name (v.arguments xs))))
+    next (is_sign LeftRound)
+    (λ _. arguments >>= λ xs. take (is_sign Semicolon) (done (s.Call name (v.arguments xs))))
     (change_after name >>= λ x. take (is_sign Semicolon) (done (s.Assign x)))
 
 -- ---- `print`
@@ -73,7 +77,8 @@ head_after x = (range_after x >>= choices_after) >>= λ xs. done (Head xs)
 
 -- a name begins a case where `:`, `,` or `to` follows it, and else a statement
 unfoldable pub part_after : List ℕ → Plan SwitchPart
-part_after name = look continues_choice (head_after (k.Name name)) (statement_after name >>= λ x. done (Said x))
+part_after name =
+    look continues_choice (head_after (k.Name name)) (statement_after name >>= λ x. done (Said x))
 
 -- the statements up to the first case, and the cases
 abbrev pub split_parts : List SwitchPart → List Statement × List (List s.Choice × List Statement)
@@ -93,17 +98,21 @@ statements_to_brace k = many r.Statement [] (λ xs. take (is_sign RightBrace) (k
 unfoldable pub default_after : Expression → List (List s.Choice × List Statement) → Plan Statement
 default_after x cases =
     next (is_word w.Default)
-    (λ _. take (is_sign Colon) (statements_to_brace (λ xs. done (s.Switch x (cases_tree cases) (s.default (Some xs))))))
+    (λ _. take (is_sign Colon)
+    (statements_to_brace (λ xs. done (s.Switch x (cases_tree cases) (s.default (Some xs))))))
     (take (is_sign RightBrace) (done (s.Switch x (cases_tree cases) (s.default None))))
 
 -- what stands in the braces
 unfoldable pub cases_after : Expression → Plan Statement
 cases_after x =
-    maybe r.Choice (λ first. choices_after first >>= λ xs. many r.Part [] (λ ps. default_after x (cases_of xs ps)))
+    maybe r.Choice
+    (λ first. choices_after first >>= λ xs. many r.Part []
+    (λ ps. default_after x (cases_of xs ps)))
     (default_after x [])
 
 unfoldable pub switch : Plan Statement
-switch = take (is_sign LeftRound) (one r.Value (λ x. take (is_sign RightRound) (take (is_sign LeftBrace) (cases_after x))))
+switch = take (is_sign LeftRound)
+    (one r.Value (λ x. take (is_sign RightRound) (take (is_sign LeftBrace) (cases_after x))))
 
 -- ---- statements with bodies
 
@@ -115,7 +124,9 @@ body_of p x = onward p (λ y. done (y ∷ []))
 -- an `else` belongs to the nearest `if` that has none
 unfoldable pub else_after : Guard → List Statement → Plan Statement
 else_after x xs =
-    next (is_word w.Else) (λ _. one r.Body (λ ys. shut (done (s.If (condition x) (s.statements xs) (s.statements ys)))))
+    next (is_word w.Else)
+    (λ _. one r.Body
+    (λ ys. shut (done (s.If (condition x) (s.statements xs) (s.statements ys)))))
     (shut (done (s.If (condition x) (s.statements xs) s.NoStatements)))
 
 -- a condition in brackets
@@ -126,16 +137,19 @@ unfoldable pub if_after : Plan Statement
 if_after = in_brackets (λ x. one r.Body (else_after x))
 
 unfoldable pub while_after : Plan Statement
-while_after = in_brackets (λ x. one r.Body (λ xs. shut (done (s.While (condition x) (s.statements xs)))))
+while_after =
+    in_brackets (λ x. one r.Body (λ xs. shut (done (s.While (condition x) (s.statements xs)))))
 
 unfoldable pub do_after : Plan Statement
 do_after =
     one r.Body (λ xs. take (is_word w.Until)
-    (in_brackets (λ x. take (is_sign Semicolon) (shut (done (s.Do (s.statements xs) (condition x)))))))
+    (in_brackets
+    (λ x. take (is_sign Semicolon) (shut (done (s.Do (s.statements xs) (condition x)))))))
 
 -- the head of a `for` has three parts, each of which may be left out
 unfoldable pub for_body : Option Assignment → Option Guard → Option Assignment → Plan Statement
-for_body first x last = one r.Body (λ xs. shut (done (s.For first (option_map condition x) last (s.statements xs))))
+for_body first x last =
+    one r.Body (λ xs. shut (done (s.For first (option_map condition x) last (s.statements xs))))
 
 unfoldable pub for_last : Option Assignment → Option Guard → Plan Statement
 for_last first x = optional r.Change (λ last. take (is_sign RightRound) (for_body first x last))
@@ -144,7 +158,8 @@ unfoldable pub for_test : Option Assignment → Plan Statement
 for_test first = optional r.Condition (λ x. take (is_sign Colon) (for_last first x))
 
 unfoldable pub for_after : Plan Statement
-for_after = take (is_sign LeftRound) (optional r.Change (λ first. take (is_sign Colon) (for_test first)))
+for_after =
+    take (is_sign LeftRound) (optional r.Change (λ first. take (is_sign Colon) (for_test first)))
 
 -- ---- statements
 
@@ -159,11 +174,14 @@ return_after =
 
 unfoldable pub print_after : Plan Statement
 print_after =
-    one r.Item (λ x. many r.FurtherItem (x ∷ []) (λ xs. take (is_sign Semicolon) (done (s.Print xs))))
+    one r.Item
+    (λ x. many r.FurtherItem (x ∷ []) (λ xs. take (is_sign Semicolon) (done (s.Print xs))))
 
 unfoldable pub read_after : Plan Statement
 read_after =
-    next is_name (λ line. next is_name (λ words. take (is_sign Semicolon) (done (s.Read (name_in line) (name_in words))))
+    next is_name
+    (λ line. next is_name
+    (λ words. take (is_sign Semicolon) (done (s.Read (name_in line) (name_in words))))
     refuse) refuse
 
 unfoldable pub statement : Lexeme → Option (Plan Statement)
@@ -190,7 +208,8 @@ unfoldable pub body : Lexeme → Option (Plan (List Statement))
 body x = body_of (statement x) x
 
 -- a constant that is no name begins a case
-unfoldable pub part_of : Option (Plan SwitchPart) → Option (Plan SwitchPart) → Option (Plan SwitchPart)
+unfoldable pub part_of : Option (Plan SwitchPart) → Option (Plan SwitchPart)
+    → Option (Plan SwitchPart)
 part_of (Some p) q = Some p
 part_of None q = q
 

@@ -22,8 +22,8 @@ sum_of x (y ∷ ys) = v.Sum x (v.terms (y ∷ ys))
 
 -- ---- conditions
 
--- What stands where a condition is expected: an expression, which may go on as a part of a greater one, or a condition that
--- is no expression.
+-- What stands where a condition is expected: an expression, which may go on as a part of a greater
+-- one, or a condition that is no expression.
 pub data Guard : Type 0 where
   Plain : Expression → Guard
   Tested : c.Condition → Guard
@@ -50,4 +50,5 @@ cases_tree [] = s.NoCases
 cases_tree (x ∷ xs) = s.MoreCases x.0 (s.statements x.1) (cases_tree xs)
 
 abbrev pub routine_tree : List ℕ → List (List ℕ) → List s.Statement → DirectiveTree
-routine_tree name locals xs = d.Routine (record { name = name; locals = locals; body = s.statements xs })
+routine_tree name locals xs =
+    d.Routine (record { name = name; locals = locals; body = s.statements xs })

@@ -38,12 +38,14 @@ unfoldable pub entry : Lexeme → Option (Plan Const)
 entry (Number n) = Some (done (k.Number n))
 entry (Character byte) = Some (done (k.Char byte))
 entry (Name name) = Some (done (k.Name name))
-entry (Sign LeftRound) = Some (take (is_sign Minus) (minus_number >>= λ x. take (is_sign RightRound) (done x)))
+entry (Sign LeftRound) =
+    Some (take (is_sign Minus) (minus_number >>= λ x. take (is_sign RightRound) (done x)))
 entry _ = None
 
 -- ---- operands
 
--- what follows the bracket after a name: arguments with commas between them, if any, and a closing bracket
+-- what follows the bracket after a name: arguments with commas between them, if any, and a closing
+-- bracket
 unfoldable pub arguments : Plan (List Expression)
 arguments =
     maybe r.Value (λ x. many r.Argument (x ∷ []) (λ xs. take (is_sign RightRound) (done xs)))
@@ -66,7 +68,8 @@ primary (Number n) = Some (done (v.Number n))
 primary (Character byte) = Some (done (v.Char byte))
 primary (Name name) = Some (name_after name)
 primary (Word w.Random) =
-    Some (take (is_sign LeftRound) (one r.Value (λ x. take (is_sign RightRound) (done (v.Random x)))))
+    Some (take (is_sign LeftRound)
+    (one r.Value (λ x. take (is_sign RightRound) (done (v.Random x)))))
 primary (Sign LeftRound) = Some (one r.Value (λ x. take (is_sign RightRound) (done x)))
 primary _ = None
 

@@ -37,8 +37,8 @@ pub fn never_both()
     ensures { NeverBoth }
 {}
 
-/// The fault that is read is the first one: the lexemes before it are a prefix of a sentence, and with it they are
-/// none, or there is no room for it.
+/// The fault that is read is the first one: the lexemes before it are a prefix of a sentence, and
+/// with it they are none, or there is no room for it.
 pub fn fault_is_first()
     ensures { FaultIsFirst }
 {

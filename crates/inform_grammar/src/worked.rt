@@ -1,5 +1,5 @@
-//! Worked examples of sentences and of faults. Each is the contract of a function that does nothing, and is proved
-//! by computing.
+//! Worked examples of sentences and of faults. Each is the contract of a function that does
+//! nothing, and is proved by computing.
 ghost use Rattle.inform_grammar.specs.Worked.{ChainsRead, EntriesRead, ElseIsNearest, BracketsRead, CasesRead, ItemsRead, LoopsRead, DirectivesRead, ConditionsAreNoValues, MixedJudged, EndsJudged, RoomJudged, LimitJudged};
 
 /// Sums and products are chains, and a bracket begins a chain of its own.

@@ -124,7 +124,8 @@ impl Keyword {
 
 // The first of these that is spelled so.
 fn among(word: &[u8], keywords: &[Keyword]) -> Option<Keyword>
-    ensures { result ≡ find (λ keyword. pointwise nat_eq word.now (keyword_text keyword)) keywords.now }
+    ensures { result
+        ≡ find (λ keyword. pointwise nat_eq word.now (keyword_text keyword)) keywords.now }
 {
     for keyword in keywords {
         if word == keyword.spelling() {

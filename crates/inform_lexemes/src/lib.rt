@@ -1,4 +1,5 @@
-//! The lexemes of the Inform profile: its symbols and the words of its grammar, and how each is spelled.
+//! The lexemes of the Inform profile: its symbols and the words of its grammar, and how each is
+//! spelled.
 #![tactic(auto)]
 
 pub mod keywords;

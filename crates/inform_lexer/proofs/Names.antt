@@ -1,4 +1,5 @@
--- A word that isn't reserved is a name; and what is reserved has the length of a reserved word with its first byte.
+-- A word that isn't reserved is a name; and what is reserved has the length of a reserved word with
+-- its first byte.
 use Rattle.std.specs.Prelude.{nat_eq, slice_index}
 use Rattle.std.specs.List.{filter, list_any}
 use Rattle.std.proofs.Common.{◌≡◌, ℕ, Bool, true, false, cond, List, [], ◌∷◌, length, map, Option, Some, None, refl, ap, subst, ◌∙◌, ◌||◌}

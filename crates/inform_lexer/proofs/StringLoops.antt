@@ -1,4 +1,5 @@
--- The inside of a string is read from piece to piece. The slice from a place on is `take (length whole - at) (drop at whole)`.
+-- The inside of a string is read from piece to piece. The slice from a place on is `take (length
+-- whole - at) (drop at whole)`.
 use Rattle.std.proofs.Common.{◌≡◌, ℕ, ◌+◌, ◌-◌, ◌≤◌, ◌<◌, Bool, false, List, [], ◌++◌, length, take, drop, Some, None, Result, Ok, Err, refl, sym, ap, ◌∙◌, arith, length-drop, append-nil}
 use Rattle.std.proofs.lemmas.List.{take_rest}
 use Rattle.inform_lexer.specs.Pieces.{Piece, added, cut}

@@ -1,4 +1,5 @@
--- A text is read from piece to piece. The slice from a place on is `take (length whole - at) (drop at whole)`.
+-- A text is read from piece to piece. The slice from a place on is `take (length whole - at) (drop
+-- at whole)`.
 use Rattle.std.proofs.Common.{◌≡◌, ℕ, ◌+◌, ◌-◌, ◌≤◌, ◌<◌, List, [], ◌∷◌, ◌++◌, length, take, drop, Option, Some, None, Result, Ok, Err, refl, sym, ap, ◌∙◌, arith, append-nil}
 use Rattle.std.proofs.lemmas.List.{take_rest}
 use Rattle.inform_lexer.specs.declared.kinds.Kind.{Kind}

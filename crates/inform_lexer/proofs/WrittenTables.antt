@@ -23,7 +23,8 @@ kind_of (Character byte) = kind.Character
 kind_of (Quoted text) = kind.Quoted
 kind_of (Sign symbol) = kind.Symbol
 
--- The bytes of a lexeme: the first is no blank, before the byte after it they are taken whole, and they say the lexeme.
+-- The bytes of a lexeme: the first is no blank, before the byte after it they are taken whole, and
+-- they say the lexeme.
 pub record Stands (x : Lexeme) : Type 0 where
   pub head : ℕ
   pub tail : List ℕ

@@ -30,6 +30,8 @@ is_digit_in base b = is_digit b base
 abbrev pub is_inside : ℕ → Bool
 is_inside b = not (b == 34)
 
--- a byte that stands for itself in a string: printable, no space, and none of `"`, `@`, `\`, `^` and `~`
+-- a byte that stands for itself in a string: printable, no space, and none of `"`, `@`, `\`, `^`
+-- and `~`
 abbrev pub is_plain : ℕ → Bool
-is_plain b = nat_le 33 b && (nat_le b 126 && not (list_any (nat_eq b) (34 ∷ 64 ∷ 92 ∷ 94 ∷ 126 ∷ [])))
+is_plain b =
+    nat_le 33 b && (nat_le b 126 && not (list_any (nat_eq b) (34 ∷ 64 ∷ 92 ∷ 94 ∷ 126 ∷ [])))

@@ -10,7 +10,8 @@ use Rattle.inform_lexer.specs.Written.{is_writable, is_read, text_of}
 
 -- tokens are read exactly where they are spelled
 abbrev pub TokensAreExact : Type 0
-TokensAreExact = (bytes : List ℕ) (tokens : List Token) → (lexed bytes ≡ Ok tokens) ↔ Spelled bytes tokens
+TokensAreExact =
+    (bytes : List ℕ) (tokens : List Token) → (lexed bytes ≡ Ok tokens) ↔ Spelled bytes tokens
 
 -- a fault is found exactly where it is the first one
 abbrev pub FaultIsExact : Type 0
@@ -19,11 +20,14 @@ FaultIsExact = (bytes : List ℕ) (fault : LexFault) → (lexed bytes ≡ Err fa
 -- bytes have tokens, or a fault
 abbrev pub TokensOrFault : Type 0
 TokensOrFault =
-    (bytes : List ℕ) → ((tokens : List Token) × Spelled bytes tokens) ⊎ ((fault : LexFault) × Faulty bytes fault)
+    (bytes : List ℕ) → ((tokens : List Token) × Spelled bytes tokens)
+    ⊎ ((fault : LexFault) × Faulty bytes fault)
 
 -- and never both
 abbrev pub NeverBoth : Type 0
-NeverBoth = (bytes : List ℕ) (tokens : List Token) (fault : LexFault) → Spelled bytes tokens → Faulty bytes fault → ⊥
+NeverBoth =
+    (bytes : List ℕ) (tokens : List Token) (fault : LexFault) → Spelled bytes tokens
+    → Faulty bytes fault → ⊥
 
 -- bytes have one list of tokens at most
 abbrev pub OneTokenList : Type 0
@@ -43,4 +47,5 @@ TextReadsBack = (xs : List Lexeme) → list_all is_writable xs ≡ true
 -- what tokens say has a text, unless it is a reserved word that is none of the grammar
 abbrev pub TokensAreWritable : Type 0
 TokensAreWritable =
-    (bytes : List ℕ) (tokens : List Token) → Spelled bytes tokens → list_all is_read (lexemes bytes tokens) ≡ true
+    (bytes : List ℕ) (tokens : List Token) → Spelled bytes tokens
+    → list_all is_read (lexemes bytes tokens) ≡ true

@@ -24,7 +24,8 @@ span bytes t = take (t.end - t.start) (drop t.start bytes)
 abbrev pub number_said : List ℕ → Option ℕ
 number_said [] = number_in 10 []
 number_said (b ∷ bytes) =
-    if b == 36 then (if slice_index bytes 0 == 36 then number_in 2 (drop 1 bytes) else number_in 16 bytes)
+    if b == 36
+    then (if slice_index bytes 0 == 36 then number_in 2 (drop 1 bytes) else number_in 16 bytes)
     else number_in 10 (b ∷ bytes)
 
 abbrev pub number_lexeme : Option ℕ → Lexeme
@@ -53,7 +54,8 @@ word_said bytes = map to_ascii_lowercase bytes
 
 -- of the bytes of a span
 abbrev pub lexeme_of : Kind → List ℕ → Lexeme
-lexeme_of kind.Word bytes = if nat_le (length bytes) NAME_LIMIT then word_lexeme (word_said bytes) else Reserved
+lexeme_of kind.Word bytes =
+    if nat_le (length bytes) NAME_LIMIT then word_lexeme (word_said bytes) else Reserved
 lexeme_of kind.Number bytes = number_lexeme (number_said bytes)
 lexeme_of kind.Character bytes = Character (slice_index bytes 1)
 lexeme_of kind.Quoted bytes = Quoted (string_said bytes)

@@ -6,8 +6,8 @@ use Rattle.inform_tree.specs.Words.{is_byte}
 use Rattle.inform_lexer.specs.Pieces.{Piece, cut}
 use Rattle.inform_lexer.specs.Bytes.{is_blank, is_break, is_digit_in, is_plain}
 
--- A piece, or the place of the byte that can't stand there. What is known at a byte is whether a caret stands directly
--- before it.
+-- A piece, or the place of the byte that can't stand there. What is known at a byte is whether a
+-- caret stands directly before it.
 abbrev pub StringStep : Type 0
 StringStep = Result (Piece Bool ℕ) ℕ
 
@@ -15,7 +15,8 @@ StringStep = Result (Piece Bool ℕ) ℕ
 abbrev pub says : ℕ → ℕ → ℕ → StringStep
 says count byte more = Ok (record { gives = replicate count byte; more = more; next = false })
 
--- a run of blanks with a break in it is nothing after a caret, and else one space; any other blank is a space
+-- a run of blanks with a break in it is nothing after a caret, and else one space; any other blank
+-- is a space
 abbrev pub spaces_of : Bool → Bool → ℕ → ℕ
 spaces_of caret broken size = if broken then (if caret then 0 else 1) else size
 
@@ -24,7 +25,8 @@ run_here caret b bytes =
     let more = prefix_len is_blank bytes in
     says (spaces_of caret (list_any is_break (b ∷ take more bytes)) (more + 1)) 32 more
 
--- after a first `@` (64): a second one, and all digits that follow, which are the byte of that value
+-- after a first `@` (64): a second one, and all digits that follow, which are the byte of that
+-- value
 abbrev pub escape_here : ℕ → List ℕ → StringStep
 escape_here at [] = Err at
 escape_here at (b ∷ bytes) =
@@ -32,8 +34,8 @@ escape_here at (b ∷ bytes) =
     let value = digits_value 10 (take size bytes) in
     if b == 64 && (nat_le 1 size && is_byte value) then says 1 value (1 + size) else Err at
 
--- the first piece: blanks, `^` (94), which is a line feed, `~` (126), which is a quote, an escape, or a byte that
--- stands for itself
+-- the first piece: blanks, `^` (94), which is a line feed, `~` (126), which is a quote, an escape,
+-- or a byte that stands for itself
 unfoldable pub string_step : Bool → ℕ → List ℕ → StringStep
 string_step caret at [] = Err at
 string_step caret at (b ∷ bytes) =

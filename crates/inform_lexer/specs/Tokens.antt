@@ -22,7 +22,12 @@ TokenStep = Result (Piece (Unit {0}) Token) LexFault
 
 -- a token with so many bytes after its first one
 abbrev pub token : Kind → ℕ → ℕ → TokenStep
-token k at more = Ok (record { gives = record { kind = k; start = at; end = at + 1 + more } ∷ []; more = more; next = tt })
+token k at more =
+    Ok (record {
+      gives = record { kind = k; start = at; end = at + 1 + more } ∷ [];
+      more = more;
+      next = tt;
+    })
 
 -- blanks or a comment
 abbrev pub gap : ℕ → TokenStep
@@ -43,24 +48,29 @@ number_token at more None = Err (BigNumber at)
 abbrev pub decimal_here : ℕ → List ℕ → TokenStep
 decimal_here at [] = Err (BadByte at)
 decimal_here at (b ∷ bytes) =
-    let more = prefix_len (is_digit_in 10) bytes in number_token at more (number_in 10 (b ∷ take more bytes))
+    let more =
+    prefix_len (is_digit_in 10) bytes in number_token at more
+    (number_in 10 (b ∷ take more bytes))
 
 -- after one dollar sign, and so many further ones
 abbrev pub based_here : ℕ → ℕ → ℕ → List ℕ → TokenStep
 based_here at base signs bytes =
     let size = prefix_len (is_digit_in base) bytes in
-    if nat_le 1 size then number_token at (signs + size) (number_in base (take size bytes)) else Err (BadByte at)
+    if nat_le 1 size then number_token at (signs + size) (number_in base (take size bytes))
+    else Err (BadByte at)
 
 -- after a first dollar sign (36): binary digits after a second one, or else hexadecimal digits
 abbrev pub dollar_here : ℕ → List ℕ → TokenStep
 dollar_here at [] = Err (BadByte at)
-dollar_here at (b ∷ bytes) = if b == 36 then based_here at 2 1 bytes else based_here at 16 0 (b ∷ bytes)
+dollar_here at (b ∷ bytes) =
+    if b == 36 then based_here at 2 1 bytes else based_here at 16 0 (b ∷ bytes)
 
 -- ---- characters and strings
 
 -- after an apostrophe: a character, and another apostrophe (39)
 abbrev pub character_here : ℕ → List ℕ → TokenStep
-character_here at (b ∷ c ∷ bytes) = if is_character b && c == 39 then token kind.Character at 2 else Err (BadCharacter at)
+character_here at (b ∷ c ∷ bytes) =
+    if is_character b && c == 39 then token kind.Character at 2 else Err (BadCharacter at)
 character_here at _ = Err (BadCharacter at)
 
 abbrev pub quoted : ℕ → ℕ → Result (List ℕ) ℕ → TokenStep
@@ -71,14 +81,16 @@ quoted at size (Err place) = Err (BadString (at + 1 + place))
 abbrev pub string_here : ℕ → List ℕ → TokenStep
 string_here at bytes =
     let size = prefix_len is_inside bytes in
-    if nat_lt size (length bytes) then quoted at size (inside_said (take size bytes)) else Err (OpenString at)
+    if nat_lt size (length bytes) then quoted at size (inside_said (take size bytes))
+    else Err (OpenString at)
 
 -- ---- symbols
 
 -- the longest symbol that the bytes begin with
 abbrev pub symbol_first : List ℕ → Option Symbol
 symbol_first bytes =
-    option_or (symbol_spelled (take 3 bytes)) (option_or (symbol_spelled (take 2 bytes)) (symbol_spelled (take 1 bytes)))
+    option_or (symbol_spelled (take 3 bytes))
+    (option_or (symbol_spelled (take 2 bytes)) (symbol_spelled (take 1 bytes)))
 
 abbrev pub symbol_token : ℕ → Option Symbol → TokenStep
 symbol_token at None = Err (BadByte at)
@@ -113,7 +125,8 @@ lexed bytes = cut token_step 0 tt 0 bytes
 
 -- ---- spans
 
--- each token begins after the end of the one before it and has a byte, and all end within so many bytes
+-- each token begins after the end of the one before it and has a byte, and all end within so many
+-- bytes
 abbrev pub InOrder : ℕ → ℕ → List Token → Type 0
 InOrder size at [] = at ≤ size
 InOrder size at (t ∷ tokens) = (at ≤ t.start) × (t.start < t.end) × InOrder size t.end tokens

@@ -21,9 +21,11 @@ said bytes = said_by bytes (lexed bytes)
 
 -- `--` stands before `->`, and `-->` is one
 abbrev pub LongestSymbolsFirst : Type 0
-LongestSymbolsFirst = (said (codes "a-->b") ≡ Ok (Name (codes "a") ∷ Sign s.WordArrow ∷ Name (codes "b") ∷ []))
+LongestSymbolsFirst =
+    (said (codes "a-->b") ≡ Ok (Name (codes "a") ∷ Sign s.WordArrow ∷ Name (codes "b") ∷ []))
     × (said (codes "--->") ≡ Ok (Sign s.Decrement ∷ Sign s.ByteArrow ∷ []))
-    × (said (codes "x<=-1") ≡ Ok (Name (codes "x") ∷ Sign s.LessEqual ∷ Sign s.Minus ∷ Number 1 ∷ []))
+    × (said (codes "x<=-1")
+    ≡ Ok (Name (codes "x") ∷ Sign s.LessEqual ∷ Sign s.Minus ∷ Number 1 ∷ []))
 
 abbrev pub CommentsPassed : Type 0
 CommentsPassed = (said (codes "If!a \" '\n;!") ≡ Ok (Word k.If ∷ Sign s.Semicolon ∷ []))
@@ -41,7 +43,8 @@ EscapesWritten = (string_text false (codes "@5 ~ ^ \\") ≡ codes "@@64@@53 @@12
     × (inside_said (codes "@@64@@53 @@126 @@94 @@92") ≡ Ok (codes "@5 ~ ^ \\"))
     × (string_text false (97 ∷ 10 ∷ 200 ∷ 32 ∷ 32 ∷ 55 ∷ []) ≡ codes "a^@@200  7")
     × (inside_said (codes "a^@@200  7") ≡ Ok (97 ∷ 10 ∷ 200 ∷ 32 ∷ 32 ∷ 55 ∷ []))
-    × (text_of (Word k.Constant ∷ Name (codes "n") ∷ Sign s.Assign ∷ Number 7 ∷ Sign s.Semicolon ∷ [])
+    × (text_of (Word k.Constant ∷ Name (codes "n") ∷ Sign s.Assign ∷ Number 7 ∷ Sign s.Semicolon
+    ∷ [])
     ≡ codes "Constant n = 7 ;\n")
 
 -- a string that is never closed has its fault at the quote, before anything in it
@@ -52,6 +55,7 @@ FaultsPlaced = (said (codes "x \"a\\b") ≡ Err (OpenString 2))
     × (said (codes "$$2") ≡ Err (BadByte 0))
 
 abbrev pub NumbersLimited : Type 0
-NumbersLimited = (said (codes "4294967295 $00fFffffff") ≡ Ok (Number 4294967295 ∷ Number 4294967295 ∷ []))
+NumbersLimited =
+    (said (codes "4294967295 $00fFffffff") ≡ Ok (Number 4294967295 ∷ Number 4294967295 ∷ []))
     × (said (codes "$$" ++ replicate 32 49) ≡ Ok (Number 4294967295 ∷ []))
     × (said (codes " 4294967296") ≡ Err (BigNumber 1))

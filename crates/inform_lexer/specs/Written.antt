@@ -26,7 +26,8 @@ string_text escaped [] = []
 string_text escaped (b ∷ text) =
     if b == 10 then 94 ∷ string_text false text else
     if b == 34 then 126 ∷ string_text false text else
-    if is_shown escaped b then b ∷ string_text false text else escape_text b ++ string_text true text
+    if is_shown escaped b then b ∷ string_text false text else escape_text b
+    ++ string_text true text
 
 -- ---- lexemes
 

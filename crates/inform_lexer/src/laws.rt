@@ -26,8 +26,8 @@ pub fn text_reads_back()
     ensures { TextReadsBack }
 {}
 
-/// What tokens say has a text, unless it is a reserved word that is none of the grammar: names are names in
-/// lower case, numbers fit, characters are characters, and strings say bytes.
+/// What tokens say has a text, unless it is a reserved word that is none of the grammar: names are
+/// names in lower case, numbers fit, characters are characters, and strings say bytes.
 pub fn tokens_are_writable()
     ensures { TokensAreWritable }
 {}

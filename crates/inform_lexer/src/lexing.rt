@@ -47,15 +47,16 @@ fn read(alloc: Global, bytes: &[u8]) -> Result<Vec<Token>, LexFault>
 
 /// The tokens of a text, in order. Their spans are in order too, and within the bytes.
 ///
-/// The faults are those of `LexFault`; the first one in the order of the text is answered. docs/INFORM.md has
-/// the rules ("Tokens").
+/// The faults are those of `LexFault`; the first one in the order of the text is answered.
+/// docs/INFORM.md has the rules ("Tokens").
 pub fn tokens(alloc: Global, bytes: &[u8]) -> Result<Vec<Token>, LexFault>
     // What is given is spelled, and what is spelled is given, unless memory runs out.
     ensures found { IfOk result (λ tokens. Spelled bytes.now tokens.items) }
     ensures only { (tokens : List Token) → Spelled bytes.now tokens → IsTokens result tokens }
     ensures order { IfOk result (λ tokens. InOrder (length bytes.now) 0 tokens.items) }
 
-    // A fault but `Memory` is answered only where it is the first one, and there, unless memory runs out.
+    // A fault but `Memory` is answered only where it is the first one, and there, unless memory
+    // runs out.
     ensures exact { IfErr result (λ fault. fault ≢ Memory → Faulty bytes.now fault) }
     ensures expected { (fault : LexFault) → Faulty bytes.now fault → IsErrOr Memory result fault }
 {

@@ -73,8 +73,8 @@ fn second_byte(bytes: &[u8]) -> u8
     }
 }
 
-/// What a token of these bytes says, without memory. A span that is no token of its kind says what begins
-/// nothing.
+/// What a token of these bytes says, without memory. A span that is no token of its kind says what
+/// begins nothing.
 ///
 /// docs/INFORM.md has the rules ("Tokens").
 pub fn glance(bytes: &[u8], token: Token) -> Glance

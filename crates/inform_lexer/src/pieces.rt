@@ -148,7 +148,8 @@ fn symbol_here(at: usize, bytes: &[u8]) -> Result<Found, LexFault>
     }
 }
 
-/// The first piece, where this place is that of its first byte, or the fault of a token that begins there.
+/// The first piece, where this place is that of its first byte, or the fault of a token that begins
+/// there.
 #[tactic(auto, unfolding(crate::specs::Tokens::token_step))]
 #[inline(always)]
 pub fn piece_here(at: usize, bytes: &[u8]) -> Result<Found, LexFault>

@@ -54,8 +54,8 @@ impl Run {
     }
 }
 
-/// How many bytes stand before the first break. Four bytes at a time are passed as long as none is a control
-/// byte up to the return.
+/// How many bytes stand before the first break. Four bytes at a time are passed as long as none is
+/// a control byte up to the return.
 pub fn comment_size(bytes: &[u8]) -> usize
     ensures value { result ≡ prefix_len is_comment_byte bytes.now }
     ensures within { result ≤ length bytes.now }

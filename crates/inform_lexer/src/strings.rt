@@ -84,7 +84,8 @@ fn escape_here(at: usize, rest: &[u8]) -> Result<StringPiece, usize>
     }
 }
 
-/// The first piece, where this place is that of its first byte, or the place where it can't stand there.
+/// The first piece, where this place is that of its first byte, or the place where it can't stand
+/// there.
 #[tactic(auto, unfolding(crate::specs::Strings::string_step))]
 #[inline(always)]
 pub fn string_piece(caret: bool, at: usize, inside: &[u8]) -> Result<StringPiece, usize>

@@ -98,7 +98,8 @@ fn is_one_of(number: usize, numbers: &[usize]) -> bool
     numbers.iter().any(|other| number == *other)
 }
 
-/// Whether a reserved word begins as this one does, and is as long. What doesn't look so isn't reserved.
+/// Whether a reserved word begins as this one does, and is as long. What doesn't look so isn't
+/// reserved.
 pub fn looks_reserved(word: &[u8]) -> bool
     ensures { is_reserved word.now ≡ true → result ≡ true }
 {

@@ -1,5 +1,5 @@
-//! Worked examples of texts, judged by hand. Each is the contract of a function that does nothing, and is
-//! proved by computing.
+//! Worked examples of texts, judged by hand. Each is the contract of a function that does nothing,
+//! and is proved by computing.
 ghost use Rattle.inform_lexer.specs.Worked.{LongestSymbolsFirst, CommentsPassed, StringsSaid, EscapesWritten, FaultsPlaced, NumbersLimited};
 
 /// Of the symbols that the bytes begin with, the longest one is meant.

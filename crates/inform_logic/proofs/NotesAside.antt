@@ -1,5 +1,5 @@
--- Values, conditions, changes, statements, calls and whole runs of programs that differ in what they
--- note alone.
+-- Values, conditions, changes, statements, calls and whole runs of programs that differ in what
+-- they note alone.
 use Rattle.std.proofs.Common.{◌≡◌, ◌∙◌, ℕ, zero, suc, ℤ, Bool, List, [], ◌∷◌, Option, Some, None, codes, refl, sym, append-nil}
 use Rattle.std.specs.Fmt.{signed_decimal}
 use Rattle.inform_tree.specs.Values as v

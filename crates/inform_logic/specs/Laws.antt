@@ -47,4 +47,5 @@ pub record SameButNotes (r r' : Outcome × Config) : Type 0 where
 abbrev pub NotesCountForNothing : Type 0
 NotesCountForNothing = (width : Width) (ds : List DirectiveTree)
     (notes more : List ℕ → ℕ → Option ℕ) (steps : ℕ) (lines : List (List ℕ)) (draws : List ℕ)
-    → SameButNotes (run_of width ds notes steps lines draws) (run_of width ds more steps lines draws)
+    → SameButNotes (run_of width ds notes steps lines draws)
+    (run_of width ds more steps lines draws)

@@ -197,7 +197,8 @@ QuitEndsTheRun = Ends
 abbrev pub RoutinesGiveValues : Type 0
 RoutinesGiveValues = Ends
     (main (s.Print (s.Value (call (codes "f") []) ∷ s.Value (call (codes "g") [])
-    ∷ s.Value (call (codes "h") []) ∷ s.Value (call (codes "i") []) ∷ s.Value (call (codes "j") []) ∷ [])
+    ∷ s.Value (call (codes "h") []) ∷ s.Value (call (codes "i") []) ∷ s.Value (call (codes "j") [])
+    ∷ [])
     ∷ [])
     ∷ routine (codes "f") [] [] ∷ routine (codes "g") [] (s.Return None ∷ [])
     ∷ routine (codes "h") [] (s.Rtrue ∷ []) ∷ routine (codes "i") [] (s.Rfalse ∷ [])

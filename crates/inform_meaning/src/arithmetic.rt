@@ -48,8 +48,8 @@ pub fn mul(width: Width, a: i32, b: i32) -> i32
     wrap(width, i64::from(a) * i64::from(b))
 }
 
-/// The quotient of two words, toward zero, or `None` where the divisor is 0. The least word divided by -1
-/// is itself.
+/// The quotient of two words, toward zero, or `None` where the divisor is 0. The least word divided
+/// by -1 is itself.
 pub fn div(width: Width, a: i32, b: i32) -> Option<i32>
     ensures { result ≡ word_quotient width a b }
 {

@@ -1,4 +1,5 @@
-//! Worked examples of runs. Each is the contract of a function that does nothing, and is proved by computing.
+//! Worked examples of runs. Each is the contract of a function that does nothing, and is proved by
+//! computing.
 ghost use Rattle.inform_meaning.specs.Worked.{DivisionTraps, StepsAreSpent, CallsNest, WordsWrap, DivisionGoesTowardZero, ChainsGoFromTheLeft, IndexIsTestedLast, LoopsAreLeft, BodyComesFirst, OneCaseIsDone, DrawsAreTaken, LinesAreKept, QuitEndsTheRun, RoutinesGiveValues, LocalsHide, RoutinesAreNoted};
 
 /// A division by 0 is a trap, in the routine that divides.
@@ -79,7 +80,8 @@ pub fn quit_ends_the_run()
     ensures { QuitEndsTheRun }
 {}
 
-/// A routine gives 1 at its end, by `return` and by `rtrue`, 0 by `rfalse`, and else the value that it returns.
+/// A routine gives 1 at its end, by `return` and by `rtrue`, 0 by `rfalse`, and else the value that
+/// it returns.
 #[tactic(auto, using(crate::proofs::Examples::routines_give_values))]
 pub fn routines_give_values()
     ensures { RoutinesGiveValues }

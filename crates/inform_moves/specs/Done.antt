@@ -38,12 +38,18 @@ after_step p x rest frames e effect (suc k) c =
 abbrev pub after_line : Program → List ℕ → List Frame → List (List ℕ) → Meaning
 after_line p name rest [] c = (Waits NeedsLine (Begins (LineDue name) ∷ rest), c)
 after_line p name rest (line ∷ lines) c =
-    goes_on p rest Normal (record c { lines = lines; past = c.past ++ Took line ∷ []; world = with_line name line c.world })
+    goes_on p rest Normal
+    (record c {
+      lines = lines;
+      past = c.past ++ Took line ∷ [];
+      world = with_line name line c.world;
+    })
 
 abbrev pub after_draw : Program → ℤ → List Frame → List ℕ → Meaning
 after_draw p m rest [] c = (Waits NeedsDraw (Begins (DrawDue m) ∷ rest), c)
 after_draw p m rest (draw ∷ draws) c =
-    goes_on p rest (Value (draw_within m draw)) (record c { draws = draws; past = c.past ++ Drew draw ∷ [] })
+    goes_on p rest (Value (draw_within m draw))
+    (record c { draws = draws; past = c.past ++ Drew draw ∷ [] })
 
 abbrev pub move_run : Program → Frame → List Frame → Move → Meaning
 move_run p x rest (Goes frames e effect) c = goes_on p (frames ++ rest) e (effected effect c)

@@ -39,7 +39,8 @@ FallsBelow most (Draws n) = 0 < most
 -- A move without a step leaves less work.
 abbrev pub MovesFall : Type 0
 MovesFall =
-    (p : Program) (n : ℕ) (w : World) (x : Frame) (e : Outcome) → FallsBelow (work x) (next p n w x e)
+    (p : Program) (n : ℕ) (w : World) (x : Frame) (e : Outcome)
+    → FallsBelow (work x) (next p n w x e)
 
 -- What a move needs is told by its frame and by what is handed to it.
 abbrev pub MovesNeed : Type 0

@@ -1,8 +1,8 @@
 //! The laws of moves. Each is the contract of a function that does nothing.
 ghost use Rattle.inform_moves.specs.Laws.{RunsAdd, MovesMean, MovesFall, MovesNeed, MovesReady, MovesFit, MovesOpen, FramesAreFew, RoomIsLeft};
 
-/// Whatever is handed to its innermost frame, a run only adds to what happened, and takes lines and draws from
-/// the front.
+/// Whatever is handed to its innermost frame, a run only adds to what happened, and takes lines and
+/// draws from the front.
 #[tactic(auto, using(crate::proofs::Running::runs_add))]
 pub fn runs_add()
     ensures { RunsAdd }

@@ -32,4 +32,6 @@ closes _ = false
 
 -- how many are open after such a lexeme, if there is room for it
 abbrev pub opened_within : Glance → ℕ → Option ℕ
-opened_within x n = if opens x then (if within_limit n then Some (suc n) else None) else Some (if closes x then one_less n else n)
+opened_within x n =
+    if opens x then (if within_limit n then Some (suc n) else None)
+    else Some (if closes x then one_less n else n)

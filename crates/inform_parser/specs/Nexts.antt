@@ -28,7 +28,9 @@ relation_next = next is_relation (λ x. done (relation_of x)) refuse
 
 -- the sign of a further factor
 unfoldable pub factor_next : Plan ProdOp
-factor_next = next (is_sign Times) (λ _. done Mul) (next (is_sign Divide) (λ _. done Div) (next (is_sign Remainder) (λ _. done Rem) refuse))
+factor_next =
+    next (is_sign Times) (λ _. done Mul)
+    (next (is_sign Divide) (λ _. done Div) (next (is_sign Remainder) (λ _. done Rem) refuse))
 
 -- the sign of a further term
 unfoldable pub term_next : Plan SumOp

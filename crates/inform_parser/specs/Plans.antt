@@ -17,7 +17,10 @@ use Rattle.inform_grammar.specs.Plan.{Plan, done, refuse, next, maybe, chain, �
 
 -- a draw, with its word
 abbrev pub random_plan : Plan Expression
-random_plan = take (is_word w.Random) (take (is_sign LeftRound) (one r.Value (λ x. take (is_sign RightRound) (done (v.Random x)))))
+random_plan =
+    take (is_word w.Random)
+    (take (is_sign LeftRound)
+    (one r.Value (λ x. take (is_sign RightRound) (done (v.Random x)))))
 
 -- ---- chains of conditions
 
@@ -80,5 +83,6 @@ test_to_colon = optional r.Condition (λ x. take (is_sign Colon) (done x))
 unfoldable pub default_read : Expression → Cases → Plan Statement
 default_read x cases =
     next (is_word w.Default)
-    (λ _. take (is_sign Colon) (statements_to_brace (λ xs. done (s.Switch x cases (s.default (Some xs))))))
+    (λ _. take (is_sign Colon)
+    (statements_to_brace (λ xs. done (s.Switch x cases (s.default (Some xs))))))
     (take (is_sign RightBrace) (done (s.Switch x cases (s.default None))))

@@ -40,10 +40,12 @@ place_before bytes tokens left = start_of bytes (drop (length tokens - left) tok
 abbrev pub IsReadTo : List ℕ → List Token → Fault → Type 0
 IsReadTo bytes tokens f = reads within_limit (lexemes bytes tokens) program 0 ≡ Err f
 
--- a fault of this kind is the one that they are read up to, which is the first one, and stands at this place
+-- a fault of this kind is the one that they are read up to, which is the first one, and stands at
+-- this place
 abbrev pub StandsAt : List ℕ → List Token → FaultKind → ℕ → Type 0
 StandsAt bytes tokens kind at =
-    (rest : List Lexeme) × IsReadTo bytes tokens (fault kind rest) × FirstFault within_limit (lexemes bytes tokens) (fault kind rest)
+    (rest : List Lexeme) × IsReadTo bytes tokens (fault kind rest)
+    × FirstFault within_limit (lexemes bytes tokens) (fault kind rest)
     × (at ≡ place_before bytes tokens (length rest))
 
 -- want of memory is no fault of the tokens

@@ -81,7 +81,8 @@ impl<'a> Cursor<'a> {
         self.simple_statement(alloc)
     }
 
-    /// Statements, as long as one begins with what stands next. So many are expected, and room is taken for those.
+    /// Statements, as long as one begins with what stands next. So many are expected, and room is
+    /// taken for those.
     #[cycle(statements)]
     #[tactic(auto, using(crate::proofs::Steps::steps, crate::proofs::BodySteps::statement_loop))]
     pub fn statements(&mut self, alloc: Global, room: usize) -> Result<Vec<Stmt>, Stop>
@@ -191,7 +192,8 @@ impl<'a> Cursor<'a> {
         last: Option<Change>,
     ) -> Result<Stmt, Stop>
         ensures gives { Gives statement_of
-            (for_body (assignment_if_any first) (guard_if_any test) (assignment_if_any last)) self.old result self.new }
+            (for_body (assignment_if_any first) (guard_if_any test) (assignment_if_any last))
+            self.old result self.new }
         ensures ahead { length self.new.rest ≤ length self.old.rest }
     {
         let body = self.body(alloc)?;

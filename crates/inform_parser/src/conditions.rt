@@ -174,7 +174,8 @@ impl<'a> Cursor<'a> {
         second: Cond,
     ) -> Result<Guard, Stop>
         ensures gives { Gives guard_of
-            (members_after (join_of join) (condition_of first) (condition_of second)) self.old result self.new }
+            (members_after (join_of join) (condition_of first) (condition_of second))
+            self.old result self.new }
         ensures ahead { length self.new.rest ≤ length self.old.rest }
     {
         let members = self.members(alloc, join, first, second)?;

@@ -77,7 +77,8 @@ fn is_closer(seen: Glance) -> bool
     }
 }
 
-// How many are open after such a lexeme, where so many were open before it and there is room for it.
+// How many are open after such a lexeme, where so many were open before it and there is room for
+// it.
 #[inline(always)]
 fn opened_after(seen: Glance, opened: usize) -> Option<usize>
     ensures { result ≡ opened_within seen opened }
@@ -267,7 +268,8 @@ impl<'a> Cursor<'a> {
     #[tactic(auto, using(crate::proofs::Taking::sign_taken, crate::proofs::Taking::sign_stops, crate::proofs::Taking::fails))]
     #[inline(always)]
     pub fn expect(&mut self, symbol: Symbol) -> Result<(), Stop>
-        ensures gives { Gives (λ _. Sign symbol) (next_of (is_sign symbol)) self.old result self.new }
+        ensures gives { Gives (λ _. Sign symbol) (next_of (is_sign symbol))
+            self.old result self.new }
         ensures ahead { length self.new.rest ≤ length self.old.rest }
         ensures taken { OnOk result (length self.new.rest < length self.old.rest) }
     {
@@ -282,7 +284,8 @@ impl<'a> Cursor<'a> {
     #[tactic(auto, using(crate::proofs::Taking::fails))]
     #[inline(always)]
     pub fn expect_word(&mut self, keyword: Keyword) -> Result<(), Stop>
-        ensures gives { Gives (λ _. Word keyword) (next_of (is_word keyword)) self.old result self.new }
+        ensures gives { Gives (λ _. Word keyword) (next_of (is_word keyword))
+            self.old result self.new }
         ensures ahead { length self.new.rest ≤ length self.old.rest }
         ensures taken { OnOk result (length self.new.rest < length self.old.rest) }
     {

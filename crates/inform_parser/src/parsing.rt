@@ -39,16 +39,18 @@ fn fault_at(stop: Stop, at: usize) -> ParseFault
 
 /// The program that these tokens of these bytes are.
 ///
-/// The faults are those of `ParseFault`; the first one in the order of the text is answered. docs/INFORM.md has the
-/// rules ("Grammar", "What the parser refuses"). Tokens of other bytes do no harm: they are read as what their spans
-/// say.
+/// The faults are those of `ParseFault`; the first one in the order of the text is answered.
+/// docs/INFORM.md has the rules ("Grammar", "What the parser refuses"). Tokens of other bytes do no
+/// harm: they are read as what their spans say.
 pub fn parse(alloc: Global, tokens: &[Token], bytes: &[u8]) -> Result<Program, ParseFault>
-    // What is given is the program of a sentence, and that of each sentence is given, unless memory runs out.
+    // What is given is the program of a sentence, and that of each sentence is given, unless memory
+    // runs out.
     ensures found { IfOk result (λ given. IsProgramOf bytes.now tokens.now (program_of given)) }
     ensures only { (p : List DirectiveTree) → IsProgramOf bytes.now tokens.now p
         → IsGiven result p }
 
-    // A fault but `Memory` is answered only where it is the first one, and there, unless memory runs out.
+    // A fault but `Memory` is answered only where it is the first one, and there, unless memory
+    // runs out.
     ensures fault { IfErr result (λ fault. IsFaultOf bytes.now tokens.now fault) }
     ensures expected { (fault : Fault) → IsReadTo bytes.now tokens.now fault
         → IsErrOr Memory result (fault_answer bytes.now tokens.now fault) }

@@ -15,7 +15,8 @@ use inform_tree::{Item, Stmt};
 use std::alloc::Global;
 
 impl<'a> Cursor<'a> {
-    // What follows the opening bracket of an item: `char`, its closing bracket and a value, or a value that goes on.
+    // What follows the opening bracket of an item: `char`, its closing bracket and a value, or a
+    // value that goes on.
     #[tactic(auto, using(crate::proofs::Steps::steps, crate::proofs::StatementSteps::item_inside_as))]
     fn item_inside(&mut self, alloc: Global) -> Result<Item, Stop>
         ensures gives { Gives print_item_of item_inside self.old result self.new }

@@ -110,7 +110,8 @@ impl<'a> Cursor<'a> {
     #[cycle(values)]
     #[tactic(auto, using(crate::proofs::Steps::steps, crate::proofs::TreesMade::expressions, crate::proofs::ValueSteps::argument_loop))]
     fn further_arguments(&mut self, alloc: Global, first: Expr) -> Result<Vec<Expr>, Stop>
-        ensures gives { Gives expressions_of (many r.Argument (expression_of first ∷ []) done) self.old result self.new }
+        ensures gives { Gives expressions_of (many r.Argument (expression_of first ∷ []) done)
+            self.old result self.new }
         ensures ahead { length self.new.rest ≤ length self.old.rest }
     {
         let mut arguments = Vec::with_capacity(alloc, 1)?;
@@ -261,7 +262,8 @@ impl<'a> Cursor<'a> {
     #[tactic(auto, using(crate::proofs::Steps::steps, crate::proofs::TreesMade::expressions), unfolding(inform_grammar::specs::ValueRules::factors_after))]
     #[inline(always)]
     pub fn factors_after(&mut self, alloc: Global, first: Expr) -> Result<Expr, Stop>
-        ensures gives { Gives expression_of (factors_after (expression_of first)) self.old result self.new }
+        ensures gives { Gives expression_of (factors_after (expression_of first))
+            self.old result self.new }
         ensures ahead { length self.new.rest ≤ length self.old.rest }
     {
         let factors = self.factors(alloc)?;
@@ -313,7 +315,8 @@ impl<'a> Cursor<'a> {
     #[tactic(auto, using(crate::proofs::Steps::steps, crate::proofs::TreesMade::expressions), unfolding(inform_grammar::specs::ValueRules::terms_after))]
     #[inline(always)]
     pub fn terms_after(&mut self, alloc: Global, first: Expr) -> Result<Expr, Stop>
-        ensures gives { Gives expression_of (terms_after (expression_of first)) self.old result self.new }
+        ensures gives { Gives expression_of (terms_after (expression_of first))
+            self.old result self.new }
         ensures ahead { length self.new.rest ≤ length self.old.rest }
     {
         let terms = self.terms(alloc)?;

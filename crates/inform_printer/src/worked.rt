@@ -1,5 +1,5 @@
-//! Worked examples of printed texts, judged by hand. Each is the contract of a function that does nothing, and is
-//! proved by computing.
+//! Worked examples of printed texts, judged by hand. Each is the contract of a function that does
+//! nothing, and is proved by computing.
 ghost use Rattle.inform_printer.specs.Worked.{ChainsPrinted, OperandsPrinted, ConditionsPrinted, ElsePrinted, CasesPrinted, TextsPrinted, ProgramPrinted};
 
 /// A part of a chain stands in brackets where it is a chain itself.

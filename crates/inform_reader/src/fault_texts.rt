@@ -7,8 +7,8 @@ use itoa::Buffer;
 impl ProgramFault {
     ghost use Rattle.inform_reader.specs.FaultTexts.{fault_pieces};
 
-    /// The pieces of what is said of the fault. A number is written into `digits`. Want of memory has no
-    /// text: its pieces are empty.
+    /// The pieces of what is said of the fault. A number is written into `digits`. Want of memory
+    /// has no text: its pieces are empty.
     pub fn pieces<'a>(&'a self, digits: &'a mut Buffer) -> [&'a [u8]; 3]
         ensures { map (λ piece. piece.now) result ≡ fault_pieces self.now }
     {

@@ -1,4 +1,5 @@
-//! Reading an Inform source: from its bytes to an accepted program, or to what is wrong with it first.
+//! Reading an Inform source: from its bytes to an accepted program, or to what is wrong with it
+//! first.
 #![tactic(auto)]
 
 // What may be wrong, and what is said of it.

@@ -84,8 +84,8 @@ fn accepted(alloc: Global, program: Program, width: Width) -> Result<Accepted, P
 
 /// Reads an Inform source, where words have this width.
 ///
-/// The first fault of the text is answered: of its tokens, or else of its grammar, or else of its names.
-/// docs/INFORM.md has the rules.
+/// The first fault of the text is answered: of its tokens, or else of its grammar, or else of its
+/// names. docs/INFORM.md has the rules.
 #[tactic(auto, using(crate::proofs::Answers::read_is))]
 pub fn read_program(alloc: Global, bytes: &[u8], width: Width) -> Result<Accepted, ProgramFault>
     ensures width { IfOk result (λ accepted. accepted.width ≡ width) }

@@ -59,4 +59,6 @@ ready-prop w [] = Unit-prop
 ready-prop w (x ∷ xs) = ×_prop (room-prop w x) (all_dry-prop xs)
 
 pub IsFit-prop : (m : Machine) → IsProp (IsFit m)
-IsFit-prop m = ×_prop (fits-prop (stack_of m.stack)) (×_prop le_prop (ready-prop (world_of m.world) (stack_of m.stack)))
+IsFit-prop m =
+    ×_prop (fits-prop (stack_of m.stack))
+    (×_prop le_prop (ready-prop (world_of m.world) (stack_of m.stack)))

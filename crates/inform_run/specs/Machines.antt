@@ -17,8 +17,8 @@ use Rattle.inform_run.specs.Points.{Point, next_need, Leads, Breaks}
 abbrev pub point_of : Machine → Point
 point_of m = record { frames = stack_of m.stack; handed = m.signal; world = world_of m.world }
 
--- each routine keeps within its frames, no more calls are open than may be, and where a line is due its
--- buffer has room
+-- each routine keeps within its frames, no more calls are open than may be, and where a line is due
+-- its buffer has room
 abbrev pub IsFit : Machine → Type 0
 IsFit m = Fits (stack_of m.stack) × ((calls_open (stack_of m.stack) ≤ CALL_LIMIT)
     × IsReady (world_of m.world) (stack_of m.stack))
@@ -34,9 +34,11 @@ IsDue at left draws d.Over = at.frames ≡ []
 
 -- ---- where the console's lines are known
 
-abbrev pub LeadsOn : Program → ConsoleView → ConsoleView → Point → Point → List ℕ → List ℕ → ℕ → Type 0
+abbrev pub LeadsOn : Program → ConsoleView → ConsoleView → Point → Point → List ℕ → List ℕ → ℕ
+    → Type 0
 LeadsOn p old new before after drawn left used =
-    (lines : List (List ℕ)) → old.left ≡ Some lines → Leads p old new before after lines drawn left used
+    (lines : List (List ℕ)) → old.left ≡ Some lines
+    → Leads p old new before after lines drawn left used
 
 -- with any number of steps, and whatever happened before
 abbrev pub BreaksOn : Program → ConsoleView → ConsoleView → Point → List ℕ → Type 0

@@ -89,29 +89,43 @@ pub record MovesOn (p : Program) (before after : Point) (x : Effect) : Type 0 wh
 
 -- the run got with so many steps from one point to another: the whole run from the first is what
 -- was done and the run from the second
-pub record Leads (p : Program) (old new : ConsoleView) (before after : Point) (given : List (List ℕ)) (drawn left : List ℕ) (used : ℕ) : Type 0 where
+pub record Leads (p : Program) (old new : ConsoleView) (before after : Point)
+    (given : List (List ℕ)) (drawn left : List ℕ) (used : ℕ) : Type 0 where
   pub done : List Step
   pub rest : List (List ℕ)
   pub grew : new.history ≡ grown old.history (shown_of done)
   pub lines : new.left ≡ Some rest
   pub same : (steps : ℕ) (past : List Step)
-      → run_from p before (steps + used) given drawn past ≡ run_from p after steps rest left (past ++ done)
+      → run_from p before (steps + used) given drawn past
+      ≡ run_from p after steps rest left (past ++ done)
 
 -- the run from there with so many steps comes to an end: it stops for this, these frames have
 -- begun and aren't finished, and so many steps are left
-pub record Ends (p : Program) (old new : ConsoleView) (before : Point) (steps : ℕ) (given : List (List ℕ)) (drawn left : List ℕ) (stop : m.Stop) (frames : List f.Frame) (world : World) (unused : ℕ) : Type 0 where
+pub record Ends (p : Program) (old new : ConsoleView) (before : Point) (steps : ℕ)
+    (given : List (List ℕ)) (drawn left : List ℕ) (stop : m.Stop) (frames : List f.Frame)
+    (world : World) (unused : ℕ) : Type 0 where
   pub done : List Step
   pub rest : List (List ℕ)
   pub grew : new.history ≡ grown old.history (shown_of done)
   pub lines : new.left ≡ Some rest
   pub outcome : Outcome
   pub same : (past : List Step) → run_from p before steps given drawn past
-      ≡ (outcome, record { steps = unused; lines = rest; draws = left; past = past ++ done; world = world })
+      ≡ (
+        outcome,
+        record {
+          steps = unused;
+          lines = rest;
+          draws = left;
+          past = past ++ done;
+          world = world;
+        },
+      )
   pub stop_is : stop_of outcome ≡ stop
   pub frames_are : begun_of outcome ≡ frames
 
 -- the console failed: what was shown is a prefix of what the run from there shows
-pub record Breaks (p : Program) (old new : ConsoleView) (before : Point) (steps : ℕ) (lines : List (List ℕ)) (drawn : List ℕ) (past : List Step) : Type 0 where
+pub record Breaks (p : Program) (old new : ConsoleView) (before : Point) (steps : ℕ)
+    (lines : List (List ℕ)) (drawn : List ℕ) (past : List Step) : Type 0 where
   pub events : List Step
   pub same : (run_from p before steps lines drawn past).1.past ≡ past ++ events
   pub part : GrewByPrefix old.history new.history (shown_of events)

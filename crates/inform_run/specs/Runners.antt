@@ -38,7 +38,8 @@ resumed r steps lines draws = resume (program_run r) (begun_in r) (left_to r ste
 
 -- what a run leaves is what the program leaves: what has begun, the world, the draws, the steps
 -- that were used, and why it stopped
-pub record Leaves (t : Outcome × Config) (steps : ℕ) (old new : Runner) (before now : Supply) (answer : Stop) : Type 0 where
+pub record Leaves (t : Outcome × Config) (steps : ℕ) (old new : Runner) (before now : Supply)
+    (answer : Stop) : Type 0 where
   pub begun : begun_in new ≡ begun_of t.0
   pub world : world_in new ≡ t.1.world
   pub draws : now.left ≡ t.1.draws
@@ -48,14 +49,18 @@ pub record Leaves (t : Outcome × Config) (steps : ℕ) (old new : Runner) (befo
 
 -- a run on a console whose lines are known: what it shows is what the program does, and a failure
 -- shows a prefix of that
-pub record Runs (old_console new_console : ConsoleView) (result : Result Stop ConsoleFault) (steps : ℕ) (t : Outcome × Config) (old new : Runner) (before now : Supply) : Type 0 where
-  pub shows : OnOk result (new_console.history ≡ grown old_console.history (shown (trace_of t.1.past)))
-  pub part : OnErr result (GrewByPrefix old_console.history new_console.history (shown (trace_of t.1.past)))
+pub record Runs (old_console new_console : ConsoleView) (result : Result Stop ConsoleFault)
+    (steps : ℕ) (t : Outcome × Config) (old new : Runner) (before now : Supply) : Type 0 where
+  pub shows : OnOk result
+      (new_console.history ≡ grown old_console.history (shown (trace_of t.1.past)))
+  pub part : OnErr result
+      (GrewByPrefix old_console.history new_console.history (shown (trace_of t.1.past)))
   pub lines : OnOk result (new_console.left ≡ Some t.1.lines)
   pub leaves : IfOk result (λ stop. Leaves t steps old new before now stop)
 
 -- a run with more steps, lines and draws is this run gone on with them from where it stopped
 abbrev pub GoesOn : Runner → ℕ → List (List ℕ) → List ℕ → Type 0
 GoesOn r steps lines draws = (more : ℕ) (further : List (List ℕ)) (drawn : List ℕ)
-    → resume (program_run r) (begun_in r) (with_more more further drawn (left_to r steps lines draws))
+    → resume (program_run r) (begun_in r)
+    (with_more more further drawn (left_to r steps lines draws))
     ≡ going_on (program_run r) more further drawn (resumed r steps lines draws)

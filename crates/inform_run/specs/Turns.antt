@@ -25,7 +25,8 @@ halted halt = m.Halted (halt_of halt)
 -- ---- where the console's lines are known
 
 -- so many steps are left
-abbrev pub EndsOn : Program → ConsoleView → ConsoleView → Point → ℕ → List ℕ → List ℕ → m.Stop → List f.Frame → World → ℕ → Type 0
+abbrev pub EndsOn : Program → ConsoleView → ConsoleView → Point → ℕ → List ℕ → List ℕ → m.Stop
+    → List f.Frame → World → ℕ → Type 0
 EndsOn p old new before steps drawn left stop frames world unused = (lines : List (List ℕ))
     → old.left ≡ Some lines → Ends p old new before steps lines drawn left stop frames world unused
 

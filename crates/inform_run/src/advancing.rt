@@ -20,8 +20,8 @@ use inform_frames::{Need, Signal};
 use inform_moves::laws::{moves_fall, moves_mean, moves_need, runs_add};
 use inform_tree::Name;
 
-/// What is due: nothing, as a move was made; a move after a step; a line or a draw, and none is left; or nothing
-/// any more, as the run is over.
+/// What is due: nothing, as a move was made; a move after a step; a line or a draw, and none is
+/// left; or nothing any more, as the run is over.
 #[derive(Clone, Copy, Debug, PartialEq, Eq)]
 pub enum Due {
     Moved,

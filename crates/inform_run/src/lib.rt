@@ -1,4 +1,5 @@
-//! The runner: it runs an accepted Inform program as the program means, step for step, on a console.
+//! The runner: it runs an accepted Inform program as the program means, step for step, on a
+//! console.
 #![tactic(auto)]
 
 // What has begun and isn't finished, and where a run stands between two moves.

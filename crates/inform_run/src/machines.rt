@@ -90,7 +90,8 @@ impl<'a> Machine<'a> {
         }
     }
 
-    /// The innermost frame makes its move, which needs nothing, or whose step was taken. What it says is answered.
+    /// The innermost frame makes its move, which needs nothing, or whose step was taken. What it
+    /// says is answered.
     pub fn make(&mut self) -> Effect<'a>
         requires fit { IsFit self.old }
         requires able { makes_move (next_need (point_of self.old)) ≡ true }

@@ -17,8 +17,8 @@ use std::alloc::Global;
 
 /// A program that runs.
 ///
-/// A clause sees what has begun and isn't finished, the world, the steps that were used, and whether a failure
-/// of the console broke the runner.
+/// A clause sees what has begun and isn't finished, the world, the steps that were used, and
+/// whether a failure of the console broke the runner.
 #[derive(Drop)]
 pub struct Runner<'a> {
     machine: Machine<'a>,
@@ -66,9 +66,10 @@ impl<'a> Runner<'a> {
         })
     }
 
-    /// Goes on from where the runner stands, for at most so many steps, and answers why it stopped. After
-    /// `NeedsLine`, `NeedsDraw` and `Spent` a later call goes on there; after `Quit` and `Trap` it answers the
-    /// same again, and nothing happens.
+    /// Goes on from where the runner stands, for at most so many steps, and answers why it stopped.
+    /// After
+    /// `NeedsLine`, `NeedsDraw` and `Spent` a later call goes on there; after `Quit` and `Trap` it
+    /// answers the same again, and nothing happens.
     ///
     /// The console's fault alone is a refusal, and breaks the runner: it can't go on.
     pub fn run<C: Console>(

@@ -9,7 +9,8 @@ pub enum Stop {
     NeedsLine,
     /// A draw is wanted, and none is left.
     NeedsDraw,
-    /// The program was about to do what it can't do, in the routine that is the directive of this number.
+    /// The program was about to do what it can't do, in the routine that is the directive of this
+    /// number.
     Trap(Trap, usize),
     /// A further step is due, and all were used.
     Spent,

@@ -1,9 +1,10 @@
-//! Reads an Inform source as far as is asked, and says what is in it. The scripts of bench/ measure it and
-//! compare it with other programs; it is no part of the tool.
+//! Reads an Inform source as far as is asked, and says what is in it. The scripts of bench/ measure
+//! it and compare it with other programs; it is no part of the tool.
 //!
-//! `tokens FILE` says how many tokens there are, `tree FILE` how many directives, `names FILE` how many
-//! of an accepted program. `print16 FILE` and `print32 FILE` say the printed text of a program that is
-//! accepted with words of 16 or of 32 bits. Where there is a fault it is said, and the status is 6.
+//! `tokens FILE` says how many tokens there are, `tree FILE` how many directives, `names FILE` how
+//! many of an accepted program. `print16 FILE` and `print32 FILE` say the printed text of a program
+//! that is accepted with words of 16 or of 32 bits. Where there is a fault it is said, and the
+//! status is 6.
 #![tactic(auto)]
 
 use adv_io::{Console, ConsoleFault, DiskShelf, Shelf, StdConsole, say_all};

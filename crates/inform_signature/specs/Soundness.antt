@@ -51,7 +51,8 @@ IsSound width known (d.Routine r) = first_of (routine_faults width known r) ≡ 
 
 -- ---- programs
 
--- No two directives have one name, each is sound, the arrays have no more entries than they may, and
+-- No two directives have one name, each is sound, the arrays have no more entries than they may,
+-- and
 -- `main` is a routine.
 pub record IsSoundProgram (width : Width) (ds : List DirectiveTree) : Type 0 where
   pub distinct : Distinct ds

@@ -1,5 +1,5 @@
-//! Tests of the crates of the Inform profile: what no clause says, and that each public call succeeds
-//! with ample memory. They stand apart, so that no crate is proved twice for its tests.
+//! Tests of the crates of the Inform profile: what no clause says, and that each public call
+//! succeeds with ample memory. They stand apart, so that no crate is proved twice for its tests.
 #![tactic(auto)]
 
 #[cfg(test)]

@@ -164,8 +164,8 @@ fn nested(
     Ok(text)
 }
 
-// What opens, what stands in the middle, what closes, how many fit in one another, and the place of the
-// first opener too many where there are 201.
+// What opens, what stands in the middle, what closes, how many fit in one another, and the place of
+// the first opener too many where there are 201.
 const OPENERS: &[(&[u8], &[u8], &[u8], u32, usize)] = &[
     (b"{", b"", b"}", 200, 208),
     (b"if(1)", b";", b"", 199, 1005),

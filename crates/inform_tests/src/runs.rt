@@ -11,8 +11,8 @@ use std::alloc::Global;
 use std::process::Abort;
 use std::test::Fail;
 
-// A program, the lines, the draws, the steps, the width of its words, and what it says, then why it stops
-// and how many steps it used.
+// A program, the lines, the draws, the steps, the width of its words, and what it says, then why it
+// stops and how many steps it used.
 struct Row {
     text: &'static [u8],
     lines: &'static [&'static [u8]],

@@ -40,7 +40,8 @@ FaultIsFirst = (bytes : List ℕ) (kind : FaultKind) (place : ℕ) → (r : Refu
 
 -- a text is read as a program exactly where it is a text of it
 abbrev pub ProgramIn : Type 0
-ProgramIn = (bytes : List ℕ) (p : List DirectiveTree) → (program_in bytes ≡ Ok p) ↔ ProgramText bytes p
+ProgramIn =
+    (bytes : List ℕ) (p : List DirectiveTree) → (program_in bytes ≡ Ok p) ↔ ProgramText bytes p
 
 -- and a fault is found exactly where it is the first one
 abbrev pub FaultIn : Type 0

@@ -1,5 +1,5 @@
-//! Worked examples of texts and faults, judged by hand. Each is the contract of a function that does
-//! nothing, and is proved by computing.
+//! Worked examples of texts and faults, judged by hand. Each is the contract of a function that
+//! does nothing, and is proved by computing.
 ghost use Rattle.inform_texts.specs.Worked.{LayoutLeavesNoTrace, FaultsPlaced};
 
 /// Capitals, blanks, the base of a number and a comment leave no trace in the program.

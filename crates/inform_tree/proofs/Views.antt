@@ -1,5 +1,5 @@
--- The tree of what has several parts, an equation a variant: for the arms of a `match` whose answer is made of
--- the answers for two parts.
+-- The tree of what has several parts, an equation a variant: for the arms of a `match` whose answer
+-- is made of the answers for two parts.
 use Rattle.std.proofs.Common.{◌≡◌, List, sym, ◌∙◌, ap}
 use Rattle.std.specs.Global.{Box, Vec}
 use Rattle.inform_tree.specs.Values as v

@@ -30,7 +30,8 @@ conditions (x ∷ xs) = MoreConditions x (conditions xs)
 
 -- one layer of it, where the trees of the parts are known
 abbrev pub condition_step : Cond-F Condition → Condition
-condition_step (c.Compare relation left right) = Compare relation (expression_of left) (expression_of right)
+condition_step (c.Compare relation left right) =
+    Compare relation (expression_of left) (expression_of right)
 condition_step (c.Nonzero x) = Nonzero (expression_of x)
 condition_step (c.All xs) = All (conditions xs.items)
 condition_step (c.Any xs) = Any (conditions xs.items)

@@ -40,7 +40,8 @@ abbrev mutual
 
 abbrev mutual
   pub condition_depth : Condition → ℕ
-  condition_depth (c.Compare relation left right) = max (expression_depth left) (expression_depth right) + 1
+  condition_depth (c.Compare relation left right) =
+      max (expression_depth left) (expression_depth right) + 1
   condition_depth (c.Nonzero x) = expression_depth x + 1
   condition_depth (c.All xs) = conditions_depth xs + 1
   condition_depth (c.Any xs) = conditions_depth xs + 1
@@ -74,11 +75,14 @@ optional_depth depth (Some x) = depth x
 
 -- what stands in the brackets of a `for`
 abbrev pub head_depth : Option Assignment → Option Condition → Option Assignment → ℕ
-head_depth first test next = max (optional_depth assignment_depth first) (max (optional_depth condition_depth test) (optional_depth assignment_depth next))
+head_depth first test next =
+    max (optional_depth assignment_depth first)
+    (max (optional_depth condition_depth test) (optional_depth assignment_depth next))
 
 -- the same of a head of the program
 abbrev pub head_depth_of : Option Change → Option Cond → Option Change → ℕ
-head_depth_of first test next = head_depth (assignment_if_any first) (condition_if_any test) (assignment_if_any next)
+head_depth_of first test next =
+    head_depth (assignment_if_any first) (condition_if_any test) (assignment_if_any next)
 
 abbrev mutual
   pub statement_depth : Statement → ℕ
@@ -86,11 +90,14 @@ abbrev mutual
   statement_depth (s.Block body) = statements_depth body + 1
   statement_depth (s.Assign change) = assignment_depth change + 1
   statement_depth (s.Call name xs) = arguments_depth xs + 1
-  statement_depth (s.If test body other) = max (condition_depth test) (max (statements_depth body) (statements_depth other)) + 1
+  statement_depth (s.If test body other) =
+      max (condition_depth test) (max (statements_depth body) (statements_depth other)) + 1
   statement_depth (s.While test body) = max (condition_depth test) (statements_depth body) + 1
   statement_depth (s.Do body test) = max (statements_depth body) (condition_depth test) + 1
-  statement_depth (s.For first test next body) = max (head_depth first test next) (statements_depth body) + 1
-  statement_depth (s.Switch x xs rest) = max (expression_depth x) (max (cases_depth xs) (default_depth rest)) + 1
+  statement_depth (s.For first test next body) =
+      max (head_depth first test next) (statements_depth body) + 1
+  statement_depth (s.Switch x xs rest) =
+      max (expression_depth x) (max (cases_depth xs) (default_depth rest)) + 1
   statement_depth s.Break = 1
   statement_depth s.Continue = 1
   statement_depth s.Quit = 1

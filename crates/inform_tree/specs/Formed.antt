@@ -59,8 +59,10 @@ abbrev mutual
   is_formed_expression (v.Call name xs) = is_name name && are_formed_arguments xs
   is_formed_expression (v.Random limit) = is_formed_expression limit
   is_formed_expression (v.Neg operand) = is_formed_expression operand
-  is_formed_expression (v.Sum first xs) = is_formed_expression first && (has_terms xs && are_formed_terms xs)
-  is_formed_expression (v.Product first xs) = is_formed_expression first && (has_factors xs && are_formed_factors xs)
+  is_formed_expression (v.Sum first xs) =
+      is_formed_expression first && (has_terms xs && are_formed_terms xs)
+  is_formed_expression (v.Product first xs) =
+      is_formed_expression first && (has_factors xs && are_formed_factors xs)
 
   pub are_formed_arguments : Arguments → Bool
   are_formed_arguments v.NoArguments = true
@@ -88,7 +90,8 @@ are_formed_both x y = is_formed_expression x && is_formed_expression y
 
 abbrev mutual
   pub is_formed_condition : Condition → Bool
-  is_formed_condition (c.Compare relation left right) = is_formed_expression left && is_formed_expression right
+  is_formed_condition (c.Compare relation left right) =
+      is_formed_expression left && is_formed_expression right
   is_formed_condition (c.Nonzero x) = is_formed_expression x
   is_formed_condition (c.All xs) = has_two xs && are_formed_conditions xs
   is_formed_condition (c.Any xs) = has_two xs && are_formed_conditions xs
@@ -126,11 +129,14 @@ are_formed_choices xs = has_some xs && list_all is_formed_choice xs
 
 -- what stands in the brackets of a `for`
 abbrev pub is_formed_head : Option Assignment → Option Condition → Option Assignment → Bool
-is_formed_head first test next = is_formed_if_any is_formed_assignment first && (is_formed_if_any is_formed_condition test && is_formed_if_any is_formed_assignment next)
+is_formed_head first test next =
+    is_formed_if_any is_formed_assignment first
+    && (is_formed_if_any is_formed_condition test && is_formed_if_any is_formed_assignment next)
 
 -- the same of a head of the program
 abbrev pub is_formed_head_of : Option Change → Option Cond → Option Change → Bool
-is_formed_head_of first test next = is_formed_head (assignment_if_any first) (condition_if_any test) (assignment_if_any next)
+is_formed_head_of first test next =
+    is_formed_head (assignment_if_any first) (condition_if_any test) (assignment_if_any next)
 
 abbrev mutual
   pub is_formed_statement : Statement → Bool
@@ -138,11 +144,14 @@ abbrev mutual
   is_formed_statement (s.Block body) = are_formed_statements body
   is_formed_statement (s.Assign change) = is_formed_assignment change
   is_formed_statement (s.Call name xs) = is_name name && are_formed_arguments xs
-  is_formed_statement (s.If test body other) = is_formed_condition test && (are_formed_statements body && are_formed_statements other)
+  is_formed_statement (s.If test body other) =
+      is_formed_condition test && (are_formed_statements body && are_formed_statements other)
   is_formed_statement (s.While test body) = is_formed_condition test && are_formed_statements body
   is_formed_statement (s.Do body test) = are_formed_statements body && is_formed_condition test
-  is_formed_statement (s.For first test next body) = is_formed_head first test next && are_formed_statements body
-  is_formed_statement (s.Switch x xs rest) = is_formed_expression x && (are_formed_cases xs && is_formed_default rest)
+  is_formed_statement (s.For first test next body) =
+      is_formed_head first test next && are_formed_statements body
+  is_formed_statement (s.Switch x xs rest) =
+      is_formed_expression x && (are_formed_cases xs && is_formed_default rest)
   is_formed_statement s.Break = true
   is_formed_statement s.Continue = true
   is_formed_statement s.Quit = true
@@ -159,7 +168,8 @@ abbrev mutual
 
   pub are_formed_cases : Cases → Bool
   are_formed_cases s.NoCases = true
-  are_formed_cases (s.MoreCases choices body xs) = are_formed_choices choices && (are_formed_statements body && are_formed_cases xs)
+  are_formed_cases (s.MoreCases choices body xs) =
+      are_formed_choices choices && (are_formed_statements body && are_formed_cases xs)
 
   pub is_formed_default : Default → Bool
   is_formed_default s.NoDefault = true
@@ -168,14 +178,18 @@ abbrev mutual
 -- ---- programs
 
 abbrev pub is_formed_routine : RoutineTree → Bool
-is_formed_routine r = is_name r.name && (list_all is_name r.locals && (nat_le (routine_depth r) DEPTH_LIMIT && are_formed_statements r.body))
+is_formed_routine r =
+    is_name r.name
+    && (list_all is_name r.locals
+    && (nat_le (routine_depth r) DEPTH_LIMIT && are_formed_statements r.body))
 
 abbrev pub are_formed_entries : List Const → Bool
 are_formed_entries xs = has_some xs && list_all is_formed_constant xs
 
 abbrev pub is_formed_directive : DirectiveTree → Bool
 is_formed_directive (d.Constant name value) = is_name name && is_formed_constant value
-is_formed_directive (d.Global name value) = is_name name && is_formed_if_any is_formed_constant value
+is_formed_directive (d.Global name value) =
+    is_name name && is_formed_if_any is_formed_constant value
 is_formed_directive (d.Array name words entries) = is_name name && are_formed_entries entries
 is_formed_directive (d.Routine r) = is_formed_routine r
 

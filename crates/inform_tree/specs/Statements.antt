@@ -72,7 +72,8 @@ mutual
 
 abbrev pub assignment_of : Change → Assignment
 assignment_of (a.Set name x) = Set name (expression_of x)
-assignment_of (a.SetEntry name words index x) = SetEntry name words (expression_of index) (expression_of x)
+assignment_of (a.SetEntry name words index x) =
+    SetEntry name words (expression_of index) (expression_of x)
 assignment_of (a.Inc name) = Inc name
 assignment_of (a.Dec name) = Dec name
 
@@ -105,11 +106,15 @@ statement_step s.Empty = Empty
 statement_step (s.Block body) = Block (statements body.items)
 statement_step (s.Change change) = Assign (assignment_of change)
 statement_step (s.Call name xs) = Call name (arguments_of xs.items)
-statement_step (s.If test body other) = If (condition_of test) (statements body.items) (statements other.items)
+statement_step (s.If test body other) =
+    If (condition_of test) (statements body.items) (statements other.items)
 statement_step (s.While test body) = While (condition_of test) (statements body.items)
 statement_step (s.Do body test) = Do (statements body.items) (condition_of test)
-statement_step (s.For first test next body) = For (assignment_if_any first) (condition_if_any test) (assignment_if_any next) (statements body.items)
-statement_step (s.Switch x xs rest) = Switch (expression_of x) (cases xs.items) (default (option_map (λ v. v.items) rest))
+statement_step (s.For first test next body) =
+    For (assignment_if_any first) (condition_if_any test) (assignment_if_any next)
+    (statements body.items)
+statement_step (s.Switch x xs rest) =
+    Switch (expression_of x) (cases xs.items) (default (option_map (λ v. v.items) rest))
 statement_step s.Break = Break
 statement_step s.Continue = Continue
 statement_step s.Quit = Quit

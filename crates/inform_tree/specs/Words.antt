@@ -22,7 +22,10 @@ is_reserved word = is_among word (map (λ w. w.now) RESERVED)
 -- at most 32 letters, digits and underscores, not a digit first, and no reserved word
 abbrev pub is_name : List ℕ → Bool
 is_name [] = false
-is_name (byte ∷ bytes) = begins_name byte && (list_all is_name_byte bytes && (nat_lt (length bytes) NAME_LIMIT && not (is_reserved (byte ∷ bytes))))
+is_name (byte ∷ bytes) =
+    begins_name byte
+    && (list_all is_name_byte bytes
+    && (nat_lt (length bytes) NAME_LIMIT && not (is_reserved (byte ∷ bytes))))
 
 -- a byte with a meaning of its own in a string or beside a character
 abbrev pub is_special : ℕ → Bool

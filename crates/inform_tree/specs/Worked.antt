@@ -40,12 +40,16 @@ CharactersJudged = (is_character 32 ≡ true)
 
 -- `if (1) ;`: the statement, its condition and the value in it
 abbrev pub TestCounts : Type 0
-TestCounts = statement_depth (s.If (c.Nonzero (v.Number 1)) (statements (s.Empty ∷ [])) s.NoStatements) ≡ 3
+TestCounts =
+    statement_depth (s.If (c.Nonzero (v.Number 1)) (statements (s.Empty ∷ [])) s.NoStatements) ≡ 3
 
 -- `x++;` has no value in it, `x = 1 + y;` a sum with its parts, and `print "a", 1;` a value
 abbrev pub ChangesCountNothing : Type 0
 ChangesCountNothing = (statement_depth (s.Assign (s.Inc (codes "x"))) ≡ 1)
-    × (statement_depth (s.Assign (s.Set (codes "x") (v.Sum (v.Number 1) (v.MoreTerms Add (v.Name (codes "y")) v.NoTerms)))) ≡ 3)
+    × (statement_depth
+    (s.Assign
+    (s.Set (codes "x")
+    (v.Sum (v.Number 1) (v.MoreTerms Add (v.Name (codes "y")) v.NoTerms)))) ≡ 3)
     × (statement_depth (s.Print (s.Text (codes "a") ∷ s.Value (v.Number 1) ∷ [])) ≡ 2)
 
 -- blocks, one in another
@@ -55,7 +59,13 @@ blocks (x ∷ xs) = s.Block (s.MoreStatements (blocks xs) s.NoStatements)
 
 -- `[ main; .. ];` with a statement as deep as that, and so many blocks round an empty one
 abbrev nested : ℕ → List DirectiveTree
-nested n = d.Routine (record { name = codes "main"; locals = []; body = statements (blocks (replicate n 0) ∷ []) }) ∷ []
+nested n =
+    d.Routine
+    (record {
+      name = codes "main";
+      locals = [];
+      body = statements (blocks (replicate n 0) ∷ []);
+    }) ∷ []
 
 -- 63 blocks round a `;` have depth 64
 abbrev pub DepthLimitJudged : Type 0
@@ -65,8 +75,14 @@ DepthLimitJudged = (is_well_formed (nested 63) ≡ true) × (is_well_formed (nes
 
 -- one condition is no chain, and two are
 abbrev pub ChainsJudged : Type 0
-ChainsJudged = (is_formed_statement (s.While (c.All (c.MoreConditions (c.Nonzero (v.Number 1)) c.NoConditions)) s.NoStatements) ≡ false)
-    × (is_formed_statement (s.While (c.All (c.MoreConditions (c.Nonzero (v.Number 1)) (c.MoreConditions (c.Nonzero (v.Number 2)) c.NoConditions))) s.NoStatements) ≡ true)
+ChainsJudged =
+    (is_formed_statement
+    (s.While (c.All (c.MoreConditions (c.Nonzero (v.Number 1)) c.NoConditions)) s.NoStatements)
+    ≡ false)
+    × (is_formed_statement
+    (s.While (c.All
+    (c.MoreConditions (c.Nonzero (v.Number 1))
+    (c.MoreConditions (c.Nonzero (v.Number 2)) c.NoConditions))) s.NoStatements) ≡ true)
     × (is_formed_expression (v.Sum (v.Number 1) v.NoTerms) ≡ false)
 
 -- an array without an entry, a `print` without an item and a case without a choice
@@ -74,4 +90,5 @@ abbrev pub EmptyListsRefused : Type 0
 EmptyListsRefused = (is_well_formed (d.Array (codes "a") true [] ∷ []) ≡ false)
     × (is_well_formed (d.Array (codes "a") true (k.Number 0 ∷ []) ∷ []) ≡ true)
     × (is_formed_statement (s.Print []) ≡ false)
-    × (is_formed_statement (s.Switch (v.Number 1) (s.MoreCases [] s.NoStatements s.NoCases) s.NoDefault) ≡ false)
+    × (is_formed_statement
+    (s.Switch (v.Number 1) (s.MoreCases [] s.NoStatements s.NoCases) s.NoDefault) ≡ false)

@@ -57,7 +57,8 @@ fn directive_is_formed(directive: &Directive) -> bool
 }
 
 impl Program {
-    /// Whether the program is well formed, which is what it takes to be printed. docs/INFORM.md has the rules.
+    /// Whether the program is well formed, which is what it takes to be printed. docs/INFORM.md has
+    /// the rules.
     pub fn well_formed(&self) -> bool
         ensures { result ≡ is_well_formed (program_of self.now) }
     {

@@ -1,5 +1,5 @@
-//! The syntax trees of the Inform profile: what a program of it is, which programs are well formed, and how deep
-//! a routine is.
+//! The syntax trees of the Inform profile: what a program of it is, which programs are well formed,
+//! and how deep a routine is.
 #![tactic(auto)]
 
 // The trees, from their leaves up.

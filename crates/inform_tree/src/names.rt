@@ -5,7 +5,8 @@ use std::marker::Model;
 
 /// A name of a constant, a global, an array, a routine or a local.
 ///
-/// A clause sees the list of its bytes. Not every such list is a name that a program may have: that is for
+/// A clause sees the list of its bytes. Not every such list is a name that a program may have: that
+/// is for
 /// `Program::well_formed` to say.
 #[derive(Drop)]
 pub struct Name {

@@ -14,7 +14,8 @@ pub struct Program {
 pub enum Directive {
     Constant(Name, Const),
     Global(Name, Option<Const>),
-    /// An array: whether its entries are words (`-->`) or bytes (`->`), and its length or its entries.
+    /// An array: whether its entries are words (`-->`) or bytes (`->`), and its length or its
+    /// entries.
     Array(Name, bool, Vec<Const>),
     Routine(Routine),
 }

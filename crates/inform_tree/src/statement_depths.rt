@@ -134,8 +134,8 @@ fn depth_of_cases(cases: &Vec<Case>) -> u32
 
 /// How deep a routine is: the greatest depth of its statements, or 0 where it has none.
 ///
-/// A node counts 1, and each statement, condition or expression directly inside another one adds 1. Depths past
-/// 4,294,967,295 count as that number. docs/INFORM.md has examples.
+/// A node counts 1, and each statement, condition or expression directly inside another one adds 1.
+/// Depths past 4,294,967,295 count as that number. docs/INFORM.md has examples.
 pub fn depth(routine: &Routine) -> u32
     ensures { result ≡ counted (routine_depth (routine_of routine.now)) }
 {

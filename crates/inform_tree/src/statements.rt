@@ -8,7 +8,8 @@ use crate::values::{Const, Expr};
 #[derive(Drop)]
 pub enum Change {
     Set(Name, Expr),
-    /// The array, whether it is one of words (`-->`), the index, and the value that is stored there.
+    /// The array, whether it is one of words (`-->`), the index, and the value that is stored
+    /// there.
     SetEntry(Name, bool, Expr, Expr),
     Inc(Name),
     Dec(Name),

@@ -1,8 +1,8 @@
 //! Constants and expressions.
 use crate::names::Name;
 
-/// What stands where the value must be known before the program runs: the value of a constant or a global, the
-/// length or an entry of an array, a choice of a `switch`.
+/// What stands where the value must be known before the program runs: the value of a constant or a
+/// global, the length or an entry of an array, a choice of a `switch`.
 #[derive(Drop)]
 pub enum Const {
     /// A number without a sign.

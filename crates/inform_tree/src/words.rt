@@ -65,7 +65,8 @@ pub static RESERVED: [&[u8]; 55] = [
 /// The most bytes that a name has.
 pub const NAME_LIMIT: usize = 32;
 
-/// The printable bytes that no character is: they have a meaning of their own in a text or a character.
+/// The printable bytes that no character is: they have a meaning of their own in a text or a
+/// character.
 pub static SPECIAL: [u8; 6] = [b'\'', b'"', b'\\', b'@', b'^', b'~'];
 
 fn begins_name(byte: u8) -> bool
@@ -104,8 +105,8 @@ pub fn is_reserved(word: &[u8]) -> bool
     is_among(word, &RESERVED)
 }
 
-/// Whether these bytes are a name of a program: at most 32 letters in lower case, digits and underscores, of which the
-/// first is no digit, and no reserved word.
+/// Whether these bytes are a name of a program: at most 32 letters in lower case, digits and
+/// underscores, of which the first is no digit, and no reserved word.
 pub fn is_name(bytes: &[u8]) -> bool
     ensures { result ≡ is_name bytes.now }
 {
@@ -133,7 +134,8 @@ pub fn is_character(byte: u8) -> bool
     32 <= byte && byte <= 126 && !is_special(byte)
 }
 
-/// Whether a number may stand in a program. Each `u32` may: its type says so, and the proof learns it here.
+/// Whether a number may stand in a program. Each `u32` may: its type says so, and the proof learns
+/// it here.
 pub fn is_number(_number: u32) -> bool
     ensures { result ≡ is_number _number }
 {

@@ -1,8 +1,9 @@
-//! Worked examples of names, depths and shapes. Each is the contract of a function that does nothing, and is
-//! proved by computing.
+//! Worked examples of names, depths and shapes. Each is the contract of a function that does
+//! nothing, and is proved by computing.
 ghost use Rattle.inform_tree.specs.Worked.{NamesJudged, LongNamesJudged, CharactersJudged, TestCounts, ChangesCountNothing, DepthLimitJudged, ChainsJudged, EmptyListsRefused};
 
-/// Letters in lower case, digits and underscores are a name, where no digit is first and no word is reserved.
+/// Letters in lower case, digits and underscores are a name, where no digit is first and no word is
+/// reserved.
 pub fn names_judged()
     ensures { NamesJudged }
 {}

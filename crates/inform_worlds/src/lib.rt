@@ -1,4 +1,5 @@
-//! The world of a run of an Inform program: its globals, its arrays and the locals of the routine that runs.
+//! The world of a run of an Inform program: its globals, its arrays and the locals of the routine
+//! that runs.
 #![tactic(auto)]
 
 mod arguments;

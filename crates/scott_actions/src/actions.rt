@@ -71,7 +71,8 @@ fn left_by<'a>(db: &Db, state: &State, opcode: Opcode, parameters: &'a [u32]) ->
     after(parameters, takes(db, state, opcode))
 }
 
-// Does opcodes in order, each with the parameters that those before it left, until the game is over.
+// Does opcodes in order, each with the parameters that those before it left, until the game is
+// over.
 fn run_opcodes<C: Console>(
     db: &Db,
     style: Style,
@@ -167,9 +168,9 @@ fn leave<C: Console>(console: &mut C) -> Result<Ran, ConsoleFault>
 
 /// Tries an action line, with the noun that was typed, and answers what became of it.
 ///
-/// `Ran::Not` comes exactly where a condition doesn't hold, and then nothing is said or changed. The
-/// console's fault alone is a refusal; of the state it is then known that it fits. docs/TURN.md has the
-/// rules.
+/// `Ran::Not` comes exactly where a condition doesn't hold, and then nothing is said or changed.
+/// The console's fault alone is a refusal; of the state it is then known that it fits. docs/TURN.md
+/// has the rules.
 pub fn perform<C: Console>(
     db: &Db,
     style: Style,

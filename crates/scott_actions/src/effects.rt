@@ -75,7 +75,8 @@ fn ending(db: &Db, state: &State, opcode: Opcode) -> Option<u8>
     }
 }
 
-// Whether the hands are full, where that matters to what an opcode says: they are counted for a get alone.
+// Whether the hands are full, where that matters to what an opcode says: they are counted for a get
+// alone.
 fn are_hands_full(db: &Db, state: &State, opcode: Opcode) -> bool
     ensures { (style : AnyStyle) (noun : List ℕ) (after : AnyState)
         → opcode_text (in_style style db.now) noun opcode result after

@@ -38,7 +38,8 @@ highest xs = pos (length xs - 1)
 abbrev pub header_numbers : Database → List ℤ
 header_numbers db =
     db.header.unused ∷ highest db.items ∷ highest db.actions ∷ highest db.words ∷ highest db.rooms
-    ∷ db.header.carry ∷ pos db.header.start ∷ db.header.treasures ∷ pos db.header.length ∷ db.header.light
+    ∷ db.header.carry ∷ pos db.header.start ∷ db.header.treasures ∷ pos db.header.length
+    ∷ db.header.light
     ∷ highest db.messages ∷ []
 
 abbrev pub header_line : Database → List Token
@@ -66,7 +67,8 @@ trailer_line t = map num (t.version ∷ t.adventure ∷ t.third ∷ [])
 abbrev pub lines_text : {X : Type 0} → (X → List Token) → List X → List ℕ
 lines_text line xs = flat_map (λ x. line_text (line x)) xs
 
--- the header's line, a line for each entry of the lists in the order of the file, and the trailer's line
+-- the header's line, a line for each entry of the lists in the order of the file, and the trailer's
+-- line
 abbrev pub canon : Database → List ℕ
 canon db =
     line_text (header_line db)

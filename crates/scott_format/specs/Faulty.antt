@@ -14,11 +14,13 @@ NumberTo s z after = Number z s.rest after.rest × SameEnd s after
 abbrev pub StringTo : Spot → List ℕ → Spot → Type 0
 StringTo s t after = Quoted t s.rest after.rest × SameEnd s after
 
--- This is the first thing that is wrong with the bytes from a spot on, by the plan: a test that doesn't hold, or a number or a
--- string that isn't there or isn't right; or all is right with the next thing, and this is the first that is wrong after it.
+-- This is the first thing that is wrong with the bytes from a spot on, by the plan: a test that
+-- doesn't hold, or a number or a string that isn't there or isn't right; or all is right with the
+-- next thing, and this is the first that is wrong after it.
 abbrev pub Faulty : {X : Type 0} → Plan X → Spot → Fault → Type 0
 Faulty (done x) s fault = ⊥
-Faulty (check test own next) s fault = ((test ≡ false) × (fault ≡ own)) ⊎ (IsTrue test × Faulty next s fault)
+Faulty (check test own next) s fault =
+    ((test ≡ false) × (fault ≡ own)) ⊎ (IsTrue test × Faulty next s fault)
 Faulty (number next) s fault =
     ((own : TextFault) × NumberFault s own × (fault ≡ text own))
     ⊎ ((z : ℤ) × (after : Spot) × NumberTo s z after × Faulty (next z) after fault)

@@ -11,15 +11,19 @@ use Rattle.scott_format.specs.Canon.{canon}
 
 -- bytes are a text of a database, or they have a fault
 abbrev pub TextOrFault : Type 0
-TextOrFault = (bytes : List ℕ) → ((db : Database) × DatText bytes db) ⊎ ((fault : Fault) × DatFault bytes fault)
+TextOrFault =
+    (bytes : List ℕ) → ((db : Database) × DatText bytes db)
+    ⊎ ((fault : Fault) × DatFault bytes fault)
 
 -- and never both
 abbrev pub NeverBoth : Type 0
-NeverBoth = (bytes : List ℕ) (db : Database) (fault : Fault) → DatText bytes db → DatFault bytes fault → ⊥
+NeverBoth =
+    (bytes : List ℕ) (db : Database) (fault : Fault) → DatText bytes db → DatFault bytes fault → ⊥
 
 -- the fault of bytes is the first thing that is wrong with them
 abbrev pub FirstFault : Type 0
-FirstFault = (bytes : List ℕ) (fault : Fault) → DatFault bytes fault ↔ Faulty file (spot 0 bytes) fault
+FirstFault =
+    (bytes : List ℕ) (fault : Fault) → DatFault bytes fault ↔ Faulty file (spot 0 bytes) fault
 
 -- a text is one of one database
 abbrev pub OneDatabase : Type 0
@@ -27,7 +31,8 @@ OneDatabase = (bytes : List ℕ) (a b : Database) → DatText bytes a → DatTex
 
 -- each database that has a text keeps the limits
 abbrev pub TextKeepsLimits : Type 0
-TextKeepsLimits = (bytes : List ℕ) (db : Database) → AreBytes bytes → DatText bytes db → KeepsLimits db
+TextKeepsLimits =
+    (bytes : List ℕ) (db : Database) → AreBytes bytes → DatText bytes db → KeepsLimits db
 
 -- the text that is written of a database is one of it, whatever follows
 abbrev pub WrittenTextIsText : Type 0

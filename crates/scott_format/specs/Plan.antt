@@ -41,21 +41,28 @@ NumberIsMissing bytes = (k : ℕ) × AfterWhitespace NoNumber k bytes
 abbrev pub Spelled : {X : Type 0} → Plan X → X → List ℕ → List ℕ → Type 0
 Spelled (done x) value bytes rest = (x ≡ value) × (bytes ≡ rest)
 Spelled (check test fault next) value bytes rest = IsTrue test × Spelled next value bytes rest
-Spelled (number next) value bytes rest = (z : ℤ) × (remaining : List ℕ) × Number z bytes remaining × Spelled (next z) value remaining rest
-Spelled (quoted next) value bytes rest = (t : List ℕ) × (remaining : List ℕ) × Quoted t bytes remaining × Spelled (next t) value remaining rest
+Spelled (number next) value bytes rest =
+    (z : ℤ) × (remaining : List ℕ) × Number z bytes remaining
+    × Spelled (next z) value remaining rest
+Spelled (quoted next) value bytes rest =
+    (t : List ℕ) × (remaining : List ℕ) × Quoted t bytes remaining
+    × Spelled (next t) value remaining rest
 Spelled (perhaps next) value bytes rest =
-    ((z : ℤ) × (remaining : List ℕ) × Number z bytes remaining × Spelled (next (Some z)) value remaining rest)
+    ((z : ℤ) × (remaining : List ℕ) × Number z bytes remaining
+    × Spelled (next (Some z)) value remaining rest)
     ⊎ (NumberIsMissing bytes × Spelled (next None) value bytes rest)
 
 -- ---- reading
 
 -- reading goes on after a number or a string that was read
-abbrev pub onward : {A X : Type 0} → Result (A × Spot) TextFault → (A → Spot → Result (X × Spot) Fault) → Result (X × Spot) Fault
+abbrev pub onward : {A X : Type 0} → Result (A × Spot) TextFault
+    → (A → Spot → Result (X × Spot) Fault) → Result (X × Spot) Fault
 onward (Ok x) go_on = go_on x.0 x.1
 onward (Err fault) go_on = Err (text fault)
 
 -- reading goes on after a number, or where it stood if no number stands there
-abbrev pub onward_perhaps : {X : Type 0} → Result (ℤ × Spot) TextFault → Spot → (Option ℤ → Spot → Result (X × Spot) Fault) → Result (X × Spot) Fault
+abbrev pub onward_perhaps : {X : Type 0} → Result (ℤ × Spot) TextFault → Spot
+    → (Option ℤ → Spot → Result (X × Spot) Fault) → Result (X × Spot) Fault
 onward_perhaps (Ok x) s go_on = go_on (Some x.0) x.1
 onward_perhaps (Err (no_number at)) s go_on = go_on None s
 onward_perhaps (Err (big_number at)) s go_on = Err (text (big_number at))

@@ -20,7 +20,9 @@ any_number = number (λ z. done z)
 
 -- a number of least..most, or else a fault
 abbrev pub natural : ℕ → ℕ → (ℤ → Fault) → Plan ℕ
-natural least most fault = number (λ z. check (int_le (pos least) z && int_le z (pos most)) (fault z) (done (unsigned_abs z)))
+natural least most fault =
+    number (λ z. check (int_le (pos least) z && int_le z (pos most)) (fault z)
+    (done (unsigned_abs z)))
 
 abbrev pub limited : Field → ℕ → ℕ → Plan ℕ
 limited field least most = natural least most (limit field)
@@ -49,7 +51,13 @@ play_numbers rooms = do
   treasures ← any_number
   length ← limited WordLength 1 20
   light ← light_time
-  done (record { carry = carry; start = start; treasures = treasures; length = length; light = light })
+  done (record {
+    carry = carry;
+    start = start;
+    treasures = treasures;
+    length = length;
+    light = light;
+  })
 
 -- the last two: the highest message, and the room for treasures
 unfoldable pub closing : Plan Closing

@@ -90,8 +90,8 @@ pub const DATABASE_LIMIT: usize = 1_048_576;
 
 /// Reads a database's text. What follows the trailer is ignored.
 ///
-/// The faults are those of `FormatFault`; the first one in the order of the file is answered. A number
-/// is tested as soon as it is read. docs/FORMAT.md has the rule.
+/// The faults are those of `FormatFault`; the first one in the order of the file is answered. A
+/// number is tested as soon as it is read. docs/FORMAT.md has the rule.
 pub fn read_db(alloc: Global, bytes: &[u8]) -> Result<Db, FormatFault>
     requires { length bytes.now ≤ DATABASE_LIMIT }
 
@@ -99,7 +99,8 @@ pub fn read_db(alloc: Global, bytes: &[u8]) -> Result<Db, FormatFault>
     ensures found { IfOk result (λ db. DatText bytes.now db) }
     ensures only { (db : Database) → DatText bytes.now db → IsDb result db }
 
-    // A fault but `Memory` is answered only where it is the first one, and there, unless memory runs out.
+    // A fault but `Memory` is answered only where it is the first one, and there, unless memory
+    // runs out.
     ensures exact { (fault : Fault) → result ≡ Err (fault_answer fault) → DatFault bytes.now fault }
     ensures expected { (fault : Fault) → DatFault bytes.now fault
         → IsErrOrMemory result (fault_answer fault) }

@@ -60,8 +60,8 @@ fn put_trailer(alloc: Global, out: &mut Vec<u8>, trailer: &Trailer) -> Result<()
     Ok(())
 }
 
-/// Writes a database's text: each header, entry and trailer on a line, with one space between numbers
-/// and strings.
+/// Writes a database's text: each header, entry and trailer on a line, with one space between
+/// numbers and strings.
 ///
 /// The text reads back as the database, whatever follows it. docs/FORMAT.md has the rule.
 pub fn write_db(alloc: Global, db: &Db) -> Result<Vec<u8>, Memory>

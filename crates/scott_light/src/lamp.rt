@@ -140,7 +140,8 @@ fn count_turn<C: Console>(
 
 /// Counts one turn of the light, and says what is seen of it.
 ///
-/// The console's fault alone is a refusal; the light is counted then too. docs/TURN.md has the rule.
+/// The console's fault alone is a refusal; the light is counted then too. docs/TURN.md has the
+/// rule.
 pub fn count_light<C: Console>(
     db: &Db,
     style: Style,

@@ -57,8 +57,8 @@ impl<'a> Page<'a> {
         self.pieces.push(PagePiece::Text(text));
     }
 
-    /// Adds what is shown of the items of these numbers, with the separator of a list of items between
-    /// each two.
+    /// Adds what is shown of the items of these numbers, with the separator of a list of items
+    /// between each two.
     pub fn add_items(&mut self, items: &'a [Item], numbers: &'a [u8])
         requires room { self.old.pieces < 40 }
         requires there { All (λ number. number < length items.now) numbers.now }

@@ -10,8 +10,8 @@ ghost use Rattle.scott_light.specs.ItemTexts.{shown_at, texts_of};
 use adv_io::{Console, ConsoleFault, SayBuffer};
 use scott_types::{Item, Phrase, shown};
 
-/// A piece of a page: a text, or what is shown of the items of these numbers, with the separator of a
-/// list of items between each two.
+/// A piece of a page: a text, or what is shown of the items of these numbers, with the separator of
+/// a list of items between each two.
 #[derive(Drop)]
 pub(crate) enum PagePiece<'a> {
     Text(&'a [u8]),

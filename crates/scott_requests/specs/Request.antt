@@ -9,9 +9,10 @@ use Rattle.scott_types.specs.Style.{plain_style}
 use Rattle.scott_requests.specs.Parts.{file_name}
 use Rattle.scott_requests.specs.Settings.{DrawSource, seeded, Settings, no_settings, settings_from}
 
--- the database of this name is to be checked, or to be played with these draws in this style; a source is to be compiled to a
--- database, or a database decompiled to a source, from the file of the first name to that of the second; the database of the first
--- name is to be translated into an Inform program under the second, in this style and for words of this width; an Inform program is
+-- the database of this name is to be checked, or to be played with these draws in this style; a
+-- source is to be compiled to a database, or a database decompiled to a source, from the file of
+-- the first name to that of the second; the database of the first name is to be translated into an
+-- Inform program under the second, in this style and for words of this width; an Inform program is
 -- to be run with these draws, for so many steps at most, with words of this width
 pub data Request : Type 0 where
   check : List ℕ → Request
@@ -30,7 +31,9 @@ check_form _ = None
 
 -- two files, from the first of which the second is made
 abbrev pub two_names : List (List ℕ) → Option (List ℕ × List ℕ)
-two_names (from ∷ to ∷ []) = option_and_then (λ first. option_map (λ second. (first, second)) (file_name to)) (file_name from)
+two_names (from ∷ to ∷ []) =
+    option_and_then (λ first. option_map (λ second. (first, second)) (file_name to))
+    (file_name from)
 two_names _ = None
 
 abbrev pub compile_form : List (List ℕ) → Option Request
@@ -43,7 +46,9 @@ decompile_form words = option_map (λ names. decompile names.0 names.1) (two_nam
 abbrev pub file_and_settings : List (List ℕ) → Option (List ℕ × Settings)
 file_and_settings [] = None
 file_and_settings (file ∷ words) =
-    option_and_then (λ name. option_map (λ settings. (name, settings)) (settings_from no_settings words)) (file_name file)
+    option_and_then
+    (λ name. option_map (λ settings. (name, settings)) (settings_from no_settings words))
+    (file_name file)
 
 -- where the draws come from
 abbrev pub source_in : Settings → DrawSource
@@ -60,7 +65,8 @@ width_in settings = unwrap_or settings.width W16
 -- a play has draws and a style
 abbrev pub play_by : List ℕ → Settings → Option Request
 play_by name settings =
-    if is_some settings.steps || is_some settings.width then None else Some (play name (source_in settings) (style_in settings))
+    if is_some settings.steps || is_some settings.width then None
+    else Some (play name (source_in settings) (style_in settings))
 
 abbrev pub play_form : List (List ℕ) → Option Request
 play_form words = option_and_then (λ p. play_by p.0 p.1) (file_and_settings words)
@@ -68,12 +74,15 @@ play_form words = option_and_then (λ p. play_by p.0 p.1) (file_and_settings wor
 -- two files, and the settings after them
 abbrev pub files_and_settings : List (List ℕ) → Option (List ℕ × List ℕ × Settings)
 files_and_settings [] = None
-files_and_settings (file ∷ words) = option_and_then (λ first. option_map (λ p. (first, p.0, p.1)) (file_and_settings words)) (file_name file)
+files_and_settings (file ∷ words) =
+    option_and_then (λ first. option_map (λ p. (first, p.0, p.1)) (file_and_settings words))
+    (file_name file)
 
 -- a translation has a style and a width
 abbrev pub translate_by : List ℕ → List ℕ → Settings → Option Request
 translate_by game program settings =
-    if is_some settings.source || is_some settings.steps then None else Some (translate game program (style_in settings) (width_in settings))
+    if is_some settings.source || is_some settings.steps then None
+    else Some (translate game program (style_in settings) (width_in settings))
 
 abbrev pub translate_form : List (List ℕ) → Option Request
 translate_form words = option_and_then (λ p. translate_by p.0 p.1 p.2) (files_and_settings words)
@@ -81,7 +90,8 @@ translate_form words = option_and_then (λ p. translate_by p.0 p.1 p.2) (files_a
 -- a run has draws, a number of steps and a width
 abbrev pub run_by : List ℕ → Settings → Option Request
 run_by name settings =
-    if is_some settings.play_style then None else Some (run name (source_in settings) (unwrap_or settings.steps USUAL_STEPS) (width_in settings))
+    if is_some settings.play_style then None else Some
+    (run name (source_in settings) (unwrap_or settings.steps USUAL_STEPS) (width_in settings))
 
 abbrev pub run_form : List (List ℕ) → Option Request
 run_form words = option_and_then (λ p. run_by p.0 p.1) (file_and_settings words)

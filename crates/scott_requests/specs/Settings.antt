@@ -31,11 +31,15 @@ style_named letters =
 
 -- a number of steps: 1 at least, and no more than may be given
 abbrev pub steps_of : List ℕ → Option ℕ
-steps_of digits = option_and_then (λ n. if nat_le 1 n && nat_le n MOST_STEPS then Some n else None) (number_of digits)
+steps_of digits =
+    option_and_then (λ n. if nat_le 1 n && nat_le n MOST_STEPS then Some n else None)
+    (number_of digits)
 
 -- a width of words
 abbrev pub width_of : List ℕ → Option Width
-width_of text = if bytes_eq text (codes "16") then Some W16 else if bytes_eq text (codes "32") then Some W32 else None
+width_of text =
+    if bytes_eq text (codes "16") then Some W16 else if bytes_eq text (codes "32") then Some W32
+    else None
 
 -- ---- one setting
 
@@ -61,10 +65,12 @@ run_setting None None = None
 
 abbrev pub play_setting_in : List ℕ → Option Setting
 play_setting_in word =
-    play_setting (after_prefix (codes "draws=") word) (after_prefix (codes "seed=") word) (after_prefix (codes "style=") word)
+    play_setting (after_prefix (codes "draws=") word) (after_prefix (codes "seed=") word)
+    (after_prefix (codes "style=") word)
 
 abbrev pub run_setting_in : List ℕ → Option Setting
-run_setting_in word = run_setting (after_prefix (codes "steps=") word) (after_prefix (codes "words=") word)
+run_setting_in word =
+    run_setting (after_prefix (codes "steps=") word) (after_prefix (codes "words=") word)
 
 -- the setting that a word is
 abbrev pub setting_in : List ℕ → Option Setting
@@ -89,13 +95,19 @@ filled (Some other) value = None
 
 -- one setting more, where its place is free
 abbrev pub with_setting : Settings → Setting → Option Settings
-with_setting settings (draws source) = option_map (λ place. record settings { source = place }) (filled settings.source source)
-with_setting settings (style value) = option_map (λ place. record settings { play_style = place }) (filled settings.play_style value)
-with_setting settings (most_steps n) = option_map (λ place. record settings { steps = place }) (filled settings.steps n)
-with_setting settings (word_width value) = option_map (λ place. record settings { width = place }) (filled settings.width value)
+with_setting settings (draws source) =
+    option_map (λ place. record settings { source = place }) (filled settings.source source)
+with_setting settings (style value) =
+    option_map (λ place. record settings { play_style = place }) (filled settings.play_style value)
+with_setting settings (most_steps n) =
+    option_map (λ place. record settings { steps = place }) (filled settings.steps n)
+with_setting settings (word_width value) =
+    option_map (λ place. record settings { width = place }) (filled settings.width value)
 
 -- the settings that words are, after some
 abbrev pub settings_from : Settings → List (List ℕ) → Option Settings
 settings_from settings [] = Some settings
 settings_from settings (word ∷ words) =
-    option_and_then (λ setting. option_and_then (λ more. settings_from more words) (with_setting settings setting)) (setting_in word)
+    option_and_then
+    (λ setting. option_and_then (λ more. settings_from more words)
+    (with_setting settings setting)) (setting_in word)

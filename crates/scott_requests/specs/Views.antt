@@ -21,7 +21,13 @@ setting_of (Steps n) = most_steps n
 setting_of (Words width) = word_width width
 
 abbrev pub settings_of : HeldSettings → Settings
-settings_of settings = record { source = option_map source_of settings.draws; play_style = settings.style; steps = settings.steps; width = settings.width }
+settings_of settings =
+    record {
+      source = option_map source_of settings.draws;
+      play_style = settings.style;
+      steps = settings.steps;
+      width = settings.width;
+    }
 
 abbrev pub request_of : HeldRequest → Request
 request_of (Check game) = check game.now

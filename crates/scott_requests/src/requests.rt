@@ -14,9 +14,10 @@ use scott_types::Style;
 /// - `Compile`: the source of the first name is to be stored as a database under the second one.
 /// - `Decompile`: the database of the first name is to be stored as a source under the second one.
 /// - `Play`: the database of this name is to be played with these draws, in this style.
-/// - `Translate`: the database of the first name is to be translated into an Inform program, which is stored under
-///   the second one, in this style and for words of this width.
-/// - `Run`: the Inform program of this name is to be run with these draws, for so many steps at most (1 to
+/// - `Translate`: the database of the first name is to be translated into an Inform program, which
+///   is stored under the second one, in this style and for words of this width.
+/// - `Run`: the Inform program of this name is to be run with these draws, for so many steps at
+///   most (1 to
 ///   `MOST_STEPS`), with words of this width.
 #[derive(Clone, Copy, Debug, PartialEq, Eq)]
 pub enum Request<'a> {

@@ -47,11 +47,14 @@ ran_to more t = traced t.events (record { state = t.value.state; ran = ran_of t.
 
 -- a line whose conditions hold does its opcodes; any other does nothing
 abbrev pub performed : Bool → Game → List ℕ → Action → State → Traced ℕ ActionOutcome
-performed true game noun a s = ran_to (goes_on_after a) (run_opcodes game noun (map opcode_of (opcode_numbers a)) (parameters a) s)
+performed true game noun a s =
+    ran_to (goes_on_after a)
+    (run_opcodes game noun (map opcode_of (opcode_numbers a)) (parameters a) s)
 performed false game noun a s = traced [] (record { state = s; ran = Not })
 
 abbrev pub action_result : Game → List ℕ → ℕ → State → Traced ℕ ActionOutcome
-action_result game noun line s = performed (passes game.db s (action_at game.db line)) game noun (action_at game.db line) s
+action_result game noun line s =
+    performed (passes game.db s (action_at game.db line)) game noun (action_at game.db line) s
 
 -- an action that is tried is noted by its number, unless it is all zeros
 abbrev pub note_of : Action → ℕ → List Step
@@ -59,4 +62,5 @@ note_of a line = if is_zero_action a then [] else Noted line ∷ []
 
 -- the same as steps of a play, in which the action is noted whether or not it passes
 abbrev pub try_action : Game → List ℕ → ℕ → State → Traced Step ActionOutcome
-try_action game noun line s = after (note_of (action_at game.db line) line) (as_steps (action_result game noun line s))
+try_action game noun line s =
+    after (note_of (action_at game.db line) line) (as_steps (action_result game noun line s))

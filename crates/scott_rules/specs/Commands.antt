@@ -82,20 +82,23 @@ by_verb span (Some verb) noun = Command verb noun
 -- a first word that is a direction is going there; otherwise it is the verb
 abbrev pub by_direction : Option ℕ → Heard → Heard
 by_direction None otherwise = otherwise
-by_direction (Some noun) otherwise = if is_direction noun then Command go_verb (Some noun) else otherwise
+by_direction (Some noun) otherwise =
+    if is_direction noun then Command go_verb (Some noun) else otherwise
 
 abbrev pub noun_named : Database → List ℕ → Option Span → Option ℕ
 noun_named db line None = None
 noun_named db line (Some span) = which db Nouns (word_at line span)
 
 abbrev pub first_word : List ℕ → Span → Option Span → List ℕ
-first_word line span second = if is_none second then whole_word (word_at line span) else word_at line span
+first_word line span second =
+    if is_none second then whole_word (word_at line span) else word_at line span
 
 abbrev pub heard_words : Database → List ℕ → Option Span → Option Span → Heard
 heard_words db line None second = Blank
 heard_words db line (Some span) second =
     let word = first_word line span second in
-    by_direction (which db Nouns word) (by_verb span (which db Verbs word) (noun_named db line second))
+    by_direction (which db Nouns word)
+    (by_verb span (which db Verbs word) (noun_named db line second))
 
 abbrev pub heard : Database → List ℕ → Heard
 heard db line = heard_words db line (split line).first (split line).second

@@ -43,8 +43,10 @@ hill_header = record {
 -- the verbs AUT, GO with its synonym WALK, and LOOK; the nouns ANY and the six directions
 abbrev pub hill_words : List Word
 hill_words =
-    word (codes "AUT") (codes "ANY") ∷ word (codes "GO") (codes "NORTH") ∷ word (codes "*WALK") (codes "SOUTH")
-    ∷ word (codes "LOOK") (codes "EAST") ∷ word [] (codes "WEST") ∷ word [] (codes "UP") ∷ word [] (codes "DOWN") ∷ []
+    word (codes "AUT") (codes "ANY") ∷ word (codes "GO") (codes "NORTH")
+    ∷ word (codes "*WALK") (codes "SOUTH")
+    ∷ word (codes "LOOK") (codes "EAST") ∷ word [] (codes "WEST") ∷ word [] (codes "UP")
+    ∷ word [] (codes "DOWN") ∷ []
 
 abbrev pub rug : Item
 rug = item (codes "Rug") 1
@@ -78,7 +80,8 @@ with_header header db = record db { header = header }
 abbrev pub full_hands : Database
 full_hands =
     with_header (record hill_header { carry = pos 1 })
-    (with_items (rug ∷ item (codes "Pin") 255 ∷ []) (with_lines (line_with 450 0 20 7853 0 ∷ []) hill))
+    (with_items (rug ∷ item (codes "Pin") 255 ∷ [])
+    (with_lines (line_with 450 0 20 7853 0 ∷ []) hill))
 
 -- LOOK sets the counter to 32767, adds 1 and shows it
 abbrev pub full_counter : Database
@@ -86,7 +89,8 @@ full_counter = with_lines (line_with 450 655340 20 11932 11786 ∷ []) hill
 
 -- LOOK says a message of bytes that other formats write otherwise
 abbrev pub odd_message : Database
-odd_message = with_lines (line 450 150 ∷ []) (record hill { messages = [] ∷ codes "@5 ~ ^ \\" ∷ [] })
+odd_message =
+    with_lines (line 450 150 ∷ []) (record hill { messages = [] ∷ codes "@5 ~ ^ \\" ∷ [] })
 
 -- one entry in each list
 abbrev pub cell : Database
@@ -109,7 +113,8 @@ chance =
 
 abbrev pub get_words : List Word
 get_words =
-    hill_words ++ (replicate 3 (word [] []) ++ (word (codes "GET") (codes "RUG") ∷ word [] (codes "PIN")
+    hill_words
+    ++ (replicate 3 (word [] []) ++ (word (codes "GET") (codes "RUG") ∷ word [] (codes "PIN")
     ∷ (replicate 6 (word [] []) ++ word (codes "DROP") [] ∷ [])))
 
 -- a rug and a pin that can be taken; getting the pin ends the game
@@ -125,7 +130,8 @@ no_treasure = with_lines (line 450 9750 ∷ []) hill
 -- the same where the rug is a treasure, and the hall stores it
 abbrev pub one_treasure : Database
 one_treasure =
-    with_header (record hill_header { treasures = pos 1; home = pos 1 }) (with_items (item (codes "*Rug*") 1 ∷ []) no_treasure)
+    with_header (record hill_header { treasures = pos 1; home = pos 1 })
+    (with_items (item (codes "*Rug*") 1 ∷ []) no_treasure)
 
 -- a lamp that is carried and lasts for so many turns
 abbrev pub lamp_for : ℕ → Database
@@ -139,8 +145,10 @@ nightfall = with_lines (line 100 8400 ∷ []) hill
 
 -- LOOK ends the game where the pin is carried, which it isn't
 abbrev pub not_carried : Database
-not_carried = with_items (rug ∷ item (codes "Pin") 0 ∷ []) (with_lines (line_with 450 21 0 9450 0 ∷ []) hill)
+not_carried =
+    with_items (rug ∷ item (codes "Pin") 0 ∷ []) (with_lines (line_with 450 21 0 9450 0 ∷ []) hill)
 
 -- LOOK drops, and no condition gives it a parameter
 abbrev pub no_parameter : Database
-no_parameter = with_lines (record { vocab = 450; conds = replicate 5 9; pairs = 7950 ∷ 0 ∷ [] } ∷ []) hill
+no_parameter =
+    with_lines (record { vocab = 450; conds = replicate 5 9; pairs = 7950 ∷ 0 ∷ [] } ∷ []) hill

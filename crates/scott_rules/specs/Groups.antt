@@ -49,12 +49,14 @@ abbrev pub outcome_of : ActionOutcome → Outcome
 outcome_of o = record { state = o.state; over = over_of o.ran }
 
 abbrev pub tail_action : Game → List ℕ → ℕ → State → Traced Step Outcome
-tail_action game noun line s = let t = try_action game noun line s in traced t.events (outcome_of t.value)
+tail_action game noun line s =
+    let t = try_action game noun line s in traced t.events (outcome_of t.value)
 
 -- each line of a tail is tried, whatever the others did, until the game is over
 abbrev pub tail_tried : Game → List ℕ → List ℕ → State → Traced Step Outcome
 tail_tried game noun [] s = traced [] (goes_on s)
-tail_tried game noun (line ∷ lines) s = and_then (tail_action game noun line s) (tail_tried game noun lines)
+tail_tried game noun (line ∷ lines) s =
+    and_then (tail_action game noun line s) (tail_tried game noun lines)
 
 abbrev pub passed_or_over : Option ℕ → Ran
 passed_or_over None = Passed true
@@ -64,8 +66,10 @@ abbrev pub with_tail : Traced Step Outcome → Traced Step ActionOutcome
 with_tail t = traced t.events (record { state = t.value.state; ran = passed_or_over t.value.over })
 
 -- the tail is tried where the head passed and goes on
-abbrev pub after_head : Ran → Game → List ℕ → List ℕ → Traced Step ActionOutcome → Traced Step ActionOutcome
-after_head (Passed true) game noun tail t = after t.events (with_tail (tail_tried game noun tail t.value.state))
+abbrev pub after_head : Ran → Game → List ℕ → List ℕ → Traced Step ActionOutcome
+    → Traced Step ActionOutcome
+after_head (Passed true) game noun tail t =
+    after t.events (with_tail (tail_tried game noun tail t.value.state))
 after_head _ game noun tail t = t
 
 abbrev pub group_tried : Game → List ℕ → Group → State → Traced Step ActionOutcome
@@ -81,25 +85,33 @@ pub record AutoOutcome : Type 0 where
   pub draws : List ℕ
   pub halt : Halt
 
-abbrev pub auto_after : Option ℕ → Traced Step ActionOutcome → List ℕ → (State → List ℕ → Traced Step AutoOutcome) → Traced Step AutoOutcome
+abbrev pub auto_after : Option ℕ → Traced Step ActionOutcome → List ℕ
+    → (State → List ℕ → Traced Step AutoOutcome) → Traced Step AutoOutcome
 auto_after None t draws next = after t.events (next t.value.state draws)
-auto_after (Some ending) t draws next = traced t.events (record { state = t.value.state; draws = draws; halt = AtEnd ending })
+auto_after (Some ending) t draws next =
+    traced t.events (record { state = t.value.state; draws = draws; halt = AtEnd ending })
 
 -- a group is tried where the draw is at most its noun; no line was typed
-abbrev pub auto_tried : Bool → Game → Group → State → List ℕ → (State → List ℕ → Traced Step AutoOutcome) → Traced Step AutoOutcome
-auto_tried true game g s draws next = let t = group_tried game [] g s in auto_after (over_of t.value.ran) t draws next
+abbrev pub auto_tried : Bool → Game → Group → State → List ℕ
+    → (State → List ℕ → Traced Step AutoOutcome) → Traced Step AutoOutcome
+auto_tried true game g s draws next =
+    let t = group_tried game [] g s in auto_after (over_of t.value.ran) t draws next
 auto_tried false game g s draws next = next s draws
 
 -- a group takes one draw, and waits for it where none is left
-abbrev pub auto_drawn : Game → Group → State → List ℕ → (State → List ℕ → Traced Step AutoOutcome) → Traced Step AutoOutcome
+abbrev pub auto_drawn : Game → Group → State → List ℕ → (State → List ℕ → Traced Step AutoOutcome)
+    → Traced Step AutoOutcome
 auto_drawn game g s [] next = traced [] (record { state = s; draws = []; halt = Waits g.head })
-auto_drawn game g s (draw ∷ draws) next = after (Drew draw ∷ []) (auto_tried (nat_le draw (noun_of g.vocab)) game g s draws next)
+auto_drawn game g s (draw ∷ draws) next =
+    after (Drew draw ∷ []) (auto_tried (nat_le draw (noun_of g.vocab)) game g s draws next)
 
-abbrev pub auto_group : Bool → Game → Group → State → List ℕ → (State → List ℕ → Traced Step AutoOutcome) → Traced Step AutoOutcome
+abbrev pub auto_group : Bool → Game → Group → State → List ℕ
+    → (State → List ℕ → Traced Step AutoOutcome) → Traced Step AutoOutcome
 auto_group true game g s draws next = auto_drawn game g s draws next
 auto_group false game g s draws next = next s draws
 
 -- the groups of verb 0, in order
 abbrev pub automatic : Game → List Group → State → List ℕ → Traced Step AutoOutcome
 automatic game [] s draws = traced [] (record { state = s; draws = draws; halt = Through })
-automatic game (g ∷ gs) s draws = auto_group (verb_of g.vocab == 0) game g s draws (automatic game gs)
+automatic game (g ∷ gs) s draws =
+    auto_group (verb_of g.vocab == 0) game g s draws (automatic game gs)

@@ -34,18 +34,20 @@ pub record IsBaseEntryOf (entries : List (List ℕ)) (k base : ℕ) : Type 0 whe
   pub is_base : IsFalse (is_starred (entry_at entries base))
   pub nearest : (j : ℕ) → base < j → j ≤ k → IsTrue (is_starred (entry_at entries j))
 
--- an entry from 1 on matches a word where the word is typed so and the entry stands for a base entry
+-- an entry from 1 on matches a word where the word is typed so and the entry stands for a base
+-- entry
 pub record EntryMatches (size : ℕ) (entries : List (List ℕ)) (word : List ℕ) (k : ℕ) : Type 0 where
   pub there : k < length entries
   pub typed : IsTrue (is_typed size (spelling (entry_at entries k)) word)
   pub stands_for : (base : ℕ) × IsBaseEntryOf entries k base
 
 -- the answer is the base entry of the least entry that matches
-pub record IsLeastMatch (size : ℕ) (entries : List (List ℕ)) (word : List ℕ) (answer : ℕ) : Type 0 where
-  pub entry : ℕ
-  pub matches : EntryMatches size entries word entry
-  pub least : (j : ℕ) → j < entry → ¬ (EntryMatches size entries word j)
-  pub base : IsBaseEntryOf entries entry answer
+pub record IsLeastMatch (size : ℕ) (entries : List (List ℕ)) (word : List ℕ) (answer : ℕ) : Type 0
+  where
+    pub entry : ℕ
+    pub matches : EntryMatches size entries word entry
+    pub least : (j : ℕ) → j < entry → ¬ (EntryMatches size entries word j)
+    pub base : IsBaseEntryOf entries entry answer
 
 -- a word names the base entry of the least entry that matches, or nothing where none does
 abbrev pub WordNamesLeastMatch : Type 0
@@ -63,47 +65,65 @@ pub record DoesNothing (s : State) (t : Traced ℕ ActionOutcome) : Type 0 where
 -- a line that doesn't pass says nothing and changes nothing
 abbrev pub FailedActionDoesNothing : Type 0
 FailedActionDoesNothing = (game : Game) (noun : List ℕ) (line : ℕ) (s : State)
-    → (action_result game noun line s).value.ran ≡ Not → DoesNothing s (action_result game noun line s)
+    → (action_result game noun line s).value.ran ≡ Not
+    → DoesNothing s (action_result game noun line s)
 
 -- ---- plays
 
 -- a play that stopped, gone on with more lines and draws, is the play on the joined lists
 abbrev pub PlaySplits : Type 0
-PlaySplits = (game : Game) (position : Position) (s : State) (lines more : List (List ℕ)) (draws further : List ℕ)
+PlaySplits =
+    (game : Game) (position : Position) (s : State) (lines more : List (List ℕ))
+    (draws further : List ℕ)
     → go game position s (lines ++ more) (draws ++ further)
     ≡ after (go game position s lines draws).events
-    (go game (go game position s lines draws).value.position (go game position s lines draws).value.state
-    ((go game position s lines draws).value.lines ++ more) ((go game position s lines draws).value.draws ++ further))
+    (go game (go game position s lines draws).value.position
+    (go game position s lines draws).value.state
+    ((go game position s lines draws).value.lines ++ more)
+    ((go game position s lines draws).value.draws ++ further))
 
 -- what a play takes and draws, followed by what is left, is what there was
 abbrev pub PlaySpends : Type 0
-PlaySpends = (game : Game) (position : Position) (s : State) (lines : List (List ℕ)) (draws : List ℕ)
-    → let t = go game position s lines draws in Spends lines draws t.events t.value.lines t.value.draws
+PlaySpends =
+    (game : Game) (position : Position) (s : State) (lines : List (List ℕ)) (draws : List ℕ)
+    → let t =
+    go game position s lines draws in Spends lines draws t.events t.value.lines t.value.draws
 
 -- a turn of the light leaves a state that fits
 abbrev pub LightFits : Type 0
-LightFits = (db : Database) (style : Style) (s : State) → KeepsLimits db → Fits db s → Fits db (light_counted style s).value
+LightFits =
+    (db : Database) (style : Style) (s : State) → KeepsLimits db → Fits db s
+    → Fits db (light_counted style s).value
 
 -- an opcode leaves a state that fits
 abbrev pub OpcodeFits : Type 0
-OpcodeFits = (db : Database) (opcode : Opcode) (p q : ℕ) (s : State) → KeepsLimits db → Fits db s → Fits db (changed db opcode p q s)
+OpcodeFits =
+    (db : Database) (opcode : Opcode) (p q : ℕ) (s : State) → KeepsLimits db → Fits db s
+    → Fits db (changed db opcode p q s)
 
 -- an action line leaves a state that fits
 abbrev pub ActionFits : Type 0
-ActionFits = (game : Game) (noun : List ℕ) (line : ℕ) (s : State) → KeepsLimits game.db → Fits game.db s → Fits game.db (action_result game noun line s).value.state
+ActionFits =
+    (game : Game) (noun : List ℕ) (line : ℕ) (s : State) → KeepsLimits game.db → Fits game.db s
+    → Fits game.db (action_result game noun line s).value.state
 
 -- an item that is got or dropped leaves a state that fits
 abbrev pub TransferFits : Type 0
-TransferFits = (db : Database) (t : Transfer) (item : ℕ) (s : State) → KeepsLimits db → Fits db s → Fits db (transferred t item s)
+TransferFits =
+    (db : Database) (t : Transfer) (item : ℕ) (s : State) → KeepsLimits db → Fits db s
+    → Fits db (transferred t item s)
 
 -- a walk in a direction leaves a state that fits
 abbrev pub WalkFits : Type 0
-WalkFits = (game : Game) (noun : ℕ) (s : State) → KeepsLimits game.db → Fits game.db s → Fits game.db (walk_result game noun s).value.state
+WalkFits =
+    (game : Game) (noun : ℕ) (s : State) → KeepsLimits game.db → Fits game.db s
+    → Fits game.db (walk_result game noun s).value.state
 
 -- every state that a play leaves fits its database
 abbrev pub PlayFits : Type 0
 PlayFits = (game : Game) (position : Position) (s : State) (lines : List (List ℕ)) (draws : List ℕ)
-    → KeepsLimits game.db → Fits game.db s → Fits game.db (go game position s lines draws).value.state
+    → KeepsLimits game.db → Fits game.db s → Fits game.db
+    (go game position s lines draws).value.state
 
 -- a play stops at a prompt, at a draw or at the game's end, and never where a round begins
 abbrev pub PlayStops : Type 0
@@ -112,13 +132,18 @@ PlayStops = (game : Game) (position : Position) (s : State) (lines : List (List 
 
 -- the same play, with more lines and draws left
 abbrev pub with_more : List (List ℕ) → List ℕ → Traced Step PlayEnd → Traced Step PlayEnd
-with_more more further t = traced t.events (record t.value { lines = t.value.lines ++ more; draws = t.value.draws ++ further })
+with_more more further t =
+    traced t.events
+    (record t.value { lines = t.value.lines ++ more; draws = t.value.draws ++ further })
 
 -- an ending stays: more lines and draws are left untouched
 abbrev pub EndingStays : Type 0
-EndingStays = (game : Game) (position : Position) (s : State) (lines more : List (List ℕ)) (draws further : List ℕ) (ending : ℕ)
+EndingStays =
+    (game : Game) (position : Position) (s : State) (lines more : List (List ℕ))
+    (draws further : List ℕ) (ending : ℕ)
     → (go game position s lines draws).value.position ≡ Over ending
-    → go game position s (lines ++ more) (draws ++ further) ≡ with_more more further (go game position s lines draws)
+    → go game position s (lines ++ more) (draws ++ further)
+    ≡ with_more more further (go game position s lines draws)
 
 -- ---- endings
 
@@ -138,9 +163,11 @@ AdvanceEndsWell = (game : Game) (position : Position) (s : State) (draws : List 
 
 -- the answer to a line ends a game with 1, 2 or 3
 abbrev pub AnswerEndsWell : Type 0
-AnswerEndsWell = (game : Game) (line : List ℕ) (s : State) → EndsWell (answer game line s).value.position
+AnswerEndsWell =
+    (game : Game) (line : List ℕ) (s : State) → EndsWell (answer game line s).value.position
 
 -- a play ends a game with 1, 2 or 3
 abbrev pub EndingsAreThree : Type 0
-EndingsAreThree = (game : Game) (position : Position) (s : State) (lines : List (List ℕ)) (draws : List ℕ)
+EndingsAreThree =
+    (game : Game) (position : Position) (s : State) (lines : List (List ℕ)) (draws : List ℕ)
     → EndsWell position → EndsWell (go game position s lines draws).value.position

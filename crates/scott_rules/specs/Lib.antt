@@ -1,4 +1,5 @@
--- The rules, in the order in which a reader learns the game; then their laws, and games on which they are worked out.
+-- The rules, in the order in which a reader learns the game; then their laws, and games on which
+-- they are worked out.
 pub mod Outcomes
 pub mod Words
 pub mod Commands

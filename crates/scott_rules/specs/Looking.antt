@@ -19,7 +19,8 @@ use Rattle.scott_types.specs.Style.{Game}
 
 -- the texts of the entries whose partner passes
 abbrev pub chosen : {A B : Type 0} → (B → Bool) → (A → List ℕ) → List A → List B → List (List ℕ)
-chosen passes text entries partners = map (λ pair. text pair.0) (filter (λ pair. passes pair.1) (zip entries partners))
+chosen passes text entries partners =
+    map (λ pair. text pair.0) (filter (λ pair. passes pair.1) (zip entries partners))
 
 -- ---- the look
 
@@ -31,26 +32,33 @@ abbrev pub directions : List Phrase
 directions = North ∷ South ∷ East ∷ West ∷ Up ∷ Down ∷ []
 
 abbrev pub exit_names : Database → ℕ → List (List ℕ)
-exit_names db room = chosen (λ exit. not (room_beyond (length db.rooms) exit == 0)) text_of directions (room_at db room).exits
+exit_names db room =
+    chosen (λ exit. not (room_beyond (length db.rooms) exit == 0)) text_of directions
+    (room_at db room).exits
 
 abbrev pub exits_listed : List (List ℕ) → List ℕ
-exits_listed names = text_of ObviousExits ++ (joined_or (text_of NoExits) (text_of BetweenExits) names ++ text_of ListEnd)
+exits_listed names =
+    text_of ObviousExits
+    ++ (joined_or (text_of NoExits) (text_of BetweenExits) names ++ text_of ListEnd)
 
 -- what is shown of the items whose place is this one
 abbrev pub items_at_place : List Item → List ℕ → ℕ → List (List ℕ)
-items_at_place items places place = chosen (λ at. at == place) (λ item. shown item.text) items places
+items_at_place items places place =
+    chosen (λ at. at == place) (λ item. shown item.text) items places
 
 abbrev pub items_at : Database → State → ℕ → List (List ℕ)
 items_at db s place = items_at_place db.items s.places.items place
 
 abbrev pub items_seen : Style → List (List ℕ) → List ℕ
 items_seen style [] = []
-items_seen style (text ∷ texts) = text_in style AlsoSee ++ (joined (text_of BetweenItems) (text ∷ texts) ++ text_of Newline)
+items_seen style (text ∷ texts) =
+    text_in style AlsoSee ++ (joined (text_of BetweenItems) (text ∷ texts) ++ text_of Newline)
 
 abbrev pub seen_in_light : Game → State → List ℕ
 seen_in_light game s =
     described game.style (room_at game.db s.room).text
-    ++ (exits_listed (exit_names game.db s.room) ++ items_seen game.style (items_at game.db s s.room))
+    ++ (exits_listed (exit_names game.db s.room)
+    ++ items_seen game.style (items_at game.db s s.room))
 
 abbrev pub looked : Game → State → List ℕ
 looked game s = if is_dark s then text_in game.style TooDark else seen_in_light game s
@@ -60,7 +68,8 @@ looked game s = if is_dark s then text_in game.style TooDark else seen_in_light 
 abbrev pub inventory : Game → State → List ℕ
 inventory game s =
     text_in game.style CarryingList
-    ++ (joined_or (text_of NothingCarried) (text_of BetweenItems) (items_at game.db s carried_place) ++ text_of ListEnd)
+    ++ (joined_or (text_of NothingCarried) (text_of BetweenItems) (items_at game.db s carried_place)
+    ++ text_of ListEnd)
 
 -- ---- the score
 
@@ -77,7 +86,8 @@ stored_count db s = count_stored db.header.home db.items s.places.items
 
 -- how many hundredths of all treasures are stored, toward zero, and 0 where there are none to store
 abbrev pub rate : ℤ → ℕ → ℤ
-rate treasures stored = if int_eq treasures (pos 0) then pos 0 else int_div (pos (stored * 100)) treasures
+rate treasures stored =
+    if int_eq treasures (pos 0) then pos 0 else int_div (pos (stored * 100)) treasures
 
 -- there are treasures to store, and as many are stored
 abbrev pub is_full_score : ℤ → ℕ → Bool
@@ -92,11 +102,13 @@ praise all = if all then text_of WellDone ++ text_of GameOver else []
 -- the texts of a score, around its two numbers
 abbrev pub score_around : Style → List ℕ → List ℕ → Bool → List ℕ
 score_around style stored hundredths full =
-    text_in style Stored ++ (stored ++ (text_of Rating ++ (hundredths ++ (text_of ListEnd ++ praise full))))
+    text_in style Stored
+    ++ (stored ++ (text_of Rating ++ (hundredths ++ (text_of ListEnd ++ praise full))))
 
 abbrev pub score_text : Style → ℤ → ℕ → List ℕ
 score_text style treasures stored =
-    score_around style (decimal stored) (signed_decimal (rate treasures stored)) (is_full_score treasures stored)
+    score_around style (decimal stored) (signed_decimal (rate treasures stored))
+    (is_full_score treasures stored)
 
 abbrev pub scored : Game → State → List ℕ
 scored game s = score_text game.style game.db.header.treasures (stored_count game.db s)

@@ -29,18 +29,20 @@ use Rattle.scott_rules.specs.Looking.{looked, inventory, scored, all_stored}
 
 -- ---- items
 
--- An item goes to a place. The room is described again where the item was here before or is here after.
--- Nothing is done where the item isn't there.
+-- An item goes to a place. The room is described again where the item was here before or is here
+-- after. Nothing is done where the item isn't there.
 abbrev pub moved : State → ℕ → ℕ → State
 moved s item place =
-    if has_item s item then record (with_place s item place) { redraw = s.redraw || (is_here s item || (place == s.room)) } else s
+    if has_item s item then record (with_place s item place)
+    { redraw = s.redraw || (is_here s item || (place == s.room)) } else s
 
 abbrev pub redrawn : State → State
 redrawn s = record s { redraw = true }
 
 -- two items change places, where both are there
 abbrev pub swapped : State → ℕ → ℕ → State
-swapped s p q = if has_item s p && has_item s q then moved (moved s p (place_of s q)) q (place_of s p) else s
+swapped s p q =
+    if has_item s p && has_item s q then moved (moved s p (place_of s q)) q (place_of s p) else s
 
 -- as many items are carried as can be
 abbrev pub is_full : Database → State → Bool
@@ -55,14 +57,18 @@ items_moved Take p q s = moved s p carried_place
 items_moved Join p q s = moved s p (place_of s q)
 
 abbrev pub refilled : Database → State → State
-refilled db s = moved (with_flag (record s { light = db.header.light }) out_flag false) lamp carried_place
+refilled db s =
+    moved (with_flag (record s { light = db.header.light }) out_flag false) lamp carried_place
 
 -- ---- the room, flags and the counter
 
 -- the room is exchanged for a backup room, where that is there
 abbrev pub with_backup_room : ℕ → State → State
 with_backup_room p s =
-    if nat_lt p 16 then record s { room = slice_index s.rooms p; rooms = slice_set s.rooms p s.room; redraw = true } else s
+    if nat_lt p 16
+    then record s
+    { room = slice_index s.rooms p; rooms = slice_set s.rooms p s.room; redraw = true }
+    else s
 
 abbrev pub room_changed : Database → RoomOp → ℕ → State → State
 room_changed db Go p s = if is_room_of db p then record s { room = p; redraw = true } else s
@@ -87,10 +93,15 @@ with_counter s n = record s { counter = n }
 -- the counter is exchanged for a backup counter, where that is there
 abbrev pub with_backup_counter : ℕ → State → State
 with_backup_counter p s =
-    if nat_lt p 16 then record s { counter = slice_index_or s.counters p (pos 0); counters = slice_set s.counters p s.counter } else s
+    if nat_lt p 16
+    then record s {
+      counter = slice_index_or s.counters p (pos 0);
+      counters = slice_set s.counters p s.counter;
+    } else s
 
 abbrev pub counter_changed : CounterOp → ℕ → State → State
-counter_changed Down p s = if int_le (pos 0) s.counter then with_counter s (s.counter -ℤ pos 1) else s
+counter_changed Down p s =
+    if int_le (pos 0) s.counter then with_counter s (s.counter -ℤ pos 1) else s
 counter_changed SetCounter p s = with_counter s (int_min (pos p) most_count)
 counter_changed SwapCounter p s = with_backup_counter p s
 counter_changed Add p s = with_counter s (int_min (s.counter +ℤ pos p) most_count)
@@ -101,7 +112,8 @@ counter_changed Subtract p s = with_counter s (int_max (s.counter -ℤ pos p) (n
 -- a message and the end of its line; nothing for one that isn't there
 abbrev pub said_message : Database → ℕ → List ℕ
 said_message db message =
-    if nat_lt message (length db.messages) then slice_index_or db.messages message [] ++ text_of phrase.Newline else []
+    if nat_lt message (length db.messages) then slice_index_or db.messages message []
+    ++ text_of phrase.Newline else []
 
 abbrev pub talk : Game → List ℕ → TalkOp → State → List ℕ
 talk game noun Look s = looked game s
@@ -162,7 +174,8 @@ ending db _ s = None
 abbrev pub opcode_effect : Game → List ℕ → Opcode → ℕ → ℕ → State → Traced ℕ Outcome
 opcode_effect game noun opcode p q s =
     let after = changed game.db opcode p q s in
-    traced (opcode_text game noun opcode (is_full game.db s) after) (record { state = after; over = ending game.db opcode after })
+    traced (opcode_text game noun opcode (is_full game.db s) after)
+    (record { state = after; over = ending game.db opcode after })
 
 -- ---- one opcode after another
 
@@ -173,10 +186,12 @@ takes db s opcode = uses opcode
 
 -- an opcode with the next of the parameters, each 0 where none is left
 abbrev pub op : Game → List ℕ → Opcode → List ℕ → State → Traced ℕ Outcome
-op game noun opcode params s = opcode_effect game noun opcode (slice_index params 0) (slice_index params 1) s
+op game noun opcode params s =
+    opcode_effect game noun opcode (slice_index params 0) (slice_index params 1) s
 
 -- opcodes in order, each with the parameters that those before it left, until the game is over
 abbrev pub run_opcodes : Game → List ℕ → List Opcode → List ℕ → State → Traced ℕ Outcome
 run_opcodes game noun [] params s = traced [] (goes_on s)
 run_opcodes game noun (opcode ∷ opcodes) params s =
-    and_then (op game noun opcode params s) (run_opcodes game noun opcodes (drop (takes game.db s opcode) params))
+    and_then (op game noun opcode params s)
+    (run_opcodes game noun opcodes (drop (takes game.db s opcode) params))

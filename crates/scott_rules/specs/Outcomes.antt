@@ -11,9 +11,11 @@ abbrev pub goes_on : State → Outcome
 goes_on s = record { state = s; over = None }
 
 -- what comes next is done unless the game is over
-abbrev pub then_if_on : {E : Type 0} → Option ℕ → Traced E Outcome → (State → Traced E Outcome) → Traced E Outcome
+abbrev pub then_if_on : {E : Type 0} → Option ℕ → Traced E Outcome → (State → Traced E Outcome)
+    → Traced E Outcome
 then_if_on None t next = after t.events (next t.value.state)
 then_if_on (Some ending) t next = t
 
-abbrev pub and_then : {E : Type 0} → Traced E Outcome → (State → Traced E Outcome) → Traced E Outcome
+abbrev pub and_then : {E : Type 0} → Traced E Outcome → (State → Traced E Outcome)
+    → Traced E Outcome
 and_then t next = then_if_on t.value.over t next

@@ -19,16 +19,24 @@ pub record PlayEnd : Type 0 where
 
 abbrev pub stopped : List (List ℕ) → Traced Step RoundEnd → Traced Step PlayEnd
 stopped lines t =
-    traced t.events (record { position = t.value.position; state = t.value.state; lines = lines; draws = t.value.draws })
+    traced t.events
+    (record {
+      position = t.value.position;
+      state = t.value.state;
+      lines = lines;
+      draws = t.value.draws;
+    })
 
 -- at the prompt the line is answered, and the play goes on; at any other position it has stopped
-abbrev pub with_line : Position → Game → List ℕ → List (List ℕ) → Traced Step RoundEnd → (Position → State → List ℕ → Traced Step PlayEnd) → Traced Step PlayEnd
+abbrev pub with_line : Position → Game → List ℕ → List (List ℕ) → Traced Step RoundEnd
+    → (Position → State → List ℕ → Traced Step PlayEnd) → Traced Step PlayEnd
 with_line Line game line lines t next =
     let a = answer game line t.value.state in
     after t.events (after a.events (next a.value.position a.value.state t.value.draws))
 with_line _ game line lines t next = stopped (line ∷ lines) t
 
--- the rounds from a position on, until a line or a draw is wanted and none is left, or the game is over
+-- the rounds from a position on, until a line or a draw is wanted and none is left, or the game is
+-- over
 unfoldable pub go : Game → Position → State → List (List ℕ) → List ℕ → Traced Step PlayEnd
 go game position s [] draws = stopped [] (advance game position s draws)
 go game position s (line ∷ lines) draws =

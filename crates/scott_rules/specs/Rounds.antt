@@ -44,19 +44,27 @@ pub record RoundEnd : Type 0 where
 
 -- where the automatic step came through, a look that is due and the prompt follow
 abbrev pub prompted : Halt → Game → State → List ℕ → Traced Step RoundEnd
-prompted Through game s draws = traced_text (look_due game s ++ text_of Prompt) (record { position = Line; state = unmarked s; draws = draws })
-prompted (Waits head) game s draws = traced [] (record { position = Draw head; state = s; draws = draws })
-prompted (AtEnd ending) game s draws = traced [] (record { position = Over ending; state = s; draws = draws })
+prompted Through game s draws =
+    traced_text (look_due game s ++ text_of Prompt)
+    (record { position = Line; state = unmarked s; draws = draws })
+prompted (Waits head) game s draws =
+    traced [] (record { position = Draw head; state = s; draws = draws })
+prompted (AtEnd ending) game s draws =
+    traced [] (record { position = Over ending; state = s; draws = draws })
 
 abbrev pub to_prompt : Game → Traced Step AutoOutcome → Traced Step RoundEnd
 to_prompt game t = after t.events (prompted t.value.halt game t.value.state t.value.draws)
 
 -- everything up to the prompt, from where a play stands
 abbrev pub advance : Game → Position → State → List ℕ → Traced Step RoundEnd
-advance game Fresh s draws = after (said_steps (look_due game s)) (to_prompt game (automatic game (groups game.db) (unmarked s) draws))
-advance game (Draw head) s draws = to_prompt game (automatic game (groups_from game.db head) s draws)
+advance game Fresh s draws =
+    after (said_steps (look_due game s))
+    (to_prompt game (automatic game (groups game.db) (unmarked s) draws))
+advance game (Draw head) s draws =
+    to_prompt game (automatic game (groups_from game.db head) s draws)
 advance game Line s draws = traced [] (record { position = Line; state = s; draws = draws })
-advance game (Over ending) s draws = traced [] (record { position = Over ending; state = s; draws = draws })
+advance game (Over ending) s draws =
+    traced [] (record { position = Over ending; state = s; draws = draws })
 
 -- ---- moving
 
@@ -65,11 +73,14 @@ moved_to room s = record s { room = room; redraw = true }
 
 -- without an exit: in the dark a fall, else a refusal
 abbrev pub no_way : Style → Bool → State → Traced Step Outcome
-no_way style true s = traced_text (text_in style BrokenNeck) (record { state = s; over = Some by_fall })
+no_way style true s =
+    traced_text (text_in style BrokenNeck) (record { state = s; over = Some by_fall })
 no_way style false s = traced_text (text_in style NoExitThere) (goes_on s)
 
 abbrev pub way : Style → ℕ → State → Traced Step Outcome
-way style room s = if room == 0 then no_way style (is_dark s) s else traced_text (text_of Moved) (goes_on (moved_to room s))
+way style room s =
+    if room == 0 then no_way style (is_dark s) s
+    else traced_text (text_of Moved) (goes_on (moved_to room s))
 
 abbrev pub walk_result : Game → ℕ → State → Traced Step Outcome
 walk_result game noun s =
@@ -86,10 +97,12 @@ not_done style _ = text_of NotUnderstood
 abbrev pub unmatched : Game → List ℕ → ℕ → Option ℕ → Found → State → Traced Step Outcome
 unmatched game typed verb noun found s =
     if verb == get_verb then transfer PickUp game typed noun s else
-    if verb == drop_verb then transfer PutDown game typed noun s else traced_text (not_done game.style found) (goes_on s)
+    if verb == drop_verb then transfer PutDown game typed noun s
+    else traced_text (not_done game.style found) (goes_on s)
 
 abbrev pub by_found : Found → Game → List ℕ → ℕ → Option ℕ → State → Traced Step Outcome
-by_found (FoundOver ending) game typed verb noun s = traced [] (record { state = s; over = Some ending })
+by_found (FoundOver ending) game typed verb noun s =
+    traced [] (record { state = s; over = Some ending })
 by_found Done game typed verb noun s = traced [] (goes_on s)
 by_found found game typed verb noun s = unmatched game typed verb noun found s
 
@@ -101,10 +114,13 @@ by_actions game typed verb noun s =
 -- going asks for a direction, and goes there; with another noun it is a verb like any
 abbrev pub going : Game → List ℕ → Option ℕ → State → Traced Step Outcome
 going game typed None s = traced_text (text_of NeedDirection) (goes_on s)
-going game typed (Some noun) s = if is_direction noun then walk_result game noun s else by_actions game typed go_verb (Some noun) s
+going game typed (Some noun) s =
+    if is_direction noun then walk_result game noun s
+    else by_actions game typed go_verb (Some noun) s
 
 abbrev pub command_result : Game → List ℕ → ℕ → Option ℕ → State → Traced Step Outcome
-command_result game typed verb noun s = if verb == go_verb then going game typed noun s else by_actions game typed verb noun s
+command_result game typed verb noun s =
+    if verb == go_verb then going game typed noun s else by_actions game typed verb noun s
 
 -- ---- the answer to a line
 
@@ -115,7 +131,9 @@ pub record Answered : Type 0 where
 
 -- the light burns where the game goes on, and a round begins
 abbrev pub turn_ended : Style → Option ℕ → State → Traced Step Answered
-turn_ended style None s = let t = light_counted style s in traced_text t.events (record { position = Fresh; state = t.value })
+turn_ended style None s =
+    let t = light_counted style s in traced_text t.events
+    (record { position = Fresh; state = t.value })
 turn_ended style (Some ending) s = traced [] (record { position = Over ending; state = s })
 
 abbrev pub command_done : Style → Traced Step Outcome → Traced Step Answered
@@ -129,8 +147,10 @@ unknown_word word = text_of UnknownOpening ++ (word ++ text_of UnknownBack)
 
 abbrev pub by_heard : Heard → Game → List ℕ → State → Traced Step Answered
 by_heard Blank game line s = asked_again [] s
-by_heard (Unknown start size) game line s = asked_again (unknown_word (word_at line (start, size))) s
-by_heard (Command verb noun) game line s = command_done game.style (command_result game (typed_noun line) verb noun s)
+by_heard (Unknown start size) game line s =
+    asked_again (unknown_word (word_at line (start, size))) s
+by_heard (Command verb noun) game line s =
+    command_done game.style (command_result game (typed_noun line) verb noun s)
 
 -- a line is taken and answered
 abbrev pub answer : Game → List ℕ → State → Traced Step Answered

@@ -29,18 +29,25 @@ at_least_matched NoMatch = Matched
 at_least_matched found = found
 
 abbrev pub matched : Traced Step SearchOutcome → Traced Step SearchOutcome
-matched t = traced t.events (record { state = t.value.state; found = at_least_matched t.value.found })
+matched t =
+    traced t.events (record { state = t.value.state; found = at_least_matched t.value.found })
 
-abbrev pub search_after : Ran → Traced Step ActionOutcome → (State → Traced Step SearchOutcome) → Traced Step SearchOutcome
+abbrev pub search_after : Ran → Traced Step ActionOutcome → (State → Traced Step SearchOutcome)
+    → Traced Step SearchOutcome
 search_after Not t next = after t.events (matched (next t.value.state))
 search_after (Passed more) t next = traced t.events (record { state = t.value.state; found = Done })
-search_after (Ended ending) t next = traced t.events (record { state = t.value.state; found = Over ending })
+search_after (Ended ending) t next =
+    traced t.events (record { state = t.value.state; found = Over ending })
 
-abbrev pub search_group : Bool → Game → List ℕ → Group → State → (State → Traced Step SearchOutcome) → Traced Step SearchOutcome
-search_group true game typed g s next = let t = group_tried game typed g s in search_after t.value.ran t next
+abbrev pub search_group : Bool → Game → List ℕ → Group → State → (State → Traced Step SearchOutcome)
+    → Traced Step SearchOutcome
+search_group true game typed g s next =
+    let t = group_tried game typed g s in search_after t.value.ran t next
 search_group false game typed g s next = next s
 
 -- the groups for a verb and a noun are tried in order, up to the first head that passes
-abbrev pub search_result : Game → List ℕ → ℕ → Option ℕ → List Group → State → Traced Step SearchOutcome
+abbrev pub search_result : Game → List ℕ → ℕ → Option ℕ → List Group → State
+    → Traced Step SearchOutcome
 search_result game typed verb noun [] s = traced [] (record { state = s; found = NoMatch })
-search_result game typed verb noun (g ∷ gs) s = search_group (is_for verb noun g) game typed g s (search_result game typed verb noun gs)
+search_result game typed verb noun (g ∷ gs) s =
+    search_group (is_for verb noun g) game typed g s (search_result game typed verb noun gs)

@@ -62,29 +62,38 @@ abbrev pub all_result : State → Option ℕ → Traced Step AllOutcome
 all_result s over = traced [] (record { state = s; over = over; any_taken = true })
 
 abbrev pub with_one_taken : Traced Step AllOutcome → Traced Step AllOutcome
-with_one_taken t = traced t.events (record { state = t.value.state; over = t.value.over; any_taken = true })
+with_one_taken t =
+    traced t.events (record { state = t.value.state; over = t.value.over; any_taken = true })
 
 -- the item is transferred, or the command ends with a refusal
-abbrev pub all_moved : Bool → Style → Transfer → ℕ → Item → State → (State → Traced Step AllOutcome) → Traced Step AllOutcome
-all_moved true style t i item s next = after (said_steps (text_in style TooMuch)) (all_result s None)
-all_moved false style t i item s next = after (said_steps (shown item.text ++ text_of ItemDone)) (with_one_taken (next (transferred t i s)))
+abbrev pub all_moved : Bool → Style → Transfer → ℕ → Item → State → (State → Traced Step AllOutcome)
+    → Traced Step AllOutcome
+all_moved true style t i item s next =
+    after (said_steps (text_in style TooMuch)) (all_result s None)
+all_moved false style t i item s next =
+    after (said_steps (shown item.text ++ text_of ItemDone))
+    (with_one_taken (next (transferred t i s)))
 
 -- only an ending of the item's lines counts
-abbrev pub all_after : Found → Transfer → Game → ℕ → Item → State → (State → Traced Step AllOutcome) → Traced Step AllOutcome
+abbrev pub all_after : Found → Transfer → Game → ℕ → Item → State → (State → Traced Step AllOutcome)
+    → Traced Step AllOutcome
 all_after (Over ending) t game i item s next = all_result s (Some ending)
 all_after _ t game i item s next = all_moved (is_refused t game.db s) game.style t i item s next
 
 -- first the lines for the item are searched, with the command's verb and the item's own noun
-abbrev pub all_item : Bool → Transfer → Game → List ℕ → ℕ → Item → State → (State → Traced Step AllOutcome) → Traced Step AllOutcome
+abbrev pub all_item : Bool → Transfer → Game → List ℕ → ℕ → Item → State
+    → (State → Traced Step AllOutcome) → Traced Step AllOutcome
 all_item true t game typed i item s next =
-    let found = search_result game typed (verb_for t) (which game.db Nouns (get_word item.text)) (groups game.db) s in
+    let found = search_result game typed (verb_for t) (which game.db Nouns (get_word item.text))
+    (groups game.db) s in
     after found.events (all_after found.value.found t game i item found.value.state next)
 all_item false t game typed i item s next = next s
 
 -- the items in order, numbered from i on
 abbrev pub all_items : Transfer → Game → List ℕ → ℕ → List Item → State → Traced Step AllOutcome
 all_items t game typed i [] s = traced [] (record { state = s; over = None; any_taken = false })
-all_items t game typed i (item ∷ items) s = all_item (is_taken t i item s) t game typed i item s (all_items t game typed (i + 1) items)
+all_items t game typed i (item ∷ items) s =
+    all_item (is_taken t i item s) t game typed i item s (all_items t game typed (i + 1) items)
 
 abbrev pub none_taken : Transfer → List ℕ
 none_taken PickUp = text_of NothingTaken
@@ -92,7 +101,8 @@ none_taken PutDown = text_of NothingDropped
 
 abbrev pub all_said : Transfer → Traced Step AllOutcome → Traced Step Outcome
 all_said t w =
-    traced (w.events ++ said_steps (if w.value.any_taken then [] else none_taken t)) (record { state = w.value.state; over = w.value.over })
+    traced (w.events ++ said_steps (if w.value.any_taken then [] else none_taken t))
+    (record { state = w.value.state; over = w.value.over })
 
 -- getting all needs light
 abbrev pub is_too_dark : Transfer → State → Bool
@@ -108,11 +118,13 @@ all_transferred t game typed s = all_from (is_too_dark t s) t game typed s
 
 -- ---- one
 
--- the least item, numbered from i on, that is at hand and whose word matches; an empty word matches none
+-- the least item, numbered from i on, that is at hand and whose word matches; an empty word matches
+-- none
 abbrev pub item_named : Transfer → ℕ → List ℕ → ℕ → List Item → State → Option ℕ
 item_named t size word i [] s = None
 item_named t size word i (item ∷ items) s =
-    if is_at_hand t s i && (not (is_empty word) && is_typed size (get_word item.text) word) then Some i else
+    if is_at_hand t s i && (not (is_empty word) && is_typed size (get_word item.text) word)
+    then Some i else
     item_named t size word (i + 1) items s
 
 abbrev pub one_moved : Style → Transfer → Option ℕ → State → Traced Step Outcome
@@ -121,7 +133,9 @@ one_moved style t (Some item) s = traced_text (text_of DonePhrase) (goes_on (tra
 
 abbrev pub one_from : Bool → Transfer → Game → ℕ → State → Traced Step Outcome
 one_from true t game noun s = traced_text (text_in game.style TooMuch) (goes_on s)
-one_from false t game noun s = one_moved game.style t (item_named t game.db.header.length (root game.db noun) 0 game.db.items s) s
+one_from false t game noun s =
+    one_moved game.style t
+    (item_named t game.db.header.length (root game.db noun) 0 game.db.items s) s
 
 abbrev pub one_transferred : Transfer → Game → Option ℕ → State → Traced Step Outcome
 one_transferred t game None s = traced_text (text_of WhatItem) (goes_on s)
@@ -133,4 +147,5 @@ abbrev pub is_all : List ℕ → Bool
 is_all typed = bytes_eq typed (codes "all")
 
 abbrev pub transfer : Transfer → Game → List ℕ → Option ℕ → State → Traced Step Outcome
-transfer t game typed noun s = if is_all typed then all_transferred t game typed s else one_transferred t game noun s
+transfer t game typed noun s =
+    if is_all typed then all_transferred t game typed s else one_transferred t game noun s

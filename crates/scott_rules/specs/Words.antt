@@ -29,7 +29,8 @@ abbrev pub entry_from : ℕ → List ℕ → Option ℕ → ℕ → List (List �
 entry_from size word base k [] = None
 entry_from size word base k (entry ∷ entries) =
     let nearest = if is_starred entry then base else Some k in
-    if is_typed size (spelling entry) word && is_some nearest then nearest else entry_from size word nearest (k + 1) entries
+    if is_typed size (spelling entry) word && is_some nearest then nearest
+    else entry_from size word nearest (k + 1) entries
 
 abbrev pub column_of : Column → Word → List ℕ
 column_of Verbs word = word.verb

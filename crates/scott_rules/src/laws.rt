@@ -73,8 +73,8 @@ pub fn answer_ends_well()
     ensures { AnswerEndsWell }
 {}
 
-/// A play ends a game with 1 by an opcode, 2 by a fall in the dark or 3 by a full score, and with no
-/// other number.
+/// A play ends a game with 1 by an opcode, 2 by a fall in the dark or 3 by a full score, and with
+/// no other number.
 pub fn endings_are_three()
     ensures { EndingsAreThree }
 {}

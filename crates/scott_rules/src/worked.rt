@@ -1,5 +1,5 @@
-//! Worked plays: on these games the rules give just this. Each is the contract of a function that does
-//! nothing, and is proved by computing the play.
+//! Worked plays: on these games the rules give just this. Each is the contract of a function that
+//! does nothing, and is proved by computing the play.
 ghost use Rattle.scott_types.specs.Limits.{KeepsLimits};
 ghost use Rattle.scott_rules.specs.Games.{hill};
 ghost use Rattle.scott_rules.specs.Worked.{WordsHeard, HallAndHill, BlankLineAsksAgain, OneOfEach, RefusedGetLeavesItsParameter, CounterIsCapped, MessageIsSaid, DrawsPassAHeadOver, DrawsTryAllHeads, DrawsRunOut, ActionsNoted, GetAllEndsTheGame, GetAndDrop, ScoreGoesOn, FullScoreEnds, LightRunsOut, LightGrowsDim, DarkIsDangerous, ConditionFails, MissingParameterIsZero, EachStyle};

@@ -51,7 +51,8 @@ refusal_is (too_long name limit) = refl
 refusal_is (unfit u) = content_is u.fault
 refusal_is (unwritten name) = refl
 
--- no refusal has the status of something done, of want of memory, of a console that failed, or of a run
+-- no refusal has the status of something done, of want of memory, of a console that failed, or of a
+-- run
 abbrev NoRefusal : (n : ℕ) → Type 0
 NoRefusal n = (n ≡ 0) ⊎ (n ≡ 9) ⊎ (n ≡ 3) ⊎ (n ≡ 8) ⊎ (n ≡ 10)
 

@@ -119,8 +119,8 @@ translatable_unfit name db (Some k) wide u e = by_line k refl (sym (ap status_in
 translatable_unfit name db None (Some placed) u e = by_width placed refl refl (sym (ap status_in e))
 translatable_unfit name db None None u e = absurd cc
 
--- the content that is refused is that of the database, of the source, of the program, or of the draws; or the database has a line,
--- or a number that is too wide
+-- the content that is refused is that of the database, of the source, of the program, or of the
+-- draws; or the database has a line, or a number that is too wide
 pub data Fails (request : Request) (texts : Texts) (u : Unfit) : Type 0 where
   bad_database : (load : Load) (fault : Fault) → main_of request ≡ Some load → database_in texts.main ≡ Err fault
       → content_status u.fault ≡ 4 → Fails request texts u

@@ -58,7 +58,8 @@ first x = (0, lit< tt, refl)
 
 -- ---- what a status of work tells
 
--- a status is that of a task, or that of a content that is refused; or memory ran out, or the console or the shelf failed
+-- a status is that of a task, or that of a content that is refused; or memory ran out, or the
+-- console or the shelf failed
 pub data Tells (ShelfFailed ConsoleFailed : Type 0) (expected : Result Task Unfit) (status : ℕ) : Type 0 where
   of_task : (task : Task) → expected ≡ Ok task → Contains (task_statuses task) status → Tells ShelfFailed ConsoleFailed expected status
   of_fault : (u : Unfit) → expected ≡ Err u → status ≡ content_status u.fault → Tells ShelfFailed ConsoleFailed expected status

@@ -32,59 +32,79 @@ OneLoaded (Some request) P = (load : Load) × IsLoad request load × P load
 -- the main file that the request loads is there, and its bytes have this
 abbrev pub MainHas : Files → Option Request → (List ℕ → Type 0) → Type 0
 MainHas files None P = ⊥
-MainHas files (Some request) P = (load : Load) × (bytes : List ℕ) × (main_of request ≡ Some load) × (get files load.name ≡ Some bytes) × P bytes
+MainHas files (Some request) P =
+    (load : Load) × (bytes : List ℕ) × (main_of request ≡ Some load)
+    × (get files load.name ≡ Some bytes) × P bytes
 
 -- the source that the request compiles is there, and its bytes have this
 abbrev pub SourceHas : Files → Option Request → (List ℕ → Type 0) → Type 0
-SourceHas files (Some (compile source game)) P = (bytes : List ℕ) × (get files source ≡ Some bytes) × P bytes
+SourceHas files (Some (compile source game)) P =
+    (bytes : List ℕ) × (get files source ≡ Some bytes) × P bytes
 SourceHas files _ P = ⊥
 
--- the file that the request runs is there, and its bytes have no program that is accepted where words have the request's width
+-- the file that the request runs is there, and its bytes have no program that is accepted where
+-- words have the request's width
 abbrev pub HasNoProgram : Files → Option Request → Type 0
-HasNoProgram files (Some (run name source steps width)) = (bytes : List ℕ) × (fault : program.Fault) × (get files name ≡ Some bytes) × IsFaulty width bytes fault
+HasNoProgram files (Some (run name source steps width)) =
+    (bytes : List ℕ) × (fault : program.Fault) × (get files name ≡ Some bytes)
+    × IsFaulty width bytes fault
 HasNoProgram files _ = ⊥
 
 -- the database that the request translates has a line that isn't all zeros
 abbrev pub HasLine : Files → Option Request → Type 0
 HasLine files (Some (translate game program style width)) =
-    (bytes : List ℕ) × (db : Database) × (k : ℕ) × (get files game ≡ Some bytes) × DatText bytes db × (first_line db ≡ Some k)
+    (bytes : List ℕ) × (db : Database) × (k : ℕ) × (get files game ≡ Some bytes) × DatText bytes db
+    × (first_line db ≡ Some k)
 HasLine files _ = ⊥
 
 -- it has no such line, and a number that is no word of the request's width
 abbrev pub HasWideNumber : Files → Option Request → Type 0
 HasWideNumber files (Some (translate game program style width)) =
-    (bytes : List ℕ) × (db : Database) × (placed : Placed) × (get files game ≡ Some bytes) × DatText bytes db
+    (bytes : List ℕ) × (db : Database) × (placed : Placed) × (get files game ≡ Some bytes)
+    × DatText bytes db
     × (first_line db ≡ None) × (wide_at width db ≡ Some placed)
 HasWideNumber files _ = ⊥
 
 -- the run of the request, with these lines, ends with this status
 abbrev pub RunEnds : Files → List (List ℕ) → Option Request → ℕ → Type 0
 RunEnds files lines (Some (run name source steps width)) status =
-    (bytes : List ℕ) × (p : List DirectiveTree) × (draws : List ℕ) × (get files name ≡ Some bytes) × IsProgram width bytes p
+    (bytes : List ℕ) × (p : List DirectiveTree) × (draws : List ℕ) × (get files name ≡ Some bytes)
+    × IsProgram width bytes p
     × DrawsAre files source draws × (stop_status (stop_after width p steps lines draws) ≡ status)
 RunEnds files lines _ status = ⊥
 
 -- the file of draws that the request loads is there, and its bytes have this
 abbrev pub DrawsHave : Files → Option Request → (List ℕ → Type 0) → Type 0
 DrawsHave files None P = ⊥
-DrawsHave files (Some request) P = (load : Load) × (bytes : List ℕ) × (draws_of request ≡ Some load) × (get files load.name ≡ Some bytes) × P bytes
+DrawsHave files (Some request) P =
+    (load : Load) × (bytes : List ℕ) × (draws_of request ≡ Some load)
+    × (get files load.name ≡ Some bytes) × P bytes
 
 -- a file has more bytes than are loaded
 abbrev pub IsTooLong : Files → Load → Type 0
-IsTooLong files load = (bytes : List ℕ) × (get files load.name ≡ Some bytes) × (load.limit < length bytes)
+IsTooLong files load =
+    (bytes : List ℕ) × (get files load.name ≡ Some bytes) × (load.limit < length bytes)
 
 -- Each status but 0 comes only with its cause.
-pub record HasCause (shelf shelf' : ShelfView) (console console' : ConsoleView) (asked : Option Request) (status : ℕ) : Type 0 where
+pub record HasCause (shelf shelf' : ShelfView) (console console' : ConsoleView)
+    (asked : Option Request) (status : ℕ) : Type 0 where
   pub no_request : status ≡ 1 → asked ≡ None
-  pub unread : status ≡ 2 → Rose shelf.faults shelf'.faults ⊎ OneLoaded asked (λ load. Lacks shelf.files load.name)
+  pub unread : status ≡ 2 → Rose shelf.faults shelf'.faults
+      ⊎ OneLoaded asked (λ load. Lacks shelf.files load.name)
   pub unsaid : status ≡ 3 → Rose console.faults console'.faults
-  pub no_database : status ≡ 4 → IfSome shelf.files (λ files. MainHas files asked (λ bytes. (fault : Fault) × DatFault bytes fault) ⊎ HasLine files asked)
-  pub no_source_or_draws : status ≡ 5 → IfSome shelf.files (λ files. SourceHas files asked IsNoSource ⊎ DrawsHave files asked (λ bytes. (at : ℕ) × (listed_draws bytes ≡ Err at)))
+  pub no_database : status ≡ 4 → IfSome shelf.files
+      (λ files. MainHas files asked (λ bytes. (fault : Fault) × DatFault bytes fault)
+      ⊎ HasLine files asked)
+  pub no_source_or_draws : status ≡ 5 → IfSome shelf.files
+      (λ files. SourceHas files asked IsNoSource
+      ⊎ DrawsHave files asked (λ bytes. (at : ℕ) × (listed_draws bytes ≡ Err at)))
   pub no_program : status ≡ 6 → IfSome shelf.files (λ files. HasNoProgram files asked)
   pub too_wide : status ≡ 7 → IfSome shelf.files (λ files. HasWideNumber files asked)
-  pub trapped : status ≡ 8 → IfSome shelf.files (λ files. IfSome console.left (λ lines. RunEnds files lines asked 8))
+  pub trapped : status ≡ 8 → IfSome shelf.files
+      (λ files. IfSome console.left (λ lines. RunEnds files lines asked 8))
   pub memory : status ≡ 9 → IsSome asked
-  pub spent : status ≡ 10 → IfSome shelf.files (λ files. IfSome console.left (λ lines. RunEnds files lines asked 10))
+  pub spent : status ≡ 10 → IfSome shelf.files
+      (λ files. IfSome console.left (λ lines. RunEnds files lines asked 10))
   pub too_long : status ≡ 11 → IfSome shelf.files (λ files. OneLoaded asked (IsTooLong files))
 
 -- ---- what is accepted
@@ -94,29 +114,38 @@ abbrev pub IsLoadable : Files → Load → List ℕ → Type 0
 IsLoadable files load bytes = (get files load.name ≡ Some bytes) × (length bytes ≤ load.limit)
 
 abbrev pub IsGame : Files → List ℕ → Type 0
-IsGame files name = (bytes : List ℕ) × (db : Database) × IsLoadable files (database_load name) bytes × DatText bytes db
+IsGame files name =
+    (bytes : List ℕ) × (db : Database) × IsLoadable files (database_load name) bytes
+    × DatText bytes db
 
 -- a text of a database without lines, whose numbers are words of this width
 abbrev pub IsTranslatable : Files → List ℕ → Width → Type 0
 IsTranslatable files name width =
-    (bytes : List ℕ) × (db : Database) × IsLoadable files (database_load name) bytes × DatText bytes db
+    (bytes : List ℕ) × (db : Database) × IsLoadable files (database_load name) bytes
+    × DatText bytes db
     × (first_line db ≡ None) × (wide_at width db ≡ None)
 
 -- a text of a source that means a database
 abbrev pub IsSource : Files → List ℕ → Type 0
 IsSource files name =
-    (bytes : List ℕ) × (tree : Source) × (db : Database) × IsLoadable files (source_load name) bytes × SourceText bytes tree × (meant tree ≡ Ok db)
+    (bytes : List ℕ) × (tree : Source) × (db : Database) × IsLoadable files (source_load name) bytes
+    × SourceText bytes tree × (meant tree ≡ Ok db)
 
--- a text of an accepted program, whose run with these lines and draws neither traps nor wants more steps
+-- a text of an accepted program, whose run with these lines and draws neither traps nor wants more
+-- steps
 abbrev pub IsRun : Files → Option (List (List ℕ)) → List ℕ → DrawSource → ℕ → Width → Type 0
 IsRun files left name source steps width =
-    (bytes : List ℕ) × (p : List DirectiveTree) × (draws : List ℕ) × (lines : List (List ℕ)) × IsLoadable files (program_load name) bytes
-    × IsProgram width bytes p × DrawsAre files source draws × (left ≡ Some lines) × (stop_status (stop_after width p steps lines draws) ≡ 0)
+    (bytes : List ℕ) × (p : List DirectiveTree) × (draws : List ℕ) × (lines : List (List ℕ))
+    × IsLoadable files (program_load name) bytes
+    × IsProgram width bytes p × DrawsAre files source draws × (left ≡ Some lines)
+    × (stop_status (stop_after width p steps lines draws) ≡ 0)
 
 -- the draws are given by a seed, or listed by a file
 abbrev pub HasDraws : Files → Option Load → Type 0
 HasDraws files None = Unit {0}
-HasDraws files (Some load) = (bytes : List ℕ) × (draws : List ℕ) × IsLoadable files load bytes × (listed_draws bytes ≡ Ok draws)
+HasDraws files (Some load) =
+    (bytes : List ℕ) × (draws : List ℕ) × IsLoadable files load bytes
+    × (listed_draws bytes ≡ Ok draws)
 
 -- each file of a request is there, within its limit, and what it should be; and a run ends with 0
 abbrev pub IsAccepted : Files → Option (List (List ℕ)) → Option Request → Type 0
@@ -124,6 +153,8 @@ IsAccepted files left None = ⊥
 IsAccepted files left (Some (check game)) = IsGame files game
 IsAccepted files left (Some (compile source game)) = IsSource files source
 IsAccepted files left (Some (decompile game source)) = IsGame files game
-IsAccepted files left (Some (play game source style)) = IsGame files game × HasDraws files (draws_load source)
+IsAccepted files left (Some (play game source style)) =
+    IsGame files game × HasDraws files (draws_load source)
 IsAccepted files left (Some (translate game program style width)) = IsTranslatable files game width
-IsAccepted files left (Some (run name source steps width)) = IsRun files left name source steps width × HasDraws files (draws_load source)
+IsAccepted files left (Some (run name source steps width)) =
+    IsRun files left name source steps width × HasDraws files (draws_load source)

@@ -14,7 +14,8 @@ use Rattle.scott_tool.specs.declared.refusals.ContentFault.TheVariants.{NoDataba
 -- the database that a file's bytes read as, or its first fault
 abbrev pub database_or_unfit : List ℕ → Result Database Fault → Result Database Unfit
 database_or_unfit name (Ok db) = Ok db
-database_or_unfit name (Err fault) = Err (record { name = name; fault = NoDatabase (fault_answer fault) })
+database_or_unfit name (Err fault) =
+    Err (record { name = name; fault = NoDatabase (fault_answer fault) })
 
 abbrev pub database_of_file : List ℕ → List ℕ → Result Database Unfit
 database_of_file name bytes = database_or_unfit name (database_in bytes)

@@ -16,16 +16,19 @@ use Rattle.scott_tool.specs.declared.refusals.ContentFault.TheVariants.{NoSource
 -- the source that a file's bytes read as, or its first fault
 abbrev pub source_or_unfit : List ℕ → Result Source reading.Fault → Result Source Unfit
 source_or_unfit name (Ok tree) = Ok tree
-source_or_unfit name (Err fault) = Err (record { name = name; fault = NoSource (reading.fault_answer fault) })
+source_or_unfit name (Err fault) =
+    Err (record { name = name; fault = NoSource (reading.fault_answer fault) })
 
 -- the database that it means, or its first fault
 abbrev pub meaning_or_unfit : List ℕ → Result Database meaning.Fault → Result Database Unfit
 meaning_or_unfit name (Ok db) = Ok db
-meaning_or_unfit name (Err fault) = Err (record { name = name; fault = NoMeaning (meaning.fault_answer fault) })
+meaning_or_unfit name (Err fault) =
+    Err (record { name = name; fault = NoMeaning (meaning.fault_answer fault) })
 
 -- the database that a file's bytes are a source of
 abbrev pub compiled_from : List ℕ → List ℕ → Result Database Unfit
-compiled_from name bytes = source_or_unfit name (source_in bytes) >>= λ tree. meaning_or_unfit name (meant tree)
+compiled_from name bytes =
+    source_or_unfit name (source_in bytes) >>= λ tree. meaning_or_unfit name (meant tree)
 
 -- bytes are no source, or one that means no database
 abbrev pub IsNoSource : List ℕ → Type 0
@@ -33,7 +36,8 @@ IsNoSource bytes =
     ((fault : reading.Fault) × TextFault bytes fault)
     ⊎ ((tree : Source) × (fault : meaning.Fault) × SourceText bytes tree × (meant tree ≡ Err fault))
 
--- What status 0 means: the file is a text of a source, and the canonical text of the database that it means was stored.
+-- What status 0 means: the file is a text of a source, and the canonical text of the database that
+-- it means was stored.
 pub record Compiled (files : Files) (source game : List ℕ) (after : Option Files) : Type 0 where
   pub bytes : List ℕ
   pub tree : Source

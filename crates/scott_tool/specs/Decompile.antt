@@ -6,7 +6,8 @@ use Rattle.adv_io.specs.Shelf.{Files}
 use Rattle.scott_format.specs.File.{DatText}
 use Rattle.scott_types.specs.Database.{Database}
 
--- What status 0 means: the file is a text of a database, and the source that is its plain text was stored.
+-- What status 0 means: the file is a text of a database, and the source that is its plain text was
+-- stored.
 pub record Decompiled (files : Files) (game source : List ℕ) (after : Option Files) : Type 0 where
   pub bytes : List ℕ
   pub db : Database

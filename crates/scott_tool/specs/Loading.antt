@@ -64,7 +64,8 @@ IsLoad request load = (main_of request ≡ Some load) ⊎ (draws_of request ≡ 
 -- a file is there and within its limit
 abbrev pub within_limit : Load → Option (List ℕ) → Result (List ℕ) Refusal
 within_limit load None = Err (unread load.name)
-within_limit load (Some bytes) = if nat_le (length bytes) load.limit then Ok bytes else Err (too_long load.name load.limit)
+within_limit load (Some bytes) =
+    if nat_le (length bytes) load.limit then Ok bytes else Err (too_long load.name load.limit)
 
 -- the bytes of a file; where none is loaded, there are none
 abbrev pub loaded : Files → Option Load → Result (List ℕ) Refusal

@@ -18,27 +18,35 @@ use Rattle.scott_tool.specs.Views.{refusal_of}
 
 -- ---- outcomes
 
--- One of these statuses; or, in its place, 9 for want of memory, or 3 or 2 where the console or the shelf failed.
+-- One of these statuses; or, in its place, 9 for want of memory, or 3 or 2 where the console or the
+-- shelf failed.
 abbrev pub Stands : (ShelfFailed ConsoleFailed : Type 0) → List ℕ → (status : ℕ) → Type 0
 Stands ShelfFailed ConsoleFailed expected status =
-    Contains expected status ⊎ (status ≡ 9) ⊎ ((status ≡ 3) × ConsoleFailed) ⊎ ((status ≡ 2) × ShelfFailed)
+    Contains expected status ⊎ (status ≡ 9) ⊎ ((status ≡ 3) × ConsoleFailed)
+    ⊎ ((status ≡ 2) × ShelfFailed)
 
 -- an outcome that is expected ends, unless memory runs out
-abbrev pub Answers : (shelf shelf' : ShelfView) → (old new : ConsoleView) → List (List ℕ) → Result Task Refusal → (status : ℕ) → Type 0
+abbrev pub Answers : (shelf shelf' : ShelfView) → (old new : ConsoleView) → List (List ℕ)
+    → Result Task Refusal → (status : ℕ) → Type 0
 Answers shelf shelf' old new lines expected status =
-    ((o : Outcome) × IsExpected expected lines o × Ends shelf shelf' old new o status) ⊎ Silent old new status
+    ((o : Outcome) × IsExpected expected lines o × Ends shelf shelf' old new o status)
+    ⊎ Silent old new status
 
 -- bytes that may be are stored with status 0; else the files stay, or the shelf failed as it stored
-pub record Keeps (shelf shelf' : ShelfView) (name : List ℕ) (MayBe : List ℕ → Type 0) (status : ℕ) : Type 0 where
-  pub stored : status ≡ 0 → (bytes : List ℕ) × MayBe bytes × (shelf'.files ≡ with_file shelf.files name bytes)
+pub record Keeps (shelf shelf' : ShelfView) (name : List ℕ) (MayBe : List ℕ → Type 0) (status : ℕ)
+    : Type 0 where
+  pub stored : status ≡ 0 → (bytes : List ℕ) × MayBe bytes
+      × (shelf'.files ≡ with_file shelf.files name bytes)
   pub stay : (status ≡ 0) ⊎ (shelf'.files ≡ shelf.files) ⊎ Loses shelf shelf' name
 
 -- the files after what is expected; they stay where it stores nothing
 abbrev pub Leaves : (shelf shelf' : ShelfView) → Result Task Refusal → (status : ℕ) → Type 0
 Leaves shelf shelf' (Ok (reporting db)) status = shelf'.files ≡ shelf.files
-Leaves shelf shelf' (Ok (storing name bytes)) status = Keeps shelf shelf' name (λ out. out ≡ bytes) status
+Leaves shelf shelf' (Ok (storing name bytes)) status =
+    Keeps shelf shelf' name (λ out. out ≡ bytes) status
 Leaves shelf shelf' (Ok (playing style db draws)) status = shelf'.files ≡ shelf.files
-Leaves shelf shelf' (Ok (translating name style width db)) status = Keeps shelf shelf' name (Faithful style width db None) status
+Leaves shelf shelf' (Ok (translating name style width db)) status =
+    Keeps shelf shelf' name (Faithful style width db None) status
 Leaves shelf shelf' (Ok (running width p draws steps)) status = shelf'.files ≡ shelf.files
 Leaves shelf shelf' (Err refusal) status = shelf'.files ≡ shelf.files
 
@@ -51,9 +59,11 @@ abbrev pub IsSteady : (status : ℕ) → Type 0
 IsSteady status = (status ≡ 0) ⊎ (status ≡ 8) ⊎ (status ≡ 9) ⊎ (status ≡ 10)
 
 -- what a call promises that does what is expected
-pub record Obeys (shelf shelf' : ShelfView) (old new : ConsoleView) (expected : Result Task Refusal) (status : ℕ) : Type 0 where
+pub record Obeys (shelf shelf' : ShelfView) (old new : ConsoleView) (expected : Result Task Refusal)
+    (status : ℕ) : Type 0 where
   pub answered : IfSome old.left (λ lines. Answers shelf shelf' old new lines expected status)
-  pub stands : Stands (Rose shelf.faults shelf'.faults) (Rose old.faults new.faults) (statuses_of expected) status
+  pub stands : Stands (Rose shelf.faults shelf'.faults) (Rose old.faults new.faults)
+      (statuses_of expected) status
   pub silent : status ≡ 9 → new.history ≡ old.history
   pub lines : MayTake status ⊎ (new.left ≡ old.left)
   pub files : Leaves shelf shelf' expected status
@@ -100,12 +110,17 @@ database_refusal name fault = Some (unfit (record { name = name; fault = NoDatab
 
 -- bytes are all that the expected task says, whatever lines are left
 abbrev pub Makes : {A : Type 0} → Result (Vec ℕ A) HeldRefusal → Result Task Unfit → Type 0
-Makes (Ok bytes) expected = (task : Task) × (expected ≡ Ok task) × ((lines : List (List ℕ)) → Does task lines (done (says bytes.items)))
+Makes (Ok bytes) expected =
+    (task : Task) × (expected ≡ Ok task)
+    × ((lines : List (List ℕ)) → Does task lines (done (says bytes.items)))
 Makes (Err refusal) expected = Declines expected (refusal_of refusal)
 
 -- bytes are what the expected task stores under a name, whatever lines are left
-abbrev pub MakesFile : {A : Type 0} → List ℕ → Result (Vec ℕ A) HeldRefusal → Result Task Unfit → Type 0
-MakesFile name (Ok bytes) expected = (task : Task) × (expected ≡ Ok task) × ((lines : List (List ℕ)) → Does task lines (keeping name bytes.items))
+abbrev pub MakesFile : {A : Type 0} → List ℕ → Result (Vec ℕ A) HeldRefusal → Result Task Unfit
+    → Type 0
+MakesFile name (Ok bytes) expected =
+    (task : Task) × (expected ≡ Ok task)
+    × ((lines : List (List ℕ)) → Does task lines (keeping name bytes.items))
 MakesFile name (Err refusal) expected = Declines expected (refusal_of refusal)
 
 -- why a file wasn't stored: memory ran out and all stayed, or the shelf failed
@@ -116,19 +131,24 @@ FailsToStore shelf shelf' name (Some _) = ⊥
 
 -- ---- files
 
--- Why files weren't loaded, of which `Loaded` are. That one can't be read can come of a shelf that failed; else it isn't there.
-abbrev pub Misses : {X : Type 0} → (old new : ShelfView) → (Loaded : Load → Type 0) → (Files → Result X Refusal) → Option Refusal → Type 0
+-- Why files weren't loaded, of which `Loaded` are. That one can't be read can come of a shelf that
+-- failed; else it isn't there.
+abbrev pub Misses : {X : Type 0} → (old new : ShelfView) → (Loaded : Load → Type 0)
+    → (Files → Result X Refusal) → Option Refusal → Type 0
 Misses old new Loaded expected None = new.faults ≡ old.faults
 Misses old new Loaded expected (Some no_request) = ⊥
 Misses old new Loaded expected (Some (unread name)) =
     ((load : Load) × Loaded load × (load.name ≡ name))
-    × (Rose old.faults new.faults ⊎ (Lacks old.files name × IfSome old.files (λ files. expected files ≡ Err (unread name))))
-Misses old new Loaded expected (Some (too_long name limit)) = IfSome old.files (λ files. expected files ≡ Err (too_long name limit))
+    × (Rose old.faults new.faults
+    ⊎ (Lacks old.files name × IfSome old.files (λ files. expected files ≡ Err (unread name))))
+Misses old new Loaded expected (Some (too_long name limit)) =
+    IfSome old.files (λ files. expected files ≡ Err (too_long name limit))
 Misses old new Loaded expected (Some (unfit u)) = ⊥
 Misses old new Loaded expected (Some (unwritten name)) = ⊥
 
 -- what a call promises that loads: a value as it is expected of the files, or why not
-pub record Fetches {T X : Type 0} (view : T → X) (old new : ShelfView) (Loaded : Load → Type 0) (expected : Files → Result X Refusal) (result : Result T HeldRefusal) : Type 0 where
+pub record Fetches {T X : Type 0} (view : T → X) (old new : ShelfView) (Loaded : Load → Type 0)
+    (expected : Files → Result X Refusal) (result : Result T HeldRefusal) : Type 0 where
   pub found : IfOk result (λ given. IfSome old.files (λ files. expected files ≡ Ok (view given)))
   pub missed : IfErr result (λ refusal. Misses old new Loaded expected (refusal_of refusal))
   pub files_stay : new.files ≡ old.files
@@ -141,13 +161,17 @@ MainFits request texts = IfSome (main_of request) (λ load. length texts.main �
 
 -- ---- requests
 
--- How what was asked for was handled: the words were no request, a file wasn't loaded, or all were and the work was done on them.
-pub data Handled (shelf shelf' : ShelfView) (console console' : ConsoleView) (asked : Option Request) (status : ℕ) : Type 0 where
+-- How what was asked for was handled: the words were no request, a file wasn't loaded, or all were
+-- and the work was done on them.
+pub data Handled (shelf shelf' : ShelfView) (console console' : ConsoleView)
+    (asked : Option Request) (status : ℕ) : Type 0 where
   not_asked : asked ≡ None → shelf' ≡ shelf → Refuses console console' (Some no_request) status
       → Handled shelf shelf' console console' asked status
   not_loaded : (request : Request) (refusal : Option Refusal) → asked ≡ Some request
-      → Misses shelf shelf' (IsLoad request) (λ files. texts_of files request) refusal → shelf'.files ≡ shelf.files → shelf.faults ≤ shelf'.faults
+      → Misses shelf shelf' (IsLoad request) (λ files. texts_of files request) refusal
+      → shelf'.files ≡ shelf.files → shelf.faults ≤ shelf'.faults
       → Refuses console console' refusal status → Handled shelf shelf' console console' asked status
   worked : (request : Request) (texts : Texts) → asked ≡ Some request
       → IfSome shelf.files (λ files. texts_of files request ≡ Ok texts)
-      → Obeys shelf shelf' console console' (refusing (work request texts)) status → Handled shelf shelf' console console' asked status
+      → Obeys shelf shelf' console console' (refusing (work request texts)) status
+      → Handled shelf shelf' console console' asked status

@@ -7,8 +7,10 @@ use Rattle.adv_io.specs.History.{says, grown, GrewByPrefix}
 use Rattle.adv_io.specs.Shelf.{Files, ShelfView, with_file, without}
 use Rattle.scott_tool.specs.Refusal.{Refusal, unwritten, status_of, line_of}
 
--- 0: done. 1: no request. 2: a file can't be read or written. 3: the console failed. 4: no database, or one with a line that can't be translated yet. 5: no source or no draws. 6: no
--- program that is accepted. 7: a number is too wide for a program. 8: a trap. 9: want of memory. 10: steps spent. 11: a file is too long.
+-- 0: done. 1: no request. 2: a file can't be read or written. 3: the console failed. 4: no
+-- database, or one with a line that can't be translated yet. 5: no source or no draws. 6: no
+-- program that is accepted. 7: a number is too wide for a program. 8: a trap. 9: want of memory.
+-- 10: steps spent. 11: a file is too long.
 abbrev pub statuses : List ℕ
 statuses = 0 ∷ 1 ∷ 2 ∷ 3 ∷ 4 ∷ 5 ∷ 6 ∷ 7 ∷ 8 ∷ 9 ∷ 10 ∷ 11 ∷ []
 
@@ -16,7 +18,8 @@ pub record File : Type 0 where
   pub name : List ℕ
   pub bytes : List ℕ
 
--- a status, the bytes that are said and the lines that are taken, and the file that is stored after that
+-- a status, the bytes that are said and the lines that are taken, and the file that is stored after
+-- that
 pub record Outcome : Type 0 where
   pub status : ℕ
   pub events : List Event
@@ -28,13 +31,16 @@ done events = record { status = 0; events = events; stored = None }
 
 -- it was done, and a file is stored
 abbrev pub keeping : List ℕ → List ℕ → Outcome
-keeping name bytes = record { status = 0; events = []; stored = Some (record { name = name; bytes = bytes }) }
+keeping name bytes =
+    record { status = 0; events = []; stored = Some (record { name = name; bytes = bytes }) }
 
 -- it was refused, and its line is said
 abbrev pub refused : Refusal → Outcome
-refused refusal = record { status = status_of refusal; events = says (line_of refusal); stored = None }
+refused refusal =
+    record { status = status_of refusal; events = says (line_of refusal); stored = None }
 
--- With the outcome's status all its events were seen; or the console failed, with status 3 and a prefix of them.
+-- With the outcome's status all its events were seen; or the console failed, with status 3 and a
+-- prefix of them.
 abbrev pub Concludes : (old new : ConsoleView) → Outcome → (status : ℕ) → Type 0
 Concludes old new o status =
     ((status ≡ o.status) × (new.history ≡ grown old.history o.events))
@@ -51,13 +57,20 @@ kept known (Some file) = with_file known file.name file.bytes
 
 -- where the shelf failed as it stored, the files stayed, or the name was lost
 abbrev pub Loses : (shelf shelf' : ShelfView) → List ℕ → Type 0
-Loses shelf shelf' name = Rose shelf.faults shelf'.faults × ((shelf'.files ≡ shelf.files) ⊎ (shelf'.files ≡ without shelf.files name))
+Loses shelf shelf' name =
+    Rose shelf.faults shelf'.faults
+    × ((shelf'.files ≡ shelf.files) ⊎ (shelf'.files ≡ without shelf.files name))
 
--- How an outcome ends: all of it was done; or the console failed, and nothing was stored; or the shelf failed, and that was said.
-pub data Ends (shelf shelf' : ShelfView) (console console' : ConsoleView) (o : Outcome) (status : ℕ) : Type 0 where
-  whole : status ≡ o.status → console'.history ≡ grown console.history o.events → shelf'.files ≡ kept shelf.files o.stored
+-- How an outcome ends: all of it was done; or the console failed, and nothing was stored; or the
+-- shelf failed, and that was said.
+pub data Ends (shelf shelf' : ShelfView) (console console' : ConsoleView) (o : Outcome) (status : ℕ)
+    : Type 0 where
+  whole : status ≡ o.status → console'.history ≡ grown console.history o.events
+      → shelf'.files ≡ kept shelf.files o.stored
       → Ends shelf shelf' console console' o status
-  unsaid : status ≡ 3 → Rose console.faults console'.faults → GrewByPrefix console.history console'.history o.events → shelf'.files ≡ shelf.files
+  unsaid : status ≡ 3 → Rose console.faults console'.faults
+      → GrewByPrefix console.history console'.history o.events → shelf'.files ≡ shelf.files
       → Ends shelf shelf' console console' o status
-  unstored : (file : File) → o.stored ≡ Some file → Loses shelf shelf' file.name → Concludes console console' (refused (unwritten file.name)) status
+  unstored : (file : File) → o.stored ≡ Some file → Loses shelf shelf' file.name
+      → Concludes console console' (refused (unwritten file.name)) status
       → Ends shelf shelf' console console' o status

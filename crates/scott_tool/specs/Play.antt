@@ -29,16 +29,19 @@ draws_from (seeded seed) bytes = Ok (seeded_draws seed)
 
 -- these are the draws of a play
 abbrev pub DrawsAre : Files → DrawSource → List ℕ → Type 0
-DrawsAre files (listed name) draws = (bytes : List ℕ) × (get files name ≡ Some bytes) × (listed_draws bytes ≡ Ok draws)
+DrawsAre files (listed name) draws =
+    (bytes : List ℕ) × (get files name ≡ Some bytes) × (listed_draws bytes ≡ Ok draws)
 DrawsAre files (seeded seed) draws = draws ≡ seeded_draws seed
 
--- What status 0 means: the file is a text of a database, and the console saw what the play of it in this style says and takes, with
--- these lines and its draws.
-pub record Played (files : Files) (lines : List (List ℕ)) (game : List ℕ) (source : DrawSource) (style : Style) (old new : ConsoleView) : Type 0 where
+-- What status 0 means: the file is a text of a database, and the console saw what the play of it in
+-- this style says and takes, with these lines and its draws.
+pub record Played (files : Files) (lines : List (List ℕ)) (game : List ℕ) (source : DrawSource)
+    (style : Style) (old new : ConsoleView) : Type 0 where
   pub bytes : List ℕ
   pub db : Database
   pub draws : List ℕ
   pub there : get files game ≡ Some bytes
   pub text : DatText bytes db
   pub draws_are : DrawsAre files source draws
-  pub seen : new.history ≡ grown old.history (shown (trace_of (rules.play (in_style style db) lines draws).events))
+  pub seen : new.history
+      ≡ grown old.history (shown (trace_of (rules.play (in_style style db) lines draws).events))

@@ -26,45 +26,59 @@ IfKnown shelf console P = IfSome shelf.files (λ files. IfSome console.left (P f
 
 -- ---- the status
 
--- one of these; or 9 for want of memory, or 3 or 2 where the console or the shelf failed in this call
-abbrev pub IsOneOf : (shelf shelf' : ShelfView) → (console console' : ConsoleView) → List ℕ → (status : ℕ) → Type 0
-IsOneOf shelf shelf' console console' wanted status = Stands (Rose shelf.faults shelf'.faults) (Rose console.faults console'.faults) wanted status
+-- one of these; or 9 for want of memory, or 3 or 2 where the console or the shelf failed in this
+-- call
+abbrev pub IsOneOf : (shelf shelf' : ShelfView) → (console console' : ConsoleView) → List ℕ
+    → (status : ℕ) → Type 0
+IsOneOf shelf shelf' console console' wanted status =
+    Stands (Rose shelf.faults shelf'.faults) (Rose console.faults console'.faults) wanted status
 
--- There are twelve statuses, each comes only with its cause, and it is the expected one: that of the first refusal in the order of the
--- steps, or of what is done.
-pub record HasStatus (shelf shelf' : ShelfView) (console console' : ConsoleView) (asked : Option Request) (status : ℕ) : Type 0 where
+-- There are twelve statuses, each comes only with its cause, and it is the expected one: that of
+-- the first refusal in the order of the steps, or of what is done.
+pub record HasStatus (shelf shelf' : ShelfView) (console console' : ConsoleView)
+    (asked : Option Request) (status : ℕ) : Type 0 where
   pub known : Contains statuses status
   pub cause : HasCause shelf shelf' console console' asked status
-  pub first : IfSome shelf.files (λ files. IsOneOf shelf shelf' console console' (statuses_of (expected files asked)) status)
+  pub first : IfSome shelf.files
+      (λ files. IsOneOf shelf shelf' console console' (statuses_of (expected files asked)) status)
 
 -- where all files are there and accepted, it is 0
-abbrev pub Completes : (shelf shelf' : ShelfView) → (console console' : ConsoleView) → Option Request → (status : ℕ) → Type 0
+abbrev pub Completes : (shelf shelf' : ShelfView) → (console console' : ConsoleView)
+    → Option Request → (status : ℕ) → Type 0
 Completes shelf shelf' console console' asked status =
-    IfSome shelf.files (λ files. IsAccepted files console.left asked → IsOneOf shelf shelf' console console' (0 ∷ []) status)
+    IfSome shelf.files
+    (λ files. IsAccepted files console.left asked
+    → IsOneOf shelf shelf' console console' (0 ∷ []) status)
 
 -- ---- what is seen
 
 -- where the shelf failed, it is said that a file of the request can't be read
-abbrev pub SaysUnread : (shelf shelf' : ShelfView) → (console console' : ConsoleView) → Option Request → (status : ℕ) → Type 0
+abbrev pub SaysUnread : (shelf shelf' : ShelfView) → (console console' : ConsoleView)
+    → Option Request → (status : ℕ) → Type 0
 SaysUnread shelf shelf' console console' asked status =
-    Rose shelf.faults shelf'.faults × OneLoaded asked (λ load. Concludes console console' (refused (unread load.name)) status)
+    Rose shelf.faults shelf'.faults × OneLoaded asked
+    (λ load. Concludes console console' (refused (unread load.name)) status)
 
--- It is what is expected, or a prefix of it where the console failed. With 9 it is nothing, and only what is done, is a
--- run that ends otherwise, or fails at the console, may take a line.
-pub record IsSeen (shelf shelf' : ShelfView) (console console' : ConsoleView) (asked : Option Request) (status : ℕ) : Type 0 where
-  pub all : IfKnown shelf console (λ files lines. Answers shelf shelf' console console' lines (expected files asked) status ⊎ SaysUnread shelf shelf' console console' asked status)
+-- It is what is expected, or a prefix of it where the console failed. With 9 it is nothing, and
+-- only what is done, is a run that ends otherwise, or fails at the console, may take a line.
+pub record IsSeen (shelf shelf' : ShelfView) (console console' : ConsoleView)
+    (asked : Option Request) (status : ℕ) : Type 0 where
+  pub all : IfKnown shelf console
+      (λ files lines. Answers shelf shelf' console console' lines (expected files asked) status
+      ⊎ SaysUnread shelf shelf' console console' asked status)
   pub usage : asked ≡ None → Concludes console console' (refused no_request) status
   pub silent : status ≡ 9 → console'.history ≡ console.history
   pub lines : MayTake status ⊎ (console'.left ≡ console.left)
 
 -- ---- the files
 
--- They stay where nothing is to be stored under a name. Else that name alone has other bytes with status 0, and may be lost where the
--- shelf failed.
+-- They stay where nothing is to be stored under a name. Else that name alone has other bytes with
+-- status 0, and may be lost where the shelf failed.
 abbrev pub NameKeeps : (shelf shelf' : ShelfView) → Option (List ℕ) → (status : ℕ) → Type 0
 NameKeeps shelf shelf' None status = shelf'.files ≡ shelf.files
 NameKeeps shelf shelf' (Some name) status =
-    ((status ≡ 0) × ((bytes : List ℕ) × (shelf'.files ≡ with_file shelf.files name bytes))) ⊎ (shelf'.files ≡ shelf.files) ⊎ Loses shelf shelf' name
+    ((status ≡ 0) × ((bytes : List ℕ) × (shelf'.files ≡ with_file shelf.files name bytes)))
+    ⊎ (shelf'.files ≡ shelf.files) ⊎ Loses shelf shelf' name
 
 abbrev pub KeepsFiles : (shelf shelf' : ShelfView) → Option Request → (status : ℕ) → Type 0
 KeepsFiles shelf shelf' None status = shelf'.files ≡ shelf.files
@@ -74,15 +88,18 @@ KeepsFiles shelf shelf' (Some request) status = NameKeeps shelf shelf' (stores r
 
 abbrev pub HasChecked : ShelfView → (console console' : ConsoleView) → Option Request → Type 0
 HasChecked shelf console console' asked =
-    (game : List ℕ) → asked ≡ Some (check game) → IfKnown shelf console (λ files lines. Checked files game console console')
+    (game : List ℕ) → asked ≡ Some (check game)
+    → IfKnown shelf console (λ files lines. Checked files game console console')
 
 abbrev pub HasCompiled : (shelf shelf' : ShelfView) → Option Request → Type 0
 HasCompiled shelf shelf' asked =
-    (source game : List ℕ) → asked ≡ Some (compile source game) → IfSome shelf.files (λ files. Compiled files source game shelf'.files)
+    (source game : List ℕ) → asked ≡ Some (compile source game)
+    → IfSome shelf.files (λ files. Compiled files source game shelf'.files)
 
 abbrev pub HasDecompiled : (shelf shelf' : ShelfView) → Option Request → Type 0
 HasDecompiled shelf shelf' asked =
-    (game source : List ℕ) → asked ≡ Some (decompile game source) → IfSome shelf.files (λ files. Decompiled files game source shelf'.files)
+    (game source : List ℕ) → asked ≡ Some (decompile game source)
+    → IfSome shelf.files (λ files. Decompiled files game source shelf'.files)
 
 abbrev pub HasPlayed : ShelfView → (console console' : ConsoleView) → Option Request → Type 0
 HasPlayed shelf console console' asked =
@@ -91,19 +108,25 @@ HasPlayed shelf console console' asked =
 
 abbrev pub HasTranslated : (shelf shelf' : ShelfView) → Option Request → Type 0
 HasTranslated shelf shelf' asked =
-    (game program : List ℕ) (style : Style) (width : Width) → asked ≡ Some (translate game program style width)
+    (game program : List ℕ) (style : Style) (width : Width)
+    → asked ≡ Some (translate game program style width)
     → IfSome shelf.files (λ files. Translated files game program style width shelf'.files)
 
 -- with 0, and with the statuses of a run that ends otherwise
-abbrev pub HasRun : ShelfView → (console console' : ConsoleView) → Option Request → (status : ℕ) → Type 0
+abbrev pub HasRun : ShelfView → (console console' : ConsoleView) → Option Request → (status : ℕ)
+    → Type 0
 HasRun shelf console console' asked status =
-    (name : List ℕ) (source : DrawSource) (steps : ℕ) (width : Width) → asked ≡ Some (run name source steps width)
-    → IfKnown shelf console (λ files lines. Ran files lines name source steps width console console' status)
+    (name : List ℕ) (source : DrawSource) (steps : ℕ) (width : Width)
+    → asked ≡ Some (run name source steps width)
+    → IfKnown shelf console
+    (λ files lines. Ran files lines name source steps width console console' status)
 
 -- ---- counts of faults
 
 -- none falls, and with 0, 8, 9 and 10 none rose
-pub record Counts (shelf shelf' : ShelfView) (console console' : ConsoleView) (status : ℕ) : Type 0 where
-  pub shelf_later : shelf.faults ≤ shelf'.faults
-  pub console_later : console.faults ≤ console'.faults
-  pub steady : IsSteady status → (shelf'.faults ≡ shelf.faults) × (console'.faults ≡ console.faults)
+pub record Counts (shelf shelf' : ShelfView) (console console' : ConsoleView) (status : ℕ) : Type 0
+  where
+    pub shelf_later : shelf.faults ≤ shelf'.faults
+    pub console_later : console.faults ≤ console'.faults
+    pub steady : IsSteady status
+        → (shelf'.faults ≡ shelf.faults) × (console'.faults ≡ console.faults)

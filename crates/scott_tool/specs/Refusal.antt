@@ -17,7 +17,8 @@ pub record Unfit : Type 0 where
   pub name : List ℕ
   pub fault : ContentFault
 
--- the words are no request; a file can't be read, is longer than its limit, has a fault, or can't be written
+-- the words are no request; a file can't be read, is longer than its limit, has a fault, or can't
+-- be written
 pub data Refusal : Type 0 where
   no_request : Refusal
   unread : List ℕ → Refusal
@@ -32,7 +33,8 @@ refusing (Err u) = Err (unfit u)
 
 -- ---- statuses
 
--- a line can't be translated yet; a number is too wide for the words of a program; want of memory is no fault of a database
+-- a line can't be translated yet; a number is too wide for the words of a program; want of memory
+-- is no fault of a database
 abbrev pub translation_status : TransFault → ℕ
 translation_status (NotBuilt k) = 4
 translation_status (Wide place value) = 7
@@ -57,7 +59,8 @@ status_of (unwritten name) = 2
 
 -- how the program is called
 unfoldable pub usage : List ℕ
-usage = codes "usage: scott check F | compile S F | decompile F S | play F | translate F G | run G\n"
+usage = codes
+    "usage: scott check F | compile S F | decompile F S | play F | translate F G | run G\n"
 
 unfoldable pub cannot_read : List ℕ
 cannot_read = codes "cannot read "

@@ -22,10 +22,13 @@ use Rattle.scott_tool.specs.Outcome.{Outcome}
 use Rattle.scott_tool.specs.Play.{DrawsAre}
 use Rattle.scott_tool.specs.declared.refusals.ContentFault.TheVariants.{NoProgram}
 
--- the program that a file's bytes read as, where words have this width, or what is wrong with it first
-abbrev pub program_or_unfit : List ℕ → Result (List DirectiveTree) Fault → Result (List DirectiveTree) Unfit
+-- the program that a file's bytes read as, where words have this width, or what is wrong with it
+-- first
+abbrev pub program_or_unfit : List ℕ → Result (List DirectiveTree) Fault
+    → Result (List DirectiveTree) Unfit
 program_or_unfit name (Ok p) = Ok p
-program_or_unfit name (Err fault) = Err (record { name = name; fault = NoProgram (fault_answer fault) })
+program_or_unfit name (Err fault) =
+    Err (record { name = name; fault = NoProgram (fault_answer fault) })
 
 abbrev pub program_of_file : Width → List ℕ → List ℕ → Result (List DirectiveTree) Unfit
 program_of_file width name bytes = program_or_unfit name (program_in width bytes)
@@ -40,7 +43,8 @@ ran width p steps lines draws = run_of width p no_notes steps lines draws
 abbrev pub stop_after : Width → List DirectiveTree → ℕ → List (List ℕ) → List ℕ → Stop
 stop_after width p steps lines draws = stop_of (ran width p steps lines draws).0
 
--- 8: it was about to do what it can't do. 10: a further step was due. 0: it quit, or a line or a draw was wanted.
+-- 8: it was about to do what it can't do. 10: a further step was due. 0: it quit, or a line or a
+-- draw was wanted.
 abbrev pub stop_status : Stop → ℕ
 stop_status (Halted f.Quits) = 0
 stop_status (Halted (f.Trapped trap at)) = 8
@@ -69,7 +73,8 @@ abbrev pub routine_name : List DirectiveTree → ℕ → List ℕ
 routine_name p at = unwrap_or (option_map name_in (slice_get p at)) []
 
 abbrev pub trap_line : List DirectiveTree → Trap → ℕ → List ℕ
-trap_line p trap at = whole (trap_opening ∷ trap_word trap ∷ within ∷ routine_name p at ∷ trap_end ∷ [])
+trap_line p trap at =
+    whole (trap_opening ∷ trap_word trap ∷ within ∷ routine_name p at ∷ trap_end ∷ [])
 
 -- the line that is said after a run
 abbrev pub stop_line : List DirectiveTree → Stop → List ℕ
@@ -81,11 +86,18 @@ stop_line p (Lacking f.Spent) = steps_spent
 
 -- what is seen of a run: what it says and takes, and then its line
 abbrev pub run_outcome : List DirectiveTree → f.Outcome × w.Config → Outcome
-run_outcome p r = record { status = stop_status (stop_of r.0); events = shown (trace_of r.1.past) ++ says (stop_line p (stop_of r.0)); stored = None }
+run_outcome p r =
+    record {
+      status = stop_status (stop_of r.0);
+      events = shown (trace_of r.1.past) ++ says (stop_line p (stop_of r.0));
+      stored = None;
+    }
 
--- What status 0, 8 or 10 means: the file is a text of a program that is accepted, and the console saw what its run says and takes,
--- with these lines and its draws; and the status and the last line are those of its end.
-pub record Ran (files : Files) (lines : List (List ℕ)) (name : List ℕ) (source : DrawSource) (steps : ℕ) (width : Width) (old new : ConsoleView) (status : ℕ) : Type 0 where
+-- What status 0, 8 or 10 means: the file is a text of a program that is accepted, and the console
+-- saw what its run says and takes, with these lines and its draws; and the status and the last line
+-- are those of its end.
+pub record Ran (files : Files) (lines : List (List ℕ)) (name : List ℕ) (source : DrawSource)
+    (steps : ℕ) (width : Width) (old new : ConsoleView) (status : ℕ) : Type 0 where
   pub bytes : List ℕ
   pub program : List DirectiveTree
   pub draws : List ℕ
@@ -93,4 +105,5 @@ pub record Ran (files : Files) (lines : List (List ℕ)) (name : List ℕ) (sour
   pub text : IsProgram width bytes program
   pub draws_are : DrawsAre files source draws
   pub ends : status ≡ stop_status (stop_after width program steps lines draws)
-  pub seen : new.history ≡ grown old.history (run_outcome program (ran width program steps lines draws)).events
+  pub seen : new.history
+      ≡ grown old.history (run_outcome program (ran width program steps lines draws)).events

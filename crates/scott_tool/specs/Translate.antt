@@ -13,18 +13,22 @@ use Rattle.scott_tool.specs.Refusal.{Unfit}
 use Rattle.scott_tool.specs.declared.refusals.ContentFault.TheVariants.{NoTranslation}
 
 -- a database that can be translated, or why the file that has it is refused
-abbrev pub translatable_or_unfit : List ℕ → Database → Option translator.Refusal → Result Database Unfit
+abbrev pub translatable_or_unfit : List ℕ → Database → Option translator.Refusal
+    → Result Database Unfit
 translatable_or_unfit name db None = Ok db
-translatable_or_unfit name db (Some (translator.LineNotBuilt k)) = Err (record { name = name; fault = NoTranslation (NotBuilt k) })
-translatable_or_unfit name db (Some (translator.TooWide placed)) = Err (record { name = name; fault = NoTranslation (Wide placed.0 placed.1) })
+translatable_or_unfit name db (Some (translator.LineNotBuilt k)) =
+    Err (record { name = name; fault = NoTranslation (NotBuilt k) })
+translatable_or_unfit name db (Some (translator.TooWide placed)) =
+    Err (record { name = name; fault = NoTranslation (Wide placed.0 placed.1) })
 
 -- a line that isn't all zeros is refused first, and a number that is too wide then
 abbrev pub translatable : List ℕ → Width → Database → Result Database Unfit
 translatable name width db = translatable_or_unfit name db (translator.refusal width db)
 
--- What status 0 means: the file is a text of a database, and the text of a program that is faithful to it was stored, in this style
--- and for words of this width.
-pub record Translated (files : Files) (game program : List ℕ) (style : Style) (width : Width) (after : Option Files) : Type 0 where
+-- What status 0 means: the file is a text of a database, and the text of a program that is faithful
+-- to it was stored, in this style and for words of this width.
+pub record Translated (files : Files) (game program : List ℕ) (style : Style) (width : Width)
+    (after : Option Files) : Type 0 where
   pub bytes : List ℕ
   pub db : Database
   pub out : List ℕ

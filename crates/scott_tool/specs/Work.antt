@@ -24,9 +24,10 @@ use Rattle.translator.specs.Faithful.{Faithful}
 use Rattle.inform_tree.specs.declared.widths.Width.{Width}
 use Rattle.inform_tree.specs.Programs.{DirectiveTree}
 
--- a database is to be reported on, bytes are to be stored under a name, a database is to be played in this style with these draws,
--- a program that is faithful to a database in this style is to be stored under a name, for words of this width, or a program to be
--- run with these draws for so many steps at most, with words of this width
+-- a database is to be reported on, bytes are to be stored under a name, a database is to be played
+-- in this style with these draws, a program that is faithful to a database in this style is to be
+-- stored under a name, for words of this width, or a program to be run with these draws for so many
+-- steps at most, with words of this width
 pub data Task : Type 0 where
   reporting : Database → Task
   storing : List ℕ → List ℕ → Task
@@ -38,8 +39,10 @@ pub data Task : Type 0 where
 abbrev pub Does : Task → List (List ℕ) → Outcome → Type 0
 Does (reporting db) lines o = o ≡ done (says (report_text db))
 Does (storing name bytes) lines o = o ≡ keeping name bytes
-Does (playing style db draws) lines o = o ≡ done (shown (trace_of (rules.play (in_style style db) lines draws).events))
-Does (translating name style width db) lines o = (out : List ℕ) × Faithful style width db None out × (o ≡ keeping name out)
+Does (playing style db draws) lines o =
+    o ≡ done (shown (trace_of (rules.play (in_style style db) lines draws).events))
+Does (translating name style width db) lines o =
+    (out : List ℕ) × Faithful style width db None out × (o ≡ keeping name out)
 Does (running width p draws steps) lines o = o ≡ run_outcome p (ran width p steps lines draws)
 
 -- the statuses with which it can end
@@ -50,7 +53,8 @@ task_statuses (playing style db draws) = 0 ∷ []
 task_statuses (translating name style width db) = 0 ∷ []
 task_statuses (running width p draws steps) = 0 ∷ 8 ∷ 10 ∷ []
 
--- The task of a request, by what was loaded; or the first content that is refused, the database before the draws.
+-- The task of a request, by what was loaded; or the first content that is refused, the database
+-- before the draws.
 abbrev pub work : Request → Texts → Result Task Unfit
 work (check game) texts = do
   db ← database_of_file game texts.main

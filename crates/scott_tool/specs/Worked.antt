@@ -24,7 +24,8 @@ HasHill files = get files (codes "t.dat") ≡ Some (canon hill)
 abbrev pub hill_steps : List Step
 hill_steps =
     flat_map (λ part. part)
-    (hall "Rug" ∷ ask ∷ typed "n" ∷ text "O.K.\nI'm on a hill\nObvious exits: South.\n" ∷ ask ∷ typed "go south" ∷ text "O.K.\n" ∷ hall "Rug" ∷ ask ∷ [])
+    (hall "Rug" ∷ ask ∷ typed "n" ∷ text "O.K.\nI'm on a hill\nObvious exits: South.\n" ∷ ask
+    ∷ typed "go south" ∷ text "O.K.\n" ∷ hall "Rug" ∷ ask ∷ [])
 
 -- what the console sees, byte by byte, with each line where it is taken
 abbrev pub hill_history : List Event

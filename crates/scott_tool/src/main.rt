@@ -33,8 +33,8 @@ fn words<R: Env + AllocGlobal>(rt: &R) -> io::Result<Vec<String>> {
     Ok(words)
 }
 
-// The status where the words can't be gathered: 9 for want of memory, and 12 for any other cause, as
-// where one of them is no text.
+// The status where the words can't be gathered: 9 for want of memory, and 12 for any other cause,
+// as where one of them is no text.
 fn status_without_words(kind: ErrorKind) -> u8
     ensures { result ≡ status_without_words kind }
 {

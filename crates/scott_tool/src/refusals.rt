@@ -17,8 +17,9 @@ use scott_format::FormatFault;
 use source_reader::SourceFault;
 use translator::TransFault;
 
-/// What is wrong with the content of a file: it is no database, no source or one that means none, no
-/// list of draws, no accepted Inform program, or it isn't translated. `Memory` is no fault of it.
+/// What is wrong with the content of a file: it is no database, no source or one that means none,
+/// no list of draws, no accepted Inform program, or it isn't translated. `Memory` is no fault of
+/// it.
 #[derive(Drop)]
 pub enum ContentFault {
     NoDatabase(FormatFault),

@@ -29,7 +29,8 @@ put_at true old (Some n) entry agree = ap (λ o. option_or o (Some entry)) (agre
 put_at false None at_key entry agree = refl
 put_at false (Some n) at_key entry agree = refl
 
--- a word that is put into an index is found by each word that matches it, where that one wasn't found yet
+-- a word that is put into an index is found by each word that matches it, where that one wasn't
+-- found yet
 pub put_found : (size : ℕ) (word typed : List ℕ) (old new : List (ArrayVec ℕ × ℕ)) (key : ArrayVec ℕ) (entry v : ℕ)
     → key.items ≡ letters size word → is_empty word ≡ false
     → v ≡ unwrap_or (lookup (same_letters key) old) entry

@@ -19,9 +19,11 @@ given (Some line) = line.now ∷ []
 abbrev pub said : List Step → List Event
 said steps = says (transcript (trace_of steps))
 
--- the answer to a line at the prompt, and what is done up to the next one; elsewhere the line is dropped
+-- the answer to a line at the prompt, and what is done up to the next one; elsewhere the line is
+-- dropped
 abbrev pub after_line : Bool → Game → List ℕ → Position → State → List ℕ → Traced Step RoundEnd
 after_line true game line position s draws =
     let answered = by_heard (heard game.db line) game line s in
     after answered.events (advance game answered.value.position answered.value.state draws)
-after_line false game line position s draws = traced [] (record { position = position; state = s; draws = draws })
+after_line false game line position s draws =
+    traced [] (record { position = position; state = s; draws = draws })

@@ -28,36 +28,46 @@ pub record ItemTurnOutcome : Type 0 where
 
 -- an item that isn't refused is moved, and that is said
 abbrev pub moved_or_not : Bool → Style → Transfer → ℕ → Item → State → Traced Step ItemTurnOutcome
-moved_or_not true style t i item s = traced_text (text_in style TooMuch) (record { state = s; item_turn = Ended None })
-moved_or_not false style t i item s = traced_text (shown item.text ++ text_of ItemDone) (record { state = transferred t i s; item_turn = Moved })
+moved_or_not true style t i item s =
+    traced_text (text_in style TooMuch) (record { state = s; item_turn = Ended None })
+moved_or_not false style t i item s =
+    traced_text (shown item.text ++ text_of ItemDone)
+    (record { state = transferred t i s; item_turn = Moved })
 
 -- how a search ended the game, if it did
 abbrev pub ending_in : Found → Option ℕ
 ending_in (Over ending) = Some ending
 ending_in _ = None
 
--- an item's lines, with the verb of getting or dropping and the item's own noun; only an ending of theirs counts
+-- an item's lines, with the verb of getting or dropping and the item's own noun; only an ending of
+-- theirs counts
 abbrev pub item_actions : Transfer → Game → List ℕ → Item → State → Traced Step Outcome
 item_actions t game typed item s =
-    let found = search_result game typed (verb_for t) (which game.db Nouns (get_word item.text)) (groups game.db) s in
+    let found = search_result game typed (verb_for t) (which game.db Nouns (get_word item.text))
+    (groups game.db) s in
     traced found.events (record { state = found.value.state; over = ending_in found.value.found })
 
-abbrev pub after_actions : Option ℕ → Transfer → Game → ℕ → Item → State → Traced Step ItemTurnOutcome
-after_actions (Some ending) t game i item s = traced [] (record { state = s; item_turn = Ended (Some ending) })
+abbrev pub after_actions : Option ℕ → Transfer → Game → ℕ → Item → State
+    → Traced Step ItemTurnOutcome
+after_actions (Some ending) t game i item s =
+    traced [] (record { state = s; item_turn = Ended (Some ending) })
 after_actions None t game i item s = moved_or_not (is_refused t game.db s) game.style t i item s
 
 -- one item at its turn, taken or not
-abbrev pub item_turn : Bool → Transfer → Game → List ℕ → ℕ → Item → State → Traced Step ItemTurnOutcome
+abbrev pub item_turn : Bool → Transfer → Game → List ℕ → ℕ → Item → State
+    → Traced Step ItemTurnOutcome
 item_turn true t game typed i item s =
     let lines = item_actions t game typed item s in
     after lines.events (after_actions lines.value.over t game i item lines.value.state)
 item_turn false t game typed i item s = traced [] (record { state = s; item_turn = Passed })
 
 -- what comes after it
-abbrev pub by_item_turn : ItemTurn → Traced Step ItemTurnOutcome → (State → Traced Step AllOutcome) → Traced Step AllOutcome
+abbrev pub by_item_turn : ItemTurn → Traced Step ItemTurnOutcome → (State → Traced Step AllOutcome)
+    → Traced Step AllOutcome
 by_item_turn Passed t next = after t.events (next t.value.state)
 by_item_turn Moved t next = after t.events (with_one_taken (next t.value.state))
-by_item_turn (Ended over) t next = traced t.events (record { state = t.value.state; over = over; any_taken = true })
+by_item_turn (Ended over) t next =
+    traced t.events (record { state = t.value.state; over = over; any_taken = true })
 
 -- what a walk gives where an item was taken before
 abbrev pub taken_before : Bool → Traced Step AllOutcome → Traced Step AllOutcome

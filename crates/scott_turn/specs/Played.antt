@@ -25,8 +25,10 @@ pub record SessionView : Type 0 where
 abbrev pub goes : SessionView → List (List ℕ) → List ℕ → Traced Step PlayEnd
 goes session lines draws = go session.game session.position session.state lines draws
 
--- what a play leaves is what the rules leave: where it stands, its state, the draws, and why it stopped
-pub record Leaves (t : Traced Step PlayEnd) (new : SessionView) (before now : Supply) (why : Ending) : Type 0 where
+-- what a play leaves is what the rules leave: where it stands, its state, the draws, and why it
+-- stopped
+pub record Leaves (t : Traced Step PlayEnd) (new : SessionView) (before now : Supply) (why : Ending)
+    : Type 0 where
   pub position : new.position ≡ t.value.position
   pub state : new.state ≡ t.value.state
   pub draws : now.left ≡ t.value.draws
@@ -38,16 +40,22 @@ abbrev pub EndingIsKnown : Ending → Type 0
 EndingIsKnown (Over ending) = IsEnding ending
 EndingIsKnown _ = Unit
 
--- a play on a console whose lines are known: what it shows is what the rules give, and a failure shows a prefix of that
-pub record Plays (old_console new_console : ConsoleView) (result : Result Ending ConsoleFault) (t : Traced Step PlayEnd) (new : SessionView) (before now : Supply) : Type 0 where
-  pub shows : OnOk result (new_console.history ≡ grown old_console.history (shown (trace_of t.events)))
-  pub part : OnErr result (GrewByPrefix old_console.history new_console.history (shown (trace_of t.events)))
+-- a play on a console whose lines are known: what it shows is what the rules give, and a failure
+-- shows a prefix of that
+pub record Plays (old_console new_console : ConsoleView) (result : Result Ending ConsoleFault)
+    (t : Traced Step PlayEnd) (new : SessionView) (before now : Supply) : Type 0 where
+  pub shows : OnOk result
+      (new_console.history ≡ grown old_console.history (shown (trace_of t.events)))
+  pub part : OnErr result
+      (GrewByPrefix old_console.history new_console.history (shown (trace_of t.events)))
   pub lines : OnOk result (new_console.left ≡ Some t.value.lines)
   pub leaves : IfOk result (λ ending. Leaves t new before now ending)
 
 -- a play that stopped, gone on with more lines and draws, is the play on the joined lists
-abbrev pub GoesOn : SessionView → SessionView → List (List ℕ) → List ℕ → Traced Step PlayEnd → Type 0
+abbrev pub GoesOn : SessionView → SessionView → List (List ℕ) → List ℕ → Traced Step PlayEnd
+    → Type 0
 GoesOn old new lines draws t =
     (more : List (List ℕ)) (further : List ℕ)
     → go old.game old.position old.state (lines ++ more) (draws ++ further)
-    ≡ after t.events (go old.game new.position new.state (t.value.lines ++ more) (t.value.draws ++ further))
+    ≡ after t.events
+    (go old.game new.position new.state (t.value.lines ++ more) (t.value.draws ++ further))

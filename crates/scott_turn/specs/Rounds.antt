@@ -23,23 +23,29 @@ next_answer game [] s = []
 next_answer game (line ∷ lines) s = (answer game line s).events
 
 -- what an answer to the next line gives: none without a line, else where the play stands then
-abbrev pub AnswersNext : (old new : ConsoleView) → Game → List (List ℕ) → Result (Option Position) ConsoleFault → (before now : State) → Type 0
-AnswersNext old new game [] (Ok None) before now = (new.history ≡ old.history) × (new.left ≡ Some []) × (now ≡ before)
+abbrev pub AnswersNext : (old new : ConsoleView) → Game → List (List ℕ)
+    → Result (Option Position) ConsoleFault → (before now : State) → Type 0
+AnswersNext old new game [] (Ok None) before now =
+    (new.history ≡ old.history) × (new.left ≡ Some []) × (now ≡ before)
 AnswersNext old new game [] (Ok (Some position)) before now = ⊥
 AnswersNext old new game (line ∷ lines) (Ok None) before now = ⊥
 AnswersNext old new game (line ∷ lines) (Ok (Some position)) before now =
     (new.history ≡ grown old.history (shown_of (answer game line before).events))
     × (new.left ≡ Some lines)
     × ((answer game line before).value ≡ record { position = position; state = now })
-AnswersNext old new game lines (Err fault) before now = GrewByPrefix old.history new.history (shown_of (next_answer game lines before))
+AnswersNext old new game lines (Err fault) before now =
+    GrewByPrefix old.history new.history (shown_of (next_answer game lines before))
 
 -- the play from where a round left it: it has stopped there, or it goes on
-abbrev pub from_there : Bool → Game → Position → State → List (List ℕ) → List ℕ → Traced Step PlayEnd
-from_there true game position s lines draws = traced [] (record { position = position; state = s; lines = lines; draws = draws })
+abbrev pub from_there : Bool → Game → Position → State → List (List ℕ) → List ℕ
+    → Traced Step PlayEnd
+from_there true game position s lines draws =
+    traced [] (record { position = position; state = s; lines = lines; draws = draws })
 from_there false game position s lines draws = go game position s lines draws
 
 -- a round was done: the whole play is what it showed, and then the play from there
-pub record Went (old new : ConsoleView) (whole : Traced Step PlayEnd) (game : Game) (round : Round) (s : State) (draws : List ℕ) : Type 0 where
+pub record Went (old new : ConsoleView) (whole : Traced Step PlayEnd) (game : Game) (round : Round)
+    (s : State) (draws : List ℕ) : Type 0 where
   pub done : List Step
   pub rest : List (List ℕ)
   pub grew : new.history ≡ grown old.history (shown_of done)
@@ -47,13 +53,17 @@ pub record Went (old new : ConsoleView) (whole : Traced Step PlayEnd) (game : Ga
   pub whole_is : whole ≡ after done (from_there round.stopped game round.position s rest draws)
 
 -- what a round gives, where the whole play is this one
-pub record GoesRound (old new : ConsoleView) (result : Result Round ConsoleFault) (whole : Traced Step PlayEnd) (game : Game) (s : State) (draws : List ℕ) : Type 0 where
+pub record GoesRound (old new : ConsoleView) (result : Result Round ConsoleFault)
+    (whole : Traced Step PlayEnd) (game : Game) (s : State) (draws : List ℕ) : Type 0 where
   pub went : IfOk result (λ round. Went old new whole game round s draws)
   pub part : OnErr result (GrewByPrefix old.history new.history (shown_of whole.events))
 
 -- what a whole play gives on such a console, where the play of the rules is this one
-pub record PlaysOut (old new : ConsoleView) (result : Result Position ConsoleFault) (whole : Traced Step PlayEnd) (s : State) (draws : List ℕ) : Type 0 where
+pub record PlaysOut (old new : ConsoleView) (result : Result Position ConsoleFault)
+    (whole : Traced Step PlayEnd) (s : State) (draws : List ℕ) : Type 0 where
   pub shows : OnOk result (new.history ≡ grown old.history (shown_of whole.events))
   pub part : OnErr result (GrewByPrefix old.history new.history (shown_of whole.events))
   pub lines : OnOk result (new.left ≡ Some whole.value.lines)
-  pub leaves : IfOk result (λ position. whole.value ≡ record { position = position; state = s; lines = whole.value.lines; draws = draws })
+  pub leaves : IfOk result
+      (λ position. whole.value
+      ≡ record { position = position; state = s; lines = whole.value.lines; draws = draws })

@@ -22,16 +22,20 @@ halt_of (Some ending) = AtEnd ending
 -- a group that was tried, or not
 abbrev pub entered : Bool → Game → Group → State → List ℕ → Traced Step AutoOutcome
 entered true game g s draws =
-    let t = group_tried game [] g s in traced t.events (record { state = t.value.state; draws = draws; halt = halt_of (over_of t.value.ran) })
+    let t = group_tried game [] g s in traced t.events
+    (record { state = t.value.state; draws = draws; halt = halt_of (over_of t.value.ran) })
 entered false game g s draws = traced [] (record { state = s; draws = draws; halt = Through })
 
--- one automatic group takes its draw, and is tried where that lets it in; `Through` where the step goes on
+-- one automatic group takes its draw, and is tried where that lets it in; `Through` where the step
+-- goes on
 abbrev pub auto_turn : Game → Group → State → List ℕ → Traced Step AutoOutcome
 auto_turn game g s [] = traced [] (record { state = s; draws = []; halt = Waits g.head })
-auto_turn game g s (draw ∷ draws) = after (Drew draw ∷ []) (entered (nat_le draw (noun_of g.vocab)) game g s draws)
+auto_turn game g s (draw ∷ draws) =
+    after (Drew draw ∷ []) (entered (nat_le draw (noun_of g.vocab)) game g s draws)
 
 -- what comes after it
-abbrev pub by_halt : Halt → Traced Step AutoOutcome → (State → List ℕ → Traced Step AutoOutcome) → Traced Step AutoOutcome
+abbrev pub by_halt : Halt → Traced Step AutoOutcome → (State → List ℕ → Traced Step AutoOutcome)
+    → Traced Step AutoOutcome
 by_halt Through t next = after t.events (next t.value.state t.value.draws)
 by_halt (Waits head) t next = t
 by_halt (AtEnd ending) t next = t
@@ -48,14 +52,17 @@ found_of Not = Matched
 found_of (Passed more) = Done
 found_of (Ended ending) = Over ending
 
--- one group of the search: `NoMatch` where it isn't for the command, `Matched` where its head didn't pass
+-- one group of the search: `NoMatch` where it isn't for the command, `Matched` where its head
+-- didn't pass
 abbrev pub search_turn : Bool → Game → List ℕ → Group → State → Traced Step SearchOutcome
 search_turn true game typed g s =
-    let t = group_tried game typed g s in traced t.events (record { state = t.value.state; found = found_of t.value.ran })
+    let t = group_tried game typed g s in traced t.events
+    (record { state = t.value.state; found = found_of t.value.ran })
 search_turn false game typed g s = traced [] (record { state = s; found = NoMatch })
 
 -- what comes after it
-abbrev pub by_turn : Found → Traced Step SearchOutcome → (State → Traced Step SearchOutcome) → Traced Step SearchOutcome
+abbrev pub by_turn : Found → Traced Step SearchOutcome → (State → Traced Step SearchOutcome)
+    → Traced Step SearchOutcome
 by_turn NoMatch t next = after t.events (next t.value.state)
 by_turn Matched t next = after t.events (matched (next t.value.state))
 by_turn Done t next = t

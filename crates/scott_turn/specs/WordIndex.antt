@@ -18,14 +18,15 @@ pub record WordIndex : Type 0 where
 
 -- what an index has for a word
 abbrev pub found_in : WordIndex → List ℕ → Option ℕ
-found_in index word = lookup (λ key. pointwise nat_eq (letters index.size word) key.items) index.entries
+found_in index word =
+    lookup (λ key. pointwise nat_eq (letters index.size word) key.items) index.entries
 
 -- for every word an index has the base entry that it names
 abbrev pub FindsWords : Database → Column → WordIndex → Type 0
 FindsWords db column index = (word : List ℕ) → found_in index word ≡ which db column word
 
--- for every word an index has the base entry that it names, or the word names it from entry k on, where `plain` is the
--- nearest base entry before that one
+-- for every word an index has the base entry that it names, or the word names it from entry k on,
+-- where `plain` is the nearest base entry before that one
 abbrev pub FindsWordsBefore : Database → Column → Option ℕ → ℕ → WordIndex → Type 0
 FindsWordsBefore db column base k index = (word : List ℕ)
     → option_or (found_in index word) (which_from db column word base k) ≡ which db column word

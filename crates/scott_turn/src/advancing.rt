@@ -132,8 +132,8 @@ fn begin<C: Console>(
 
 /// Everything up to the prompt, from where a play stands.
 ///
-/// The console's fault alone is a refusal; the state fits then too. docs/TURN.md, "The round", has the
-/// rule.
+/// The console's fault alone is a refusal; the state fits then too. docs/TURN.md, "The round", has
+/// the rule.
 pub fn advance<C: Console>(
     game: &Game,
     state: &mut State,

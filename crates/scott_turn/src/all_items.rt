@@ -12,7 +12,8 @@ use crate::saying::{say_only, say_text};
 use adv_io::{Console, ConsoleFault};
 use scott_types::{Phrase, State, Transfer};
 
-/// What a walk over the items gave: the game's ending, if it ended there, and whether an item was taken.
+/// What a walk over the items gave: the game's ending, if it ended there, and whether an item was
+/// taken.
 #[derive(Clone, Copy)]
 pub struct AllResult {
     pub over: Option<u8>,
@@ -135,8 +136,8 @@ fn transfer_all_items<C: Console>(
 
 /// Gets or drops all, item by item; for getting it must not be dark.
 ///
-/// The console's fault alone is a refusal; the state fits then too. docs/TURN.md, "Get and drop", has the
-/// rule.
+/// The console's fault alone is a refusal; the state fits then too. docs/TURN.md, "Get and drop",
+/// has the rule.
 pub fn transfer_all<C: Console>(
     game: &Game,
     state: &mut State,

@@ -88,11 +88,11 @@ fn refuse_word<'a, C: Console>(word: &'a [u8], console: &mut C) -> Result<Positi
     Ok(Position::Line)
 }
 
-/// Answers a line that was taken at the prompt, and gives where the play stands then: at a prompt again,
-/// where a round begins, or at the game's end.
+/// Answers a line that was taken at the prompt, and gives where the play stands then: at a prompt
+/// again, where a round begins, or at the game's end.
 ///
-/// The console's fault alone is a refusal; the state fits then too. docs/TURN.md, "The round", has the
-/// rule.
+/// The console's fault alone is a refusal; the state fits then too. docs/TURN.md, "The round", has
+/// the rule.
 #[tactic(auto, using(crate::proofs::Showing::shown_said))]
 pub fn answer<C: Console>(
     game: &Game,

@@ -106,10 +106,11 @@ fn goes_on(halt: Halt) -> bool
 }
 
 /// The automatic step from a line on: each group of verb 0 whose head stands there or after takes a
-/// draw, and is tried where that is at most its noun. It stops at a group that waits for its draw, and
-/// where the game ends.
+/// draw, and is tried where that is at most its noun. It stops at a group that waits for its draw,
+/// and where the game ends.
 ///
-/// The console's fault alone is a refusal; the state fits then too. docs/TURN.md, "Groups", has the rule.
+/// The console's fault alone is a refusal; the state fits then too. docs/TURN.md, "Groups", has the
+/// rule.
 pub fn automatic<C: Console>(
     game: &Game,
     state: &mut State,

@@ -113,8 +113,8 @@ fn move_named<C: Console>(
 
 /// Gets or drops the item that a noun names; without a noun it asks for one.
 ///
-/// The console's fault alone is a refusal; the state fits then too. docs/TURN.md, "Get and drop", has the
-/// rule.
+/// The console's fault alone is a refusal; the state fits then too. docs/TURN.md, "Get and drop",
+/// has the rule.
 pub fn transfer_one<C: Console>(
     game: &Game,
     state: &mut State,

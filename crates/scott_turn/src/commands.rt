@@ -60,7 +60,8 @@ fn not_done(style: Style, found: Found) -> &'static [u8]
     }
 }
 
-// A command for which no head passed: get and drop have an effect of their own, and others are refused.
+// A command for which no head passed: get and drop have an effect of their own, and others are
+// refused.
 fn do_unmatched<C: Console>(
     game: &Game,
     state: &mut State,
@@ -168,7 +169,8 @@ fn do_going<C: Console>(
 
 /// Does a command, with the noun that was typed, and answers how it ended the game, if it did.
 ///
-/// The console's fault alone is a refusal; the state fits then too. docs/TURN.md, "Commands", has the rule.
+/// The console's fault alone is a refusal; the state fits then too. docs/TURN.md, "Commands", has
+/// the rule.
 pub fn do_command<C: Console>(
     game: &Game,
     state: &mut State,

@@ -26,9 +26,11 @@ fn answer_and_advance<C: Console>(
     console: &mut C,
 ) -> Result<Position, ConsoleFault>
     requires { Fits game.now.db state.old }
-    ensures spoken { let t = after_line true game.now line.now Position.Line state.old draws.old.left in
+    ensures spoken { let t =
+        after_line true game.now line.now Position.Line state.old draws.old.left in
         Speaks (C.seen console.old) (C.seen console.new) result (shown_of t.events) }
-    ensures left { let t = after_line true game.now line.now Position.Line state.old draws.old.left in
+    ensures left { let t =
+        after_line true game.now line.now Position.Line state.old draws.old.left in
         IfOk result (λ reached. t.value
         ≡ record { position = reached; state = state.new; draws = draws.new.left }) }
     ensures taken { supplied draws.new ≡ supplied draws.old }
@@ -66,10 +68,11 @@ fn feed_line<C: Console>(
 }
 
 /// Goes on from a position as a play does whose lines are the one that is fed, or none, and answers
-/// where the play stands then. No line is taken from the console, and one that the play doesn't come to
-/// take is dropped.
+/// where the play stands then. No line is taken from the console, and one that the play doesn't
+/// come to take is dropped.
 ///
-/// The console's fault alone is a refusal; the state fits then too. docs/TURN.md, "Play", has the rule.
+/// The console's fault alone is a refusal; the state fits then too. docs/TURN.md, "Play", has the
+/// rule.
 pub fn feed<C: Console>(
     game: &Game,
     state: &mut State,

@@ -1,5 +1,5 @@
-//! A game with an index of its heads and one of its words: the first head of each verb, after each head the next
-//! one of its verb, and the base entry that each word names.
+//! A game with an index of its heads and one of its words: the first head of each verb, after each
+//! head the next one of its verb, and the base entry that each word names.
 ghost use Rattle.std.specs.Prelude.{◌≡◌, ◌≢◌, ◌+◌, ◌<◌, [], length, IfOk, OnOk, MatchOption, nat_eq};
 ghost use Rattle.scott_types.specs.Database.{action_at};
 ghost use Rattle.scott_types.specs.Style.{in_style};
@@ -16,8 +16,8 @@ use scott_vocab::Vocabulary;
 use std::alloc::Global;
 use std::marker::Model;
 
-/// A database and the style that it is played in, with an index of its heads by their verbs, and one
-/// of the words of its verbs and nouns.
+/// A database and the style that it is played in, with an index of its heads by their verbs, and
+/// one of the words of its verbs and nouns.
 ///
 /// A clause sees the database and the style alone: the indexes say nothing that its lines and words
 /// don't say.
@@ -68,8 +68,8 @@ fn put_first(
     Ok(next)
 }
 
-// The index of the heads: the first head of each verb, and for each line that is a head the next of its
-// verb. The lines are read once, the last first.
+// The index of the heads: the first head of each verb, and for each line that is a head the next of
+// its verb. The lines are read once, the last first.
 fn index_heads(alloc: Global, db: &Db) -> Result<(IndexMap<u32, u16>, Vec<Option<u16>>), Memory>
     ensures { IfOk result (λ heads. IsIndex db.now (get nat_eq heads.0) heads.1.items) }
 {
@@ -117,8 +117,8 @@ impl<'a> Game<'a> {
 
     /// The first head of a verb, at a line or after it.
     ///
-    /// From line 0 on the index has it. From any other the lines are walked: that comes only where a play
-    /// goes on that waited for a draw.
+    /// From line 0 on the index has it. From any other the lines are walked: that comes only where
+    /// a play goes on that waited for a draw.
     pub fn first_head(&self, verb: u16, from: u16) -> Option<u16>
         ensures { MatchOption result
             (groups_for self.now.db verb from ≡ [])

@@ -72,8 +72,8 @@ fn ending_in(found: Found) -> Option<u8>
     }
 }
 
-// Searches the lines for an item, with the command's verb and the item's own noun. Only an ending of theirs
-// counts.
+// Searches the lines for an item, with the command's verb and the item's own noun. Only an ending
+// of theirs counts.
 fn try_item_actions<C: Console>(
     game: &Game,
     state: &mut State,

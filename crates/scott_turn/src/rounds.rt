@@ -32,7 +32,8 @@ pub fn is_prompt(position: Position) -> bool
     }
 }
 
-// Takes the next line and answers it, and gives where the play stands then; or finds that no line is left.
+// Takes the next line and answers it, and gives where the play stands then; or finds that no line
+// is left.
 fn answer_next<C: Console>(
     game: &Game,
     state: &mut State,
@@ -105,10 +106,11 @@ fn go_round<C: Console>(
     }
 }
 
-/// Plays on from a position, until a line or a draw is wanted and none is left, or the game is over, and
-/// tells where the play stands then.
+/// Plays on from a position, until a line or a draw is wanted and none is left, or the game is
+/// over, and tells where the play stands then.
 ///
-/// The console's fault alone is a refusal; the state fits then too. docs/TURN.md, "Play", has the rule.
+/// The console's fault alone is a refusal; the state fits then too. docs/TURN.md, "Play", has the
+/// rule.
 pub fn play_on<C: Console>(
     game: &Game,
     state: &mut State,

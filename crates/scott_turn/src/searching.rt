@@ -22,7 +22,8 @@ pub struct Command {
     pub noun: Option<u16>,
 }
 
-// Whether a head of this noun is for the noun of a command: one of noun 0 is for every noun and for none.
+// Whether a head of this noun is for the noun of a command: one of noun 0 is for every noun and for
+// none.
 fn is_for_noun(own: u32, noun: Option<u16>) -> bool
     ensures { result ≡ is_for_noun own noun }
 {
@@ -104,10 +105,11 @@ fn at_least(found: Found, before: Found) -> Found
     }
 }
 
-/// Tries the groups for a verb and a noun in order, up to the first whose head passes, with the noun
-/// that was typed.
+/// Tries the groups for a verb and a noun in order, up to the first whose head passes, with the
+/// noun that was typed.
 ///
-/// The console's fault alone is a refusal; the state fits then too. docs/TURN.md, "Groups", has the rule.
+/// The console's fault alone is a refusal; the state fits then too. docs/TURN.md, "Groups", has the
+/// rule.
 pub fn search<C: Console>(
     game: &Game,
     state: &mut State,

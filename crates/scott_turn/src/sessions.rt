@@ -22,8 +22,8 @@ use std::marker::Model;
 
 /// A game that is being played.
 ///
-/// A clause sees the game with its style, where its play stands, its state, and whether a failure of
-/// the console broke the session.
+/// A clause sees the game with its style, where its play stands, its state, and whether a failure
+/// of the console broke the session.
 #[derive(Drop)]
 pub struct Session<'a> {
     game: Game<'a>,
@@ -75,10 +75,11 @@ impl<'a> Session<'a> {
         })
     }
 
-    /// Plays on until a line or a draw is wanted and none is left, or the game is over, and answers which.
+    /// Plays on until a line or a draw is wanted and none is left, or the game is over, and answers
+    /// which.
     ///
-    /// The console's fault alone is a refusal, and breaks the session: it can't be played on. docs/TURN.md,
-    /// "Play", has the rule.
+    /// The console's fault alone is a refusal, and breaks the session: it can't be played on.
+    /// docs/TURN.md, "Play", has the rule.
     pub fn play<C: Console>(
         &mut self,
         draws: &mut Draws,
@@ -110,11 +111,12 @@ impl<'a> Session<'a> {
         }
     }
 
-    /// Goes on as a play does whose lines are the one that is fed, or none, and answers why it stopped.
-    /// The console only says: no line is taken from it, and one that the play doesn't take is dropped.
+    /// Goes on as a play does whose lines are the one that is fed, or none, and answers why it
+    /// stopped. The console only says: no line is taken from it, and one that the play doesn't take
+    /// is dropped.
     ///
-    /// The console's fault alone is a refusal, and breaks the session: it can't be played on. docs/TURN.md,
-    /// "Play", has the rule.
+    /// The console's fault alone is a refusal, and breaks the session: it can't be played on.
+    /// docs/TURN.md, "Play", has the rule.
     pub fn hear<C: Console>(
         &mut self,
         draws: &mut Draws,

@@ -108,10 +108,11 @@ fn with_tail(over: Option<u8>) -> Ran
     }
 }
 
-/// Tries the group of a head, with the noun that was typed: the head, and where it passes and goes on
-/// each line of its tail.
+/// Tries the group of a head, with the noun that was typed: the head, and where it passes and goes
+/// on each line of its tail.
 ///
-/// The console's fault alone is a refusal; the state fits then too. docs/TURN.md, "Groups", has the rule.
+/// The console's fault alone is a refusal; the state fits then too. docs/TURN.md, "Groups", has the
+/// rule.
 pub fn try_group<C: Console>(
     game: &Game,
     state: &mut State,

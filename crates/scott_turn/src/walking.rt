@@ -54,10 +54,11 @@ fn go(state: &mut State, room: u8)
     }
 }
 
-/// Goes in a direction, which is a noun from 1 to 6. In the dark a warning comes first, and where there is
-/// no exit the game ends with a fall.
+/// Goes in a direction, which is a noun from 1 to 6. In the dark a warning comes first, and where
+/// there is no exit the game ends with a fall.
 ///
-/// The console's fault alone is a refusal; the state fits then too. docs/TURN.md, "Commands", has the rule.
+/// The console's fault alone is a refusal; the state fits then too. docs/TURN.md, "Commands", has
+/// the rule.
 pub fn walk<C: Console>(
     game: &Game,
     state: &mut State,

@@ -12,8 +12,8 @@ use scott_vocab::{Entry, entry_at, letters};
 use std::alloc::Global;
 use std::marker::Model;
 
-/// An index of the words of a column: by the letters of each word, as many as count, the number of the
-/// base entry that it names.
+/// An index of the words of a column: by the letters of each word, as many as count, the number of
+/// the base entry that it names.
 #[derive(Drop)]
 pub struct WordIndex {
     size: usize,
@@ -32,7 +32,8 @@ impl Model for WordIndex {
 }
 
 impl WordIndex {
-    /// The index of a column. Its entries are read once, from entry 1 on, and the first of a word counts.
+    /// The index of a column. Its entries are read once, from entry 1 on, and the first of a word
+    /// counts.
     pub fn of(alloc: Global, db: &Db, column: Column) -> Result<WordIndex, Memory>
         ensures { IfOk result (FindsWords db.now column) }
     {
@@ -58,8 +59,8 @@ impl WordIndex {
         })
     }
 
-    // Adds the word of an entry that has a base entry, where it isn't there yet. An empty word names
-    // nothing.
+    // Adds the word of an entry that has a base entry, where it isn't there yet. An empty word
+    // names nothing.
     fn add(&mut self, _alloc: Global, entry: &Entry) -> Result<(), Memory>
         ensures size { OnOk result (self.new.size ≡ self.old.size) }
         ensures found { OnOk result ((typed : List ℕ) → found_in self.new typed

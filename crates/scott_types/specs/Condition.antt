@@ -9,7 +9,8 @@ use Rattle.scott_types.specs.declared.parameters.Parameter.TheVariants.{Item, Ro
 abbrev pub conditions : List Condition
 conditions =
     Parameter ∷ Carried ∷ Here ∷ Near ∷ At ∷ NotHere ∷ NotCarried ∷ NotAt ∷ FlagSet ∷ FlagClear
-    ∷ SomeCarried ∷ NoneCarried ∷ NotNear ∷ InGame ∷ OutOfGame ∷ CounterAtMost ∷ CounterOver ∷ AtStart ∷ NotAtStart ∷ CounterIs ∷ []
+    ∷ SomeCarried ∷ NoneCarried ∷ NotNear ∷ InGame ∷ OutOfGame ∷ CounterAtMost ∷ CounterOver
+    ∷ AtStart ∷ NotAtStart ∷ CounterIs ∷ []
 
 -- the condition of a code
 abbrev pub condition_of : ℕ → Condition

@@ -35,7 +35,8 @@ database_of p = record {
 
 -- an action that isn't there is empty
 abbrev pub action_at : Database → ℕ → Action
-action_at db action = slice_index_or db.actions action (record { vocab = 0; conds = []; pairs = [] })
+action_at db action =
+    slice_index_or db.actions action (record { vocab = 0; conds = []; pairs = [] })
 
 -- an item that isn't there has no text, and is out of the game
 abbrev pub item_in : List Item → ℕ → Item

@@ -1,4 +1,5 @@
--- What an item's text says: what is shown of it, the word that takes it, and whether it is a treasure.
+-- What an item's text says: what is shown of it, the word that takes it, and whether it is a
+-- treasure.
 use Rattle.std.specs.Prelude.{ℕ, ◌==◌, Bool, false, List, [], ◌∷◌, if◌then◌else◌}
 use Rattle.std.specs.List.{before_first, after_first}
 use Rattle.adv_io.specs.Text.{star, slash}

@@ -31,7 +31,11 @@ is_natural n = nat_le n 2147483647
 -- ---- one entry of a list
 
 abbrev pub is_action : Action → Bool
-is_action a = is_natural a.vocab && (length a.conds == 5 && (list_all is_natural a.conds && (length a.pairs == 2 && list_all is_natural a.pairs)))
+is_action a =
+    is_natural a.vocab
+    && (length a.conds == 5
+    && (list_all is_natural a.conds
+    && (length a.pairs == 2 && list_all is_natural a.pairs)))
 
 abbrev pub is_word : Word → Bool
 is_word w = is_file_text w.verb && is_file_text w.noun

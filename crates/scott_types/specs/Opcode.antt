@@ -18,16 +18,21 @@ use Rattle.scott_types.specs.declared.parameters.Parameter.TheVariants.{Item, Ro
 -- the opcodes of the numbers from 52 to 89
 abbrev pub named : List Opcode
 named =
-    Get ∷ Items Drop ∷ Rooms Go ∷ Items Remove ∷ Flags Darken ∷ Flags Lighten ∷ Flags SetFlag ∷ Items Remove
-    ∷ Flags ClearFlag ∷ Die ∷ Items Put ∷ Finish ∷ Talk Look ∷ Score ∷ Talk Inventory ∷ Flags SetZero ∷ Flags ClearZero
-    ∷ Refill ∷ Screen ∷ Talk Save ∷ Items Swap ∷ More ∷ Items Take ∷ Items Join ∷ Talk Look ∷ Counters Down
-    ∷ Talk ShowCounter ∷ Counters SetCounter ∷ Rooms SwapSaved ∷ Counters SwapCounter ∷ Counters Add ∷ Counters Subtract
+    Get ∷ Items Drop ∷ Rooms Go ∷ Items Remove ∷ Flags Darken ∷ Flags Lighten ∷ Flags SetFlag
+    ∷ Items Remove
+    ∷ Flags ClearFlag ∷ Die ∷ Items Put ∷ Finish ∷ Talk Look ∷ Score ∷ Talk Inventory
+    ∷ Flags SetZero ∷ Flags ClearZero
+    ∷ Refill ∷ Screen ∷ Talk Save ∷ Items Swap ∷ More ∷ Items Take ∷ Items Join ∷ Talk Look
+    ∷ Counters Down
+    ∷ Talk ShowCounter ∷ Counters SetCounter ∷ Rooms SwapSaved ∷ Counters SwapCounter ∷ Counters Add
+    ∷ Counters Subtract
     ∷ Talk Noun ∷ Talk NounLine ∷ Talk Newline ∷ Rooms SwapRoom ∷ Screen ∷ Picture ∷ []
 
 -- the opcode of a number: 1 to 51, and those from 102 on less 50, say the message of that number
 abbrev pub opcode_of : ℕ → Opcode
 opcode_of n = if n == 0 then Nothing else if nat_lt n 52 then Say n else
-    if nat_lt n 90 then slice_index_or named (n - 52) Nothing else if nat_lt n 102 then Nothing else Say (n - 50)
+    if nat_lt n 90 then slice_index_or named (n - 52) Nothing else if nat_lt n 102 then Nothing
+    else Say (n - 50)
 
 -- ---- the least number that means an opcode, for those that a number means
 

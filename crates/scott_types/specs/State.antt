@@ -36,7 +36,8 @@ abbrev pub carried_count : State → ℕ
 carried_count s = count_by (λ place. place == carried_place) s.places.items
 
 abbrev pub with_place : State → ℕ → ℕ → State
-with_place s item place = record s { places = record { items = slice_set s.places.items item place } }
+with_place s item place =
+    record s { places = record { items = slice_set s.places.items item place } }
 
 -- ---- flags and the dark
 
@@ -98,8 +99,9 @@ pub record FitsPlaces (db : Database) (s : State) : Type 0 where
   pub count : length s.places.items ≡ length db.items
   pub places : IsTrue (list_all is_place s.places.items)
 
--- The rooms are rooms of the database, the counters lie in -1..32767, the light from -1 to the header's, and each item has a
--- place of a byte. There are 16 backup rooms, 16 backup counters and 32 flags.
+-- The rooms are rooms of the database, the counters lie in -1..32767, the light from -1 to the
+-- header's, and each item has a place of a byte. There are 16 backup rooms, 16 backup counters and
+-- 32 flags.
 pub record Fits (db : Database) (s : State) : Type 0 where
   pub rooms : FitsRooms db s
   pub counters : FitsCounters s

@@ -14,8 +14,8 @@ pub struct Words {
     pub second: Option<(u8, u8)>,
 }
 
-/// What a line means: nothing, a word that isn't known and where it stands, or the numbers of a verb
-/// and perhaps a noun.
+/// What a line means: nothing, a word that isn't known and where it stands, or the numbers of a
+/// verb and perhaps a noun.
 #[derive(Clone, Copy, Debug, PartialEq, Eq)]
 pub enum Heard {
     Blank,

@@ -5,7 +5,8 @@ ghost use Rattle.scott_types.specs.Database.{room_at};
 
 use crate::databases::Db;
 
-/// The room that an exit leads to, or 0 for no exit. The direction is 0..5: north, south, east, west, up, down.
+/// The room that an exit leads to, or 0 for no exit. The direction is 0..5: north, south, east,
+/// west, up, down.
 ///
 /// An exit whose number is no room from 1 on is no exit.
 pub fn exit(db: &Db, room: u8, direction: usize) -> u8
@@ -15,11 +16,11 @@ pub fn exit(db: &Db, room: u8, direction: usize) -> u8
     ensures six { length (room_at db.now room).exits ≡ 6 }
 {
     let rooms = &db.parts().rooms;
-    exit_beyond(rooms.len(), rooms[room as usize].exits[direction])
+    room_beyond(rooms.len(), rooms[room as usize].exits[direction])
 }
 
-// The room that an exit's number means, or 0.
-fn exit_beyond(rooms: usize, number: i32) -> u8
+/// The room that an exit's number means among so many rooms, or 0 for no exit.
+pub fn room_beyond(rooms: usize, number: i32) -> u8
     requires { rooms ≤ 255 }
     ensures { result ≡ room_beyond rooms number }
 {

@@ -12,8 +12,8 @@ pub fn shown(text: &Text) -> &[u8]
     before_slash(text.bytes())
 }
 
-/// The word by which an item is taken: what stands between the first `/` and the next one or the end.
-/// It is empty where there is none, also where it begins with `*`.
+/// The word by which an item is taken: what stands between the first `/` and the next one or the
+/// end. It is empty where there is none, also where it begins with `*`.
 pub fn get_word(text: &Text) -> &[u8]
     ensures { result.now ≡ word_part text.now }
 {

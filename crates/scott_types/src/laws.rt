@@ -1,4 +1,5 @@
-//! The laws of the numbers in the file, and of the first state. Each is the contract of a function that does nothing.
+//! The laws of the numbers in the file, and of the first state. Each is the contract of a function
+//! that does nothing.
 ghost use Rattle.scott_types.specs.Codes.{CodeOfCondition, ConditionOfCode, FirstNumberIsKept, NumbersShareMeanings};
 ghost use Rattle.scott_types.specs.State.{StartFits};
 

@@ -35,7 +35,7 @@ pub use commands::{Column, Heard, Words};
 pub use conditions::Condition;
 pub use databases::Db;
 pub use endings::{Ending, Found, Halt, Position, Ran, Transfer};
-pub use exits::exit;
+pub use exits::{exit, room_beyond};
 pub use item_texts::{get_word, is_treasure, shown, starts_with_star};
 pub use opcodes::{CounterOp, FlagOp, ItemOp, Opcode, RoomOp, TalkOp};
 pub use parameters::Parameter;

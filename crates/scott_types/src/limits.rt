@@ -164,7 +164,8 @@ fn trailer_fits(trailer: &Trailer) -> bool
     all_numbers(&[trailer.version, trailer.adventure, trailer.third])
 }
 
-/// Whether the parts keep the limits of a database: those of docs/FORMAT.md, and a comment for each line.
+/// Whether the parts keep the limits of a database: those of docs/FORMAT.md, and a comment for each
+/// line.
 pub fn keeps_limits(parts: &Parts) -> bool
     ensures { IsTrue result ↔ KeepsLimits (database_of parts.now) }
 {

@@ -4,7 +4,8 @@ ghost use Rattle.scott_types.specs.Opcode.{opcode_of, number_of, say_number, ite
 
 use crate::parameters::Parameter;
 
-/// What an opcode does. It takes its parameters from a list; docs/TURN.md says what each does with them.
+/// What an opcode does. It takes its parameters from a list; docs/TURN.md says what each does with
+/// them.
 #[derive(Clone, Copy, Debug, PartialEq, Eq)]
 pub enum Opcode {
     Nothing,

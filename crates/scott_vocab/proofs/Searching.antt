@@ -18,7 +18,8 @@ entries_from f words k w h e =
     ∙ ap (λ n. f w ∷ map f (drop n words)) (sym (add-one k))
     ∙ ap (λ xs. f w ∷ xs) (sym (drop-map f (k + 1) words))
 
--- what a word names from entry k on: the base entry that this one stands for where the word matches it, or what it names after it
+-- what a word names from entry k on: the base entry that this one stands for where the word matches
+-- it, or what it names after it
 pub which_from-at : (db : Database) (column : Column) (word : List ℕ) (base : Option ℕ) (k : ℕ) (w : Word) (text : List ℕ) (nearest : Option ℕ)
     → k < length db.words → w ≡ get_or db.words k w
     → text ≡ column_of column w

@@ -6,4 +6,5 @@ use Rattle.scott_rules.specs.Words.{entries_of, entry_from}
 
 -- what a word names from entry k on, where `base` is the nearest base entry before that one
 abbrev pub which_from : Database → Column → List ℕ → Option ℕ → ℕ → Option ℕ
-which_from db column word base k = entry_from db.header.length word base k (drop k (entries_of db column))
+which_from db column word base k =
+    entry_from db.header.length word base k (drop k (entries_of db column))

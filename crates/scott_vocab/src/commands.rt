@@ -12,8 +12,8 @@ use adv_io::Line;
 use scott_types::verbs::{GO, LAST_DIRECTION};
 use scott_types::{Column, Heard};
 
-/// What a line means: nothing, a word that isn't known and where it stands in the line, or a verb and
-/// perhaps a noun, by the numbers of their base entries.
+/// What a line means: nothing, a word that isn't known and where it stands in the line, or a verb
+/// and perhaps a noun, by the numbers of their base entries.
 ///
 /// The vocabulary is asked for a direction, for the verb, and for the noun that stands after it.
 ///

@@ -6,10 +6,11 @@ ghost use Rattle.scott_vocab.specs.Found.{which_from};
 
 use scott_types::{Column, Db, Word, starts_with_star};
 
-/// An entry of the vocabulary: its word, without the mark of a synonym, and the base entry that it stands
-/// for.
+/// An entry of the vocabulary: its word, without the mark of a synonym, and the base entry that it
+/// stands for.
 ///
-/// A base entry stands for itself, and a synonym for the nearest base entry before it, if there is one.
+/// A base entry stands for itself, and a synonym for the nearest base entry before it, if there is
+/// one.
 #[derive(Clone, Copy)]
 pub struct Entry<'a> {
     pub word: &'a [u8],
@@ -18,7 +19,8 @@ pub struct Entry<'a> {
 
 /// The entry of a column at a place from 1 on, where `before` is the nearest base entry before it.
 ///
-/// A word names the base entry that this one stands for, if it matches it, or what it names after it.
+/// A word names the base entry that this one stands for, if it matches it, or what it names after
+/// it.
 pub fn entry_at<'a>(db: &'a Db, column: Column, k: usize, before: Option<u16>) -> Entry<'a>
     requires there { k < length db.now.words }
     requires before { IfSome before (λ base. base < k) }
@@ -44,8 +46,8 @@ pub fn entry_text(word: &Word, column: Column) -> &[u8]
     }
 }
 
-// The word of an entry: its text without the mark.
-fn spelling(entry: &[u8]) -> &[u8]
+/// The word of an entry: its text without the mark of a synonym.
+pub fn spelling(entry: &[u8]) -> &[u8]
     ensures { result.now ≡ spelling entry.now }
 {
     if starts_with_star(entry) {

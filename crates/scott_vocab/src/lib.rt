@@ -9,7 +9,7 @@ mod vocabularies;
 mod vocabulary;
 
 pub use commands::{command, is_direction};
-pub use entries::{Entry, entry_at};
+pub use entries::{Entry, entry_at, entry_text, spelling};
 pub use matching::{is_typed, letters};
 pub use scott_types::{Column, Heard, Words};
 pub use splitting::{split, typed_noun, word_at};

@@ -37,9 +37,9 @@ impl Key {
         }
     }
 
-    /// Whether a word of the database matches a typed word of this key: their first bytes, as many as
-    /// count, are the same, capitals aside, and a shorter word counts whole. An empty word of the database
-    /// matches nothing. docs/TURN.md, "Words", states the rule.
+    /// Whether a word of the database matches a typed word of this key: their first bytes, as many
+    /// as count, are the same, capitals aside, and a shorter word counts whole. An empty word of
+    /// the database matches nothing. docs/TURN.md, "Words", states the rule.
     pub fn matches(&self, word: &[u8]) -> bool
         ensures { (typed : List ℕ) → IsKeyOf self.now typed
             → result ≡ is_typed self.now.size word.now typed }
@@ -50,7 +50,8 @@ impl Key {
 
 /// The letters of a word: its first bytes, as many as the word length, in lower case.
 ///
-/// A word of the database that isn't empty matches a typed word exactly where their letters are the same.
+/// A word of the database that isn't empty matches a typed word exactly where their letters are the
+/// same.
 pub fn letters(size: usize, word: &[u8]) -> ArrayVec<u8, 20>
     requires { size ≤ 20 }
     ensures { result.items ≡ letters size word.now }

@@ -8,8 +8,8 @@ use crate::entries::{Entry, entry_at, entry_text};
 use crate::matching::Key;
 use scott_types::{Column, Db};
 
-/// The number of the base entry that a word names: that of the first entry from 1 on that matches it.
-/// There is none exactly where no entry does.
+/// The number of the base entry that a word names: that of the first entry from 1 on that matches
+/// it. There is none exactly where no entry does.
 ///
 /// docs/TURN.md, "Words", states the rule.
 pub fn which(db: &Db, column: Column, word: &[u8]) -> Option<u16>

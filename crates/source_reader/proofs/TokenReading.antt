@@ -1,4 +1,5 @@
--- Tokens are read exactly where they are spelled, and refused exactly where a fault of theirs stands.
+-- Tokens are read exactly where they are spelled, and refused exactly where a fault of theirs
+-- stands.
 use Rattle.std.proofs.Common.{◌≡◌, ℕ, ◌+◌, ◌≤◌, ◌<◌, Bool, true, false, cond, leb, List, [], ◌∷◌, take, drop, length, ℤ, Result, Ok, Err, refl, sym, ap, subst, ◌∙◌, arith, length-drop}
 use Rattle.std.proofs.lemmas.Bool.Decides.{nat_tests}
 use Rattle.std.proofs.lemmas.List.Sums.{prefix_len-le-length}

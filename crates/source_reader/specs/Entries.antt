@@ -27,7 +27,8 @@ use Rattle.source_reader.specs.Lists.{braced}
 abbrev pub title_of : ℕ → Token → Plan Title
 title_of at (token.Quoted text) = done (record { name = None; text = text })
 title_of at (token.Word w) =
-    if is_name w then (string >>= λ text. done (record { name = Some (here at w); text = text })) else refuse at
+    if is_name w then (string >>= λ text. done (record { name = Some (here at w); text = text }))
+    else refuse at
 title_of at _ = refuse at
 
 -- a name or none, and a string
@@ -37,7 +38,8 @@ titled = any_token >>= λ t. title_of t.at t.what
 -- ---- words, rooms, messages and items; `;` is 59, `:` is 58, `,` is 44
 
 abbrev pub word_part : ℕ → Token → Plan WordPart
-word_part at (token.Quoted verb) = string >>= λ noun. symbol 59 >> done (record { verb = verb; noun = noun })
+word_part at (token.Quoted verb) =
+    string >>= λ noun. symbol 59 >> done (record { verb = verb; noun = noun })
 word_part at _ = refuse at
 
 unfoldable pub next_reference : Plan (At Ref)
@@ -81,7 +83,8 @@ item_part at t = if is_word (codes "item") t then item_rest else refuse at
 -- ---- conditions
 
 abbrev pub condition_of : ℕ → Option ℕ → Plan Cond
-condition_of at (Some code) = reference >>= λ arg. symbol 59 >> done (record { code = code; arg = arg })
+condition_of at (Some code) =
+    reference >>= λ arg. symbol 59 >> done (record { code = code; arg = arg })
 condition_of at None = refuse at
 
 abbrev pub condition : ℕ → Token → Plan Cond
@@ -95,15 +98,19 @@ unfoldable pub one_parameter : ℕ → Plan Op
 one_parameter n = reference >>= λ p. symbol 41 >> symbol 59 >> done (op.With n (p ∷ []))
 
 unfoldable pub two_parameters : ℕ → Plan Op
-two_parameters n = reference >>= λ p. next_reference >>= λ q. symbol 41 >> symbol 59 >> done (op.With n (p ∷ q ∷ []))
+two_parameters n =
+    reference >>= λ p. next_reference >>= λ q. symbol 41 >> symbol 59
+    >> done (op.With n (p ∷ q ∷ []))
 
 -- after the bracket at this place; an opcode without parameters has none
 abbrev pub parameters : ℕ → ℕ → Plan Op
 parameters n at =
-    if uses (opcode_of n) == 1 then one_parameter n else if uses (opcode_of n) == 2 then two_parameters n else refuse at
+    if uses (opcode_of n) == 1 then one_parameter n
+    else if uses (opcode_of n) == 2 then two_parameters n else refuse at
 
 abbrev pub after_name : ℕ → ℕ → Token → Plan Op
-after_name n at t = if is_mark 59 t then done (op.Named n) else if is_mark 40 t then parameters n at else refuse at
+after_name n at t =
+    if is_mark 59 t then done (op.Named n) else if is_mark 40 t then parameters n at else refuse at
 
 unfoldable pub named_opcode : ℕ → Plan Op
 named_opcode n = any_token >>= λ t. after_name n t.at t.what

@@ -23,11 +23,15 @@ TokenFaultIsExact = (s : Spot) (fault : Fault) → (token_at s ≡ Err fault) �
 
 -- bytes are a text of a source, or they have a fault
 abbrev pub TextOrFault : Type 0
-TextOrFault = (bytes : List ℕ) → ((tree : Source) × SourceText bytes tree) ⊎ ((fault : Fault) × TextFault bytes fault)
+TextOrFault =
+    (bytes : List ℕ) → ((tree : Source) × SourceText bytes tree)
+    ⊎ ((fault : Fault) × TextFault bytes fault)
 
 -- and never both
 abbrev pub NeverBoth : Type 0
-NeverBoth = (bytes : List ℕ) (tree : Source) (fault : Fault) → SourceText bytes tree → TextFault bytes fault → ⊥
+NeverBoth =
+    (bytes : List ℕ) (tree : Source) (fault : Fault) → SourceText bytes tree → TextFault bytes fault
+    → ⊥
 
 -- a text is one of one source
 abbrev pub OneSource : Type 0
@@ -47,4 +51,5 @@ FaultIn = (bytes : List ℕ) (fault : Fault) → (source_in bytes ≡ Err fault)
 
 -- each source that has a text is well formed, and can be compiled
 abbrev pub TextIsWellFormed : Type 0
-TextIsWellFormed = (bytes : List ℕ) (tree : Source) → AreBytes bytes → SourceText bytes tree → WellFormed tree
+TextIsWellFormed =
+    (bytes : List ℕ) (tree : Source) → AreBytes bytes → SourceText bytes tree → WellFormed tree

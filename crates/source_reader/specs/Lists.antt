@@ -12,8 +12,10 @@ no_entries end = record { entries = []; end = end }
 abbrev pub with_first : {X : Type 0} → At X → Entries X → Entries X
 with_first x more = record { entries = x ∷ more.entries; end = more.end }
 
--- the brace ends the list; any other token begins an entry, which the piece reads on from there, and then the others follow
-abbrev pub entry_or_end : {X : Type 0} → (ℕ → Token → Plan X) → Plan (Entries X) → At Token → Plan (Entries X)
+-- the brace ends the list; any other token begins an entry, which the piece reads on from there,
+-- and then the others follow
+abbrev pub entry_or_end : {X : Type 0} → (ℕ → Token → Plan X) → Plan (Entries X) → At Token
+    → Plan (Entries X)
 entry_or_end piece others t =
     if is_mark 125 t.what then done (no_entries t.at)
     else piece t.at t.what >>= λ x. others >>= λ more. done (with_first (here t.at x) more)

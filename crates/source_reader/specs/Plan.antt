@@ -33,21 +33,25 @@ abbrev pub Spelled : {X : Type 0} → Plan X → X → Spot → Spot → Type 0
 Spelled (done x) value s after = (x ≡ value) × (s ≡ after)
 Spelled (refuse at) value s after = ⊥
 Spelled (next more) value s after =
-    (t : Token) × (rest : Spot) × TokenTo (past_gap s) t rest × Spelled (more (past_gap s).at t) value rest after
+    (t : Token) × (rest : Spot) × TokenTo (past_gap s) t rest
+    × Spelled (more (past_gap s).at t) value rest after
 
--- This is the first thing that is wrong with the bytes from a spot on, by the plan: a token that can't stand there, or none that
--- is right; or the next token is right, and this is the first thing that is wrong after it.
+-- This is the first thing that is wrong with the bytes from a spot on, by the plan: a token that
+-- can't stand there, or none that is right; or the next token is right, and this is the first thing
+-- that is wrong after it.
 abbrev pub Faulty : {X : Type 0} → Plan X → Spot → Fault → Type 0
 Faulty (done x) s fault = ⊥
 Faulty (refuse at) s fault = fault ≡ unexpected at
 Faulty (next more) s fault =
     TokenFault (past_gap s) fault
-    ⊎ ((t : Token) × (rest : Spot) × TokenTo (past_gap s) t rest × Faulty (more (past_gap s).at t) rest fault)
+    ⊎ ((t : Token) × (rest : Spot) × TokenTo (past_gap s) t rest
+    × Faulty (more (past_gap s).at t) rest fault)
 
 -- ---- reading
 
 -- reading goes on after a value that was read
-abbrev pub onward : {A X : Type 0} → Result (A × Spot) Fault → (A → Spot → Result (X × Spot) Fault) → Result (X × Spot) Fault
+abbrev pub onward : {A X : Type 0} → Result (A × Spot) Fault → (A → Spot → Result (X × Spot) Fault)
+    → Result (X × Spot) Fault
 onward (Ok x) go_on = go_on x.0 x.1
 onward (Err fault) go_on = Err fault
 

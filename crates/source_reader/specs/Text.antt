@@ -60,7 +60,8 @@ trailer = do
   third ← number
   symbol 125 >> done (version.what ∷ adventure.what ∷ third.what ∷ [])
 
-abbrev pub source_of : Settings → Entries WordPart → Entries RoomPart → Entries MessagePart → Entries ItemPart → Entries LinePart → List ℤ → Source
+abbrev pub source_of : Settings → Entries WordPart → Entries RoomPart → Entries MessagePart
+    → Entries ItemPart → Entries LinePart → List ℤ → Source
 source_of first words rooms messages items lines numbers = record {
   unused = first.unused;
   carry = first.carry;

@@ -17,11 +17,13 @@ use Rattle.source_reader.specs.Faults.{Fault, unexpected, big_number, open_strin
 abbrev pub ends_comment : ℕ → Bool
 ends_comment b = b == 10 || b == 13
 
--- how many bytes of whitespace and comments stand first, inside a comment or not; `#` (35) begins one
+-- how many bytes of whitespace and comments stand first, inside a comment or not; `#` (35) begins
+-- one
 abbrev pub gap : Bool → List ℕ → ℕ
 gap commented [] = 0
 gap true (b ∷ bytes) = 1 + gap (not (ends_comment b)) bytes
-gap false (b ∷ bytes) = if b == 35 then 1 + gap true bytes else if is_whitespace b then 1 + gap false bytes else 0
+gap false (b ∷ bytes) =
+    if b == 35 then 1 + gap true bytes else if is_whitespace b then 1 + gap false bytes else 0
 
 -- the spot after them
 abbrev pub past_gap : Spot → Spot
@@ -47,7 +49,8 @@ begins_number b bytes = is_ascii_digit b || ((b == 43 || b == 45) && begins_digi
 abbrev pub kind_of : List ℕ → Kind
 kind_of [] = nothing
 kind_of (b ∷ bytes) =
-    if begins_number b bytes then digits else if b == 34 then quote else if is_ascii_alphabetic b then letter else other
+    if begins_number b bytes then digits else if b == 34 then quote
+    else if is_ascii_alphabetic b then letter else other
 
 -- a word goes on with letters, digits and underscores (95)
 abbrev pub is_word_byte : ℕ → Bool
@@ -67,21 +70,27 @@ abbrev pub Spells : Token → List ℕ → List ℕ → Type 0
 Spells (token.Number z) bytes rest = (kind_of bytes ≡ digits) × Number z bytes rest
 Spells (token.Quoted text) bytes rest = (kind_of bytes ≡ quote) × Quoted text bytes rest
 Spells (token.Word word) bytes rest =
-    (kind_of bytes ≡ letter) × (word_size bytes ≤ 32) × (word ≡ take (word_size bytes) bytes) × (rest ≡ drop (word_size bytes) bytes)
-Spells (token.Mark b) bytes rest = (kind_of bytes ≡ other) × (b ≡ first_byte bytes) × (rest ≡ drop 1 bytes)
+    (kind_of bytes ≡ letter) × (word_size bytes ≤ 32) × (word ≡ take (word_size bytes) bytes)
+    × (rest ≡ drop (word_size bytes) bytes)
+Spells (token.Mark b) bytes rest =
+    (kind_of bytes ≡ other) × (b ≡ first_byte bytes) × (rest ≡ drop 1 bytes)
 Spells token.End bytes rest = (kind_of bytes ≡ nothing) × (rest ≡ bytes)
 
 -- a token is spelled from a spot to another
 abbrev pub TokenTo : Spot → Token → Spot → Type 0
 TokenTo s t after = Spells t s.rest after.rest × SameEnd s after
 
--- why no token stands at a spot: a number or a word that is too long, or a string that isn't closed or is too long
+-- why no token stands at a spot: a number or a word that is too long, or a string that isn't closed
+-- or is too long
 abbrev pub TokenFault : Spot → Fault → Type 0
 TokenFault s (unexpected place) = ⊥
 TokenFault s (big_number place) = (kind_of s.rest ≡ digits) × BigNumber s.rest × (place ≡ s.at)
-TokenFault s (open_string place) = (kind_of s.rest ≡ quote) × Opened Unclosed s.rest × (place ≡ s.at)
-TokenFault s (long_string place) = (kind_of s.rest ≡ quote) × Opened Overlong s.rest × (place ≡ s.at)
-TokenFault s (long_name place) = (kind_of s.rest ≡ letter) × (32 < word_size s.rest) × (place ≡ s.at)
+TokenFault s (open_string place) =
+    (kind_of s.rest ≡ quote) × Opened Unclosed s.rest × (place ≡ s.at)
+TokenFault s (long_string place) =
+    (kind_of s.rest ≡ quote) × Opened Overlong s.rest × (place ≡ s.at)
+TokenFault s (long_name place) =
+    (kind_of s.rest ≡ letter) × (32 < word_size s.rest) × (place ≡ s.at)
 
 -- ---- reading
 
@@ -101,7 +110,8 @@ quoted_token at (Err fault) = Err (string_fault at fault)
 
 abbrev pub word_token : ℕ → Spot → Result (Token × Spot) Fault
 word_token size s =
-    if nat_le size 32 then Ok (token.Word (take size s.rest), spot (s.at + size) (drop size s.rest)) else Err (long_name s.at)
+    if nat_le size 32 then Ok (token.Word (take size s.rest), spot (s.at + size) (drop size s.rest))
+    else Err (long_name s.at)
 
 abbrev pub token_of : Kind → Spot → Result (Token × Spot) Fault
 token_of nothing s = Ok (token.End, s)

@@ -1,8 +1,8 @@
 //! Why a text is no source.
 use std::alloc::{AllocError, AllocFailed};
 
-/// The first fault of a text. Each has the place of the token's first byte, counted from the beginning, or
-/// the length of the text where it ends too early.
+/// The first fault of a text. Each has the place of the token's first byte, counted from the
+/// beginning, or the length of the text where it ends too early.
 #[derive(Clone, Copy, Debug, PartialEq, Eq)]
 pub enum SourceFault {
     /// A token that can't stand there, or the end of the text.

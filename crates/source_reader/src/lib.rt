@@ -1,4 +1,5 @@
-//! The source language: reading a text as the tree of a source, with the first fault that is reached.
+//! The source language: reading a text as the tree of a source, with the first fault that is
+//! reached.
 #![tactic(auto)]
 
 mod bytes;

@@ -59,12 +59,14 @@ fn whole(alloc: Global, scan: &mut Scan) -> Result<Source, SourceFault>
 /// The faults are those of `SourceFault`; the first one in the order of the text is answered.
 /// docs/SOURCE.md has the rules of the language.
 pub fn read_source(alloc: Global, bytes: &[u8]) -> Result<Source, SourceFault>
-    // What is read has this text and is well formed, and what has a text is read, unless memory runs out.
+    // What is read has this text and is well formed, and what has a text is read, unless memory
+    // runs out.
     ensures found { IfOk result (λ tree. SourceText bytes.now tree) }
     ensures only { (tree : Source) → SourceText bytes.now tree → IsSource result tree }
     ensures well_formed { IfOk result (λ tree. WellFormed tree) }
 
-    // A fault but `Memory` is answered only where it is the first one, and there, unless memory runs out.
+    // A fault but `Memory` is answered only where it is the first one, and there, unless memory
+    // runs out.
     ensures exact { (fault : Fault) → result ≡ Err (fault_answer fault)
         → TextFault bytes.now fault }
     ensures expected { (fault : Fault) → TextFault bytes.now fault

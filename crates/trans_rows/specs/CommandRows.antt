@@ -34,7 +34,8 @@ IsNoun db (Some noun) = (0 < noun) × (noun < length db.words)
 
 -- ---- the search
 
--- what became of it: 0 for no head, 1 for one that didn't pass, 2 for one that did, or the game ends
+-- what became of it: 0 for no head, 1 for one that didn't pass, 2 for one that did, or the game
+-- ends
 abbrev pub SearchFinds : Found → Game → Program → ℕ → List ℕ → List ℤ → Stage → List ℕ
     → Traced Step SearchOutcome → Type 0
 SearchFinds NoMatch game p d name values w noun t = CallLeaves p d name values w (pos 0) game.db

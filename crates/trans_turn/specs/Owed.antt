@@ -50,5 +50,6 @@ AutomaticOwes = (width : Width) (game : Game) (p : Program) → groups game.db �
 abbrev pub TurnOwesAll : Type 0
 TurnOwesAll = (style : Style) (width : Width) (db : Database) (begin : Position) → IsOpening begin
     → groups db ≡ []
-    → TurnOwes width (in_style style db) (text_directives style db ++ turn_directives style db begin)
+    → TurnOwes width (in_style style db)
+    (text_directives style db ++ turn_directives style db begin)
     (codes "hear") round_calls begin

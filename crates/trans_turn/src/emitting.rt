@@ -23,7 +23,8 @@ fn grown(
 ) -> Result<Vec<Directive>, Memory>
     requires { map (λ n. n.now) names.now ≡ turn_names }
     ensures { IfOk result (λ directives. map directive_of directives.items
-        ≡ rows_directives turn_names (asked ∷ []) (map (λ row. (row.0, row.1.now, row.2.now)) rows.now)) }
+        ≡ rows_directives turn_names (asked ∷ [])
+        (map (λ row. (row.0, row.1.now, row.2.now)) rows.now)) }
 {
     routines(alloc, names, &[asked], rows)
 }
@@ -51,7 +52,8 @@ fn first_argument(begin: Position) -> u32
 
 #[tactic(auto, unfolding(crate::specs::Routines::rounds_asking))]
 fn rounds_asking(alloc: Global, asked: u32) -> Result<Vec<Directive>, Memory>
-    ensures { IfOk result (λ directives. map directive_of directives.items ≡ s.rounds_asking asked) }
+    ensures { IfOk result (λ directives.
+        map directive_of directives.items ≡ s.rounds_asking asked) }
 {
     let names = all_names(alloc)?;
     grown(alloc, &names, asked, &ROUNDS)
@@ -74,8 +76,8 @@ pub fn automatic(alloc: Global) -> Result<Vec<Directive>, Memory>
     grown(alloc, &names, 0, &NO_GROUPS)
 }
 
-/// All routines of a turn, in a game without lines: the search, the commands, the automatic step and
-/// the rounds, the first of which begins at this position.
+/// All routines of a turn, in a game without lines: the search, the commands, the automatic step
+/// and the rounds, the first of which begins at this position.
 pub fn turn(alloc: Global, db: &Db, style: Style, begin: Position) -> Result<Vec<Directive>, Memory>
     ensures { IfOk result (λ directives. map directive_of directives.items
         ≡ turn_directives style db.now begin) }

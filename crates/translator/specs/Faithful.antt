@@ -8,8 +8,8 @@ use Rattle.scott_types.specs.declared.styles.Style.{Style}
 use Rattle.scott_types.specs.Database.{Database}
 use Rattle.trans_rows.specs.Faithful.{FaithfulProgram}
 
--- A text is faithful to a database in a style, at a width, from where it opens, where it is the text
--- of a program that is. A text has one program at most, so it is the program of the text.
+-- A text is faithful to a database in a style, at a width, from where it opens, where it is the
+-- text of a program that is. A text has one program at most, so it is the program of the text.
 pub record Faithful (style : Style) (width : Width) (db : Database) (from : Option State)
     (bytes : List ℕ) : Type 0 where
   pub program : List DirectiveTree

@@ -22,4 +22,5 @@ wide_in_lines width k (a ∷ rest) =
 
 -- of the header, and then of the lines
 abbrev pub wide_in_game : Width → Database → Option Placed
-wide_in_game width db = option_or (wide_in_header width db.header) (wide_in_lines width 0 db.actions)
+wide_in_game width db =
+    option_or (wide_in_header width db.header) (wide_in_lines width 0 db.actions)

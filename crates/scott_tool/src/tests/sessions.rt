@@ -9,7 +9,8 @@ use scott_types::{Ending, Position, Style};
 use std::process::Abort;
 use std::test::Fail;
 
-// A session that is handed its lines says what a play of them says, and takes none from its console.
+// A session that is handed its lines says what a play of them says, and takes none from its
+// console.
 #[test]
 fn lines_are_handed_in(rt: HostRuntime) -> Result<(), Fail> {
     let alloc = rt.alloc();

@@ -15,8 +15,8 @@ pub enum File<'a> {
     Of(Game<'a>),
 }
 
-/// A command, the files `t.dat`, `t.adv`, `g.inf` and `d.txt` before it, and what is expected: its status,
-/// what is said, piece by piece, and files after it.
+/// A command, the files `t.dat`, `t.adv`, `g.inf` and `d.txt` before it, and what is expected: its
+/// status, what is said, piece by piece, and files after it.
 #[derive(Clone, Copy)]
 pub struct Case<'a> {
     pub command: &'a str,

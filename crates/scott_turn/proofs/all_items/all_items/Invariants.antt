@@ -5,7 +5,8 @@ use Rattle.scott_turn.specs.ItemTurns.{taken_before}
 use Rattle.adv_io.proofs.Along.{Along}
 use Rattle.scott_turn.proofs.all_items.all_items.Given as goal
 
--- what is still to come is the walk over the items from this one on, and whether one was taken before
+-- what is still to come is the walk over the items from this one on, and whether one was taken
+-- before
 abbrev pub invariant-loop-i : goal.invariant-loop-i
 invariant-loop-i g l =
     let seen = g.C.Console.seen in

@@ -5,7 +5,8 @@ use Rattle.scott_rules.specs.Laws.{EndsWell}
 use Rattle.scott_turn.proofs.Playing.{Ahead}
 use Rattle.scott_turn.proofs.rounds.play_on.Given as goal
 
--- where the lines of the console are known, the whole play is what was shown so far and the play from here
+-- where the lines of the console are known, the whole play is what was shown so far and the play
+-- from here
 abbrev pub invariant-loop-round : goal.invariant-loop-round
 invariant-loop-round g l =
     let seen = g.C.Console.seen in
