@@ -157,7 +157,7 @@ is_called None locals h = cc
 is_called (Some x) locals h = ap is_routine (ap (λ (o : Option Kind). unwrap_or o x.kind) h)
 
 main_place : ℕ
-main_place = 82
+main_place = 79
 
 has_main : (style : Style) (db : Database) (s : State) (begin : Position) (known : Known)
     → Knows known (signature (named style db s begin)) → means_routine (known main) ≡ true

@@ -9,7 +9,7 @@ use Rattle.inform_logic.specs.Stages.{Stage}
 use Rattle.inform_logic.specs.Leading.{Tests, Does, by_return}
 use Rattle.inform_logic.proofs.Words.{eq_is}
 use Rattle.inform_logic.proofs.Values.{number, local, argument, called, call}
-use Rattle.inform_logic.proofs.Conditions.{compare, all_of, all_hold, one_holds, one_fails}
+use Rattle.inform_logic.proofs.Conditions.{compare}
 use Rattle.inform_logic.proofs.Statements.{end, next, returns, return, if_true, if_false}
 use Rattle.inform_logic.proofs.Routines.{does_within, routine}
 use Rattle.scott_types.specs.declared.commands.Column.{Column}
@@ -20,6 +20,7 @@ use Rattle.scott_rules.specs.Words.{which}
 use Rattle.scott_rules.specs.Commands.{is_direction}
 use Rattle.trans_rows.specs.Tables.{or_zero}
 use Rattle.trans_words.proofs.Trees.{name, is_way, word_array, base_array}
+use Rattle.trans_words.proofs.Pairs.{second_of_both, first_of_both}
 use Rattle.trans_words.proofs.Held.{HasReader}
 use Rattle.trans_words.proofs.Matching.{is_word}
 use Rattle.trans_words.proofs.Letters.{HasWord}
@@ -35,16 +36,11 @@ way_is p d s w x {t} is has_x = from (nat_lt 0 x) refl is where
   not_above : not (nat_lt 6 x) ≡ nat_le x 6
   not_above = grind arith
 
-  both : (t : Bool) → nat_lt 0 x ≡ true → nat_le x 6 ≡ t → Tests p d is_way s w t w 0
-  both true some few = all_of (one_holds (compare number (local has_x) some)
-      (one_holds (compare (local has_x) number (not_above ∙ few)) all_hold))
-  both false some few = all_of (one_holds (compare number (local has_x) some)
-      (one_fails (compare (local has_x) number (not_above ∙ few))))
-
   from : (u : Bool) → nat_lt 0 x ≡ u → u && nat_le x 6 ≡ t → Tests p d is_way s w t w 0
-  from true some is = both t some is
+  from true some is = second_of_both (compare number (local has_x) some)
+      (compare (local has_x) number (not_above ∙ is))
   from false none is = subst (λ (t : Bool). Tests p d is_way s w t w 0) is
-      (all_of (one_fails (compare number (local has_x) none)))
+      (first_of_both (compare number (local has_x) none))
 
 module _ (p : Program) (w : Stage) (db : Database) (limits : KeepsLimits db)
     (tables : (column : Column)
@@ -69,18 +65,19 @@ module _ (p : Program) (w : Stage) (db : Database) (limits : KeepsLimits db)
   }
 
   -- the first word has the verb, where the second word has so many bytes
-  pub heard_verb_is : (x m : ℕ) → Does p (suc (suc (suc (suc (suc d))))) (codes "heard_verb")
+  pub heard_verb_is : (x m : ℕ) → Does p (suc (suc (suc d))) (codes "heard_verb")
       (pos x ∷ pos a ∷ pos (length word) ∷ pos m ∷ []) w
       (pos (verb_by x (or_zero (which db Verbs (spoken word m))))) w
       (first_steps size (length db.words) + 3)
   heard_verb_is x m = from (is_direction x) refl where
     from : (t : Bool) → is_direction x ≡ t
-        → Does p (suc (suc (suc (suc (suc d))))) (codes "heard_verb")
+        → Does p (suc (suc (suc d))) (codes "heard_verb")
         (pos x ∷ pos a ∷ pos (length word) ∷ pos m ∷ []) w
         (pos (if t then 1 else or_zero (which db Verbs (spoken word m)))) w
         (first_steps size (length db.words) + 3)
     from true is = does_within (omega arith) (routine has.heard_verb
-        (returns (if_true (way_is p _ (verb_scope x m) w x is refl) (returns (return number)))) by_return)
+        (returns (if_true (way_is p _ (verb_scope x m) w x is refl) (returns (return number))))
+        by_return)
     from false is = does_within (omega arith) (routine has.heard_verb
         (next (if_false (way_is p _ (verb_scope x m) w x is refl) end)
         (returns (return (call (argument (local refl) (argument (local refl)
@@ -88,17 +85,17 @@ module _ (p : Program) (w : Stage) (db : Database) (limits : KeepsLimits db)
         (tables Verbs) has d))))))))) by_return)
 
   -- the second word has the noun
-  pub heard_noun_is : (x verb : ℕ) → Does p (suc (suc (suc (suc d)))) (codes "heard_noun")
+  pub heard_noun_is : (x verb : ℕ) → Does p (suc (suc d)) (codes "heard_noun")
       (pos x ∷ pos verb ∷ pos a ∷ pos (length word) ∷ []) w
-      (pos (if nat_eq verb 0 then 0 else if is_direction x then x else or_zero (which db Nouns word)))
-      w (find_steps size (length db.words) + 4)
+      (pos (if nat_eq verb 0 then 0 else if is_direction x then x
+      else or_zero (which db Nouns word))) w (find_steps size (length db.words) + 4)
   heard_noun_is x verb = from (nat_eq verb 0) refl (is_direction x) refl where
-    no_verb : {t : Bool} → nat_eq verb 0 ≡ t → Tests p (suc (suc (suc d)))
+    no_verb : {t : Bool} → nat_eq verb 0 ≡ t → Tests p (suc d)
         (c.Compare Eq (name (codes "v")) (v.Number 0)) (noun_scope x verb) w t w 0
     no_verb is = compare (local refl) number (eq_is verb 0 ∙ is)
 
     from : (t : Bool) → nat_eq verb 0 ≡ t → (u : Bool) → is_direction x ≡ u
-        → Does p (suc (suc (suc (suc d)))) (codes "heard_noun")
+        → Does p (suc (suc d)) (codes "heard_noun")
         (pos x ∷ pos verb ∷ pos a ∷ pos (length word) ∷ []) w
         (pos (if t then 0 else if u then x else or_zero (which db Nouns word)))
         w (find_steps size (length db.words) + 4)
@@ -106,10 +103,12 @@ module _ (p : Program) (w : Stage) (db : Database) (limits : KeepsLimits db)
         (returns (if_true (no_verb none) (returns (return number)))) by_return)
     from false some true is = does_within (omega arith) (routine has.heard_noun
         (next (if_false (no_verb some) end)
-        (returns (if_true (way_is p _ (noun_scope x verb) w x is refl) (returns (return (local refl))))))
+        (returns (if_true (way_is p _ (noun_scope x verb) w x is refl)
+        (returns (return (local refl))))))
         by_return)
     from false some false is = does_within (omega arith) (routine has.heard_noun
-        (next (if_false (no_verb some) end) (next (if_false (way_is p _ (noun_scope x verb) w x is refl) end)
+        (next (if_false (no_verb some) end)
+        (next (if_false (way_is p _ (noun_scope x verb) w x is refl) end)
         (returns (return (call (argument (local refl) (argument (local refl)
         (called (find_is p w word typed a has_word db limits Nouns (tables Nouns) has d)))))))))
         by_return)

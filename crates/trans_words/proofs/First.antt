@@ -13,7 +13,7 @@ use Rattle.inform_logic.specs.Stages.{Stage}
 use Rattle.inform_logic.specs.Leading.{Leads, TheCases, Evaluates, Tests, Runs, Does, by_return}
 use Rattle.inform_logic.proofs.Words.{small_number, eq_is}
 use Rattle.inform_logic.proofs.Values.{within, valued, number, local, entry, argument, called, call}
-use Rattle.inform_logic.proofs.Conditions.{compare, all_of, all_hold, one_holds, one_fails}
+use Rattle.inform_logic.proofs.Conditions.{compare}
 use Rattle.inform_logic.proofs.Choices.{one_number}
 use Rattle.inform_logic.proofs.Statements.{end, next, returns, return, if_true, if_false, switch, this_case, later_case, no_default}
 use Rattle.inform_logic.proofs.Routines.{does_within, routine}
@@ -25,6 +25,7 @@ use Rattle.scott_rules.specs.Commands.{whole_word}
 use Rattle.trans_rows.specs.Tables.{or_zero}
 use Rattle.trans_rows.proofs.Bounds.{below_entry}
 use Rattle.trans_words.proofs.Trees.{name, byte, find_name, first_name, word_array, base_array, letter_case, letter_cases, is_letter}
+use Rattle.trans_words.proofs.Pairs.{second_of_both, first_of_both}
 use Rattle.trans_words.proofs.Held.{word_number, HasReader}
 use Rattle.trans_words.proofs.Matching.{is_word}
 use Rattle.trans_words.proofs.Standing.{byte_there}
@@ -80,12 +81,12 @@ module _ (p : Program) (w : Stage) (word : List ℕ) (typed : is_word word ≡ t
   }
 
   abbrev Gives : List ℕ → Type 0
-  Gives text = Does p (suc (suc (suc (suc d)))) (first_name column)
+  Gives text = Does p (suc (suc d)) (first_name column)
       (pos a ∷ pos (length word) ∷ pos m ∷ []) w (pos (or_zero (which db column text))) w
       (first_steps db.header.length (length db.words))
 
   -- it is looked up as it stands
-  looked_up : Runs p (suc (suc (suc d))) (s.MoreStatements
+  looked_up : Runs p (suc d) (s.MoreStatements
       (s.Return (Some (v.Call (find_name column)
       (v.arguments (name (codes "a") ∷ name (codes "n") ∷ []))))) s.NoStatements) scope w
       (Returns (pos (or_zero (which db column word)))) scope w
@@ -94,26 +95,26 @@ module _ (p : Program) (w : Stage) (word : List ℕ) (typed : is_word word ≡ t
       (argument (local refl) (called (find_is p w word typed a has_word db limits column tables has
       d)))))))
 
-  other : Tests p (suc (suc (suc d))) is_letter scope w false w 0 → Gives word
+  other : Tests p (suc d) is_letter scope w false w 0 → Gives word
   other test = does_within (omega arith)
       (routine (has.first column) (next (if_false test end) looked_up) by_return)
 
   one_byte : {t : Bool} → nat_eq (length word) 1 ≡ t
-      → Tests p (suc (suc (suc d))) (c.Compare Eq (name (codes "n")) (v.Number 1)) scope w t w 0
+      → Tests p (suc d) (c.Compare Eq (name (codes "n")) (v.Number 1)) scope w t w 0
   one_byte is = compare (local refl) number (eq_is (length word) 1 ∙ is)
 
   no_second : {t : Bool} → nat_eq m 0 ≡ t
-      → Tests p (suc (suc (suc d))) (c.Compare Eq (name (codes "m")) (v.Number 0)) scope w t w 0
+      → Tests p (suc d) (c.Compare Eq (name (codes "m")) (v.Number 0)) scope w t w 0
   no_second is = compare (local refl) number (eq_is m 0 ∙ is)
 
   -- a longer word, or one before another word
   pub not_one : nat_eq (length word) 1 ≡ false → Gives word
-  not_one is = other (all_of (one_fails (one_byte is)))
+  not_one is = other (first_of_both (one_byte is))
 
   pub not_alone : nat_eq m 0 ≡ false → Gives word
   not_alone is = from (nat_eq (length word) 1) refl where
     from : (t : Bool) → nat_eq (length word) 1 ≡ t → Gives word
-    from true one = other (all_of (one_holds (one_byte one) (one_fails (no_second is))))
+    from true one = other (second_of_both (one_byte one) (no_second is))
     from false one = not_one one
 
 -- ---- a letter alone
@@ -129,9 +130,9 @@ module _ (p : Program) (w : Stage) (b : ℕ) (typed : is_word (b ∷ []) ≡ tru
   -- the first of some cases is taken that returns what this text names, or none, and the text is
   -- the letter itself
   abbrev Picks : Cases → List ℕ → Type 0
-  Picks xs text = Leads p (suc (suc (suc d))) (TheCases (pos b) xs s.NoDefault) letter_scope w
+  Picks xs text = Leads p (suc d) (TheCases (pos b) xs s.NoDefault) letter_scope w
       (Returns (pos (or_zero (which db column text)))) letter_scope w 1
-      ⊎ (Leads p (suc (suc (suc d))) (TheCases (pos b) xs s.NoDefault) letter_scope w Normal
+      ⊎ (Leads p (suc d) (TheCases (pos b) xs s.NoDefault) letter_scope w Normal
       letter_scope w 0 × (text ≡ b ∷ []))
 
   one_case : (letter : ℕ) (text other : List ℕ) (xs : Cases) → letter < 32768 → Picks xs other
@@ -160,28 +161,28 @@ module _ (p : Program) (w : Stage) (b : ℕ) (typed : is_word (b ∷ []) ≡ tru
       (one_case 105 (codes "inventory") (b ∷ []) s.NoCases (omega arith)
       (inr (no_default, refl))))))))
 
-  letter : Evaluates p (suc (suc (suc d))) (byte (codes "buf") (name (codes "a"))) letter_scope w
+  letter : Evaluates p (suc d) (byte (codes "buf") (name (codes "a"))) letter_scope w
       (pos b) w 0
   letter =
       let same : a + 0 ≡ a = omega arith in
       entry (local refl) has_word.all_are
       (sym (ap (slice_get has_word.all) same) ∙ byte_there has_word.stands 0 refl)
 
-  test : Tests p (suc (suc (suc d))) is_letter letter_scope w true w 0
-  test = all_of (one_holds (compare (local refl) number refl)
-      (one_holds (compare (local refl) number (eq_is m 0 ∙ alone)) all_hold))
+  test : Tests p (suc d) is_letter letter_scope w true w 0
+  test = second_of_both (compare (local refl) number refl)
+      (compare (local refl) number (eq_is m 0 ∙ alone))
 
-  pub letter_is : Does p (suc (suc (suc (suc d)))) (first_name column)
+  pub letter_is : Does p (suc (suc d)) (first_name column)
       (pos a ∷ pos 1 ∷ pos m ∷ []) w (pos (or_zero (which db column (whole_word (b ∷ []))))) w
       (first_steps db.header.length (length db.words))
   letter_is = from chosen where
     from : Picks (letter_cases (word_number db column)) (whole_word (b ∷ []))
-        → Does p (suc (suc (suc (suc d)))) (first_name column)
+        → Does p (suc (suc d)) (first_name column)
         (pos a ∷ pos 1 ∷ pos m ∷ []) w (pos (or_zero (which db column (whole_word (b ∷ []))))) w
         (first_steps db.header.length (length db.words))
     from (inl leads) = does_within (omega arith) (routine (has.first column)
         (returns (if_true test (returns (switch letter leads)))) by_return)
-    from (inr leads) = subst (λ (text : List ℕ). Does p (suc (suc (suc (suc d))))
+    from (inr leads) = subst (λ (text : List ℕ). Does p (suc (suc d))
         (first_name column) (pos a ∷ pos 1 ∷ pos m ∷ []) w
         (pos (or_zero (which db column text))) w
         (first_steps db.header.length (length db.words))) (sym leads.1)
@@ -200,7 +201,7 @@ alone_is : (p : Program) (w : Stage) (word : List ℕ) → is_word word ≡ true
     → KeepsLimits db → (column : Column)
     → HasColumn db column (w.arrays (word_array column)) (w.arrays (base_array column))
     → HasReader db p → (d : ℕ)
-    → Does p (suc (suc (suc (suc d)))) (first_name column)
+    → Does p (suc (suc d)) (first_name column)
     (pos a ∷ pos (length word) ∷ pos m ∷ []) w (pos (or_zero (which db column (whole_word word))))
     w (first_steps db.header.length (length db.words))
 alone_is p w [] typed a m is has_word db limits column tables has d =
@@ -208,7 +209,7 @@ alone_is p w [] typed a m is has_word db limits column tables has d =
 alone_is p w (b ∷ []) typed a m is has_word db limits column tables has d =
     letter_is p w b typed a m is has_word db limits column tables has d
 alone_is p w (b ∷ c ∷ rest) typed a m is has_word db limits column tables has d =
-    subst (λ (text : List ℕ). Does p (suc (suc (suc (suc d)))) (first_name column)
+    subst (λ (text : List ℕ). Does p (suc (suc d)) (first_name column)
     (pos a ∷ pos (length (b ∷ c ∷ rest)) ∷ pos m ∷ []) w (pos (or_zero (which db column text))) w
     (first_steps db.header.length (length db.words))) (sym (longer_stays b c rest))
     (not_one p w (b ∷ c ∷ rest) typed a m has_word db limits column tables has d
@@ -219,12 +220,12 @@ pub first_is : (p : Program) (w : Stage) (word : List ℕ) → is_word word ≡ 
     → (column : Column)
     → HasColumn db column (w.arrays (word_array column)) (w.arrays (base_array column))
     → HasReader db p → (d : ℕ)
-    → Does p (suc (suc (suc (suc d)))) (first_name column)
+    → Does p (suc (suc d)) (first_name column)
     (pos a ∷ pos (length word) ∷ pos m ∷ []) w (pos (or_zero (which db column (spoken word m)))) w
     (first_steps db.header.length (length db.words))
 first_is p w word typed a m has_word db limits column tables has d =
     from (nat_eq m 0) refl where
-      from : (t : Bool) → nat_eq m 0 ≡ t → Does p (suc (suc (suc (suc d)))) (first_name column)
+      from : (t : Bool) → nat_eq m 0 ≡ t → Does p (suc (suc d)) (first_name column)
           (pos a ∷ pos (length word) ∷ pos m ∷ []) w
           (pos (or_zero (which db column (if t then whole_word word else word)))) w
           (first_steps db.header.length (length db.words))

@@ -13,7 +13,7 @@ use Rattle.scott_types.specs.Database.{Database}
 use Rattle.trans_rows.specs.Names.{line_number}
 use Rattle.trans_rows.specs.Programs.{Serves}
 use Rattle.trans_words.specs.Directives.{numbers, column_directives, word_directives}
-use Rattle.trans_words.proofs.Trees.{after_routine, letter_routine, same_routine, find_routine, first_routine, heard_verb_routine, heard_noun_routine, hear_routine}
+use Rattle.trans_words.proofs.Trees.{after_routine, find_routine, first_routine, heard_verb_routine, heard_noun_routine, hear_routine}
 
 -- what each of the seven words names
 abbrev pub word_number : Database → Column → ℕ → ℕ
@@ -23,12 +23,11 @@ word_number db column i = given_in (numbers db column) (2 + i)
 pub record HasReader (db : Database) (p : Program) : Type 0 where
   pub after_spaces : Has p (after_routine (codes "after_spaces") Eq)
   pub after_word : Has p (after_routine (codes "after_word") Ne)
-  pub letter : Has p letter_routine
   pub heard_verb : Has p heard_verb_routine
   pub heard_noun : Has p heard_noun_routine
   pub hear : Has p hear_routine
-  pub same : (column : Column) → Has p (same_routine column db.header.length)
-  pub find : (column : Column) → Has p (find_routine column (length db.words))
+  pub find : (column : Column)
+      → Has p (find_routine column db.header.length (length db.words))
   pub first : (column : Column) → Has p (first_routine column (word_number db column))
 
 -- one of the directives of a program that notes its lines alone
@@ -46,11 +45,9 @@ unfolding body_of
 has_reader width db p serves = record {
   after_spaces = held serves (after_routine (codes "after_spaces") Eq) refl h.0;
   after_word = held serves (after_routine (codes "after_word") Ne) refl h.1.0;
-  letter = held serves letter_routine refl h.1.1.0;
-  heard_verb = held serves heard_verb_routine refl h.1.1.1.0;
-  heard_noun = held serves heard_noun_routine refl h.1.1.1.1.0;
-  hear = held serves hear_routine refl h.1.1.1.1.1.0;
-  same = same;
+  heard_verb = held serves heard_verb_routine refl h.1.1.0;
+  heard_noun = held serves heard_noun_routine refl h.1.1.1.0;
+  hear = held serves hear_routine refl h.1.1.1.1.0;
   find = find;
   first = first;
 } where
@@ -58,17 +55,13 @@ has_reader width db p serves = record {
   h = serves.holds
 
   of_columns : Holds p (column_directives db Verbs ++ column_directives db Nouns)
-  of_columns = h.1.1.1.1.1.1
+  of_columns = h.1.1.1.1.1
 
-  same : (column : Column) → Has p (same_routine column db.header.length)
-  same Verbs = held serves (same_routine Verbs db.header.length) refl of_columns.0
-  same Nouns = held serves (same_routine Nouns db.header.length) refl of_columns.1.1.1.0
-
-  find : (column : Column) → Has p (find_routine column (length db.words))
-  find Verbs = held serves (find_routine Verbs (length db.words)) refl of_columns.1.0
-  find Nouns = held serves (find_routine Nouns (length db.words)) refl of_columns.1.1.1.1.0
+  find : (column : Column) → Has p (find_routine column db.header.length (length db.words))
+  find Verbs = held serves (find_routine Verbs db.header.length (length db.words)) refl of_columns.0
+  find Nouns =
+      held serves (find_routine Nouns db.header.length (length db.words)) refl of_columns.1.1.0
 
   first : (column : Column) → Has p (first_routine column (word_number db column))
-  first Verbs = held serves (first_routine Verbs (word_number db Verbs)) refl of_columns.1.1.0
-  first Nouns =
-      held serves (first_routine Nouns (word_number db Nouns)) refl of_columns.1.1.1.1.1.0
+  first Verbs = held serves (first_routine Verbs (word_number db Verbs)) refl of_columns.1.0
+  first Nouns = held serves (first_routine Nouns (word_number db Nouns)) refl of_columns.1.1.1.0

@@ -1,4 +1,5 @@
 pub mod Trees
+pub mod Pairs
 pub mod Held
 pub mod Standing
 pub mod Matching

@@ -1,5 +1,5 @@
 -- A word that is typed has the letters of an entry exactly where the rules say that it matches.
-use Rattle.std.proofs.Common.{◌≡◌, ◌∙◌, arith, ℕ, zero, suc, ◌-◌, ◌≤◌, nat_eq, Bool, true, false, not, ◌&&◌, if◌then◌else◌, List, [], ◌∷◌, ◌++◌, map, length, take, drop, replicate, bytes_eq, refl, sym, ap, true≢false}
+use Rattle.std.proofs.Common.{◌≡◌, ◌∙◌, arith, ℕ, zero, suc, ◌-◌, ◌≤◌, nat_eq, Bool, true, false, not, ◌&&◌, if◌then◌else◌, List, [], ◌∷◌, ◌++◌, map, length, take, replicate, bytes_eq, refl, sym, ap, true≢false}
 use Rattle.std.specs.List.{list_all}
 use Rattle.std.specs.Char.{is_ascii_graphic, is_ascii_uppercase, to_ascii_lowercase}
 use Rattle.std.proofs.lemmas.Bool.{and_parts}
@@ -18,26 +18,22 @@ is_word_byte byte = is_ascii_graphic byte && not (is_ascii_uppercase byte)
 abbrev pub is_word : List ℕ → Bool
 is_word word = list_all is_word_byte word
 
--- the first byte of a word, or 0 after its end
-abbrev pub first_letter : List ℕ → ℕ
-first_letter [] = 0
-first_letter (b ∷ word) = b
-
--- the letters of an entry are those of a word, with 0 after its end
+-- the letters of an entry are those of a word, and where the word ends before them, 0 is next
 abbrev pub agree : List ℕ → List ℕ → Bool
 agree [] word = true
-agree (x ∷ xs) word = nat_eq (first_letter word) x && agree xs (drop 1 word)
+agree (x ∷ xs) [] = nat_eq x 0
+agree (x ∷ xs) (b ∷ word) = nat_eq b x && agree xs word
 
 -- ---- bytes
 
-graphic_some : (b : ℕ) → is_ascii_graphic b ≡ true → nat_eq 0 b ≡ false
+graphic_some : (b : ℕ) → is_ascii_graphic b ≡ true → nat_eq b 0 ≡ false
 graphic_some b h = grind arith
 
 typed_graphic : (b : ℕ) → is_word_byte b ≡ true → is_ascii_graphic b ≡ true
 typed_graphic b h = (and_parts (is_ascii_graphic b) (not (is_ascii_uppercase b)) h).0
 
 typed_some : (b : ℕ) → is_word_byte b ≡ true → nat_eq b 0 ≡ false
-typed_some b h = grind (arith, typed_graphic b h)
+typed_some b h = graphic_some b (typed_graphic b h)
 
 typed_lower : (b : ℕ) → is_word_byte b ≡ true → to_ascii_lowercase b ≡ b
 typed_lower b h = grind (arith, (and_parts (is_ascii_graphic b) (not (is_ascii_uppercase b)) h).1)
@@ -71,14 +67,10 @@ first_graphic (suc n) (b ∷ word) h =
 -- ---- the letters of an entry, which are filled up with 0
 
 -- no byte of a word is 0
-zeros_match : (n : ℕ) → agree (replicate n 0) [] ≡ true
-zeros_match zero = refl
-zeros_match (suc n) = zeros_match n
-
 zeros_agree : (n : ℕ) (word : List ℕ) → is_word word ≡ true
     → agree (replicate n 0) word ≡ bytes_eq [] (take n word)
 zeros_agree zero word h = refl
-zeros_agree (suc n) [] h = zeros_match n
+zeros_agree (suc n) [] h = refl
 zeros_agree (suc n) (b ∷ word) h = ap (λ (t : Bool). t && agree (replicate n 0) word)
     (typed_some b (and_parts (is_word_byte b) (is_word word) h).0)
 
@@ -86,8 +78,8 @@ key_agrees : (key word : List ℕ) (n : ℕ) → list_all is_ascii_graphic key �
     → is_word word ≡ true
     → agree (key ++ replicate n 0) word ≡ bytes_eq key (take (plus (length key) n) word)
 key_agrees [] word n graphic h = zeros_agree n word h
-key_agrees (x ∷ key) [] n graphic h = ap (λ (t : Bool). t && agree (key ++ replicate n 0) [])
-    (graphic_some x (and_parts (is_ascii_graphic x) (list_all is_ascii_graphic key) graphic).0)
+key_agrees (x ∷ key) [] n graphic h = graphic_some x
+    (and_parts (is_ascii_graphic x) (list_all is_ascii_graphic key) graphic).0
 key_agrees (x ∷ key) (b ∷ word) n graphic h =
     ap (λ (t : Bool). t && agree (key ++ replicate n 0) word) (same_turned b x)
     ∙ ap (λ (t : Bool). nat_eq x b && t) (key_agrees key word n

@@ -160,7 +160,7 @@ module _ (p : Program) (db : Database) (limits : KeepsLimits db) (has : HasReade
       → HasColumn db column (w.arrays (word_array column)) (w.arrays (base_array column))
   tables = columns db w ready.tables
 
-  hear_is : (d : ℕ) → Does p (suc (suc (suc (suc (suc (suc d)))))) (codes "hear") [] w (pos 1) left
+  hear_is : (d : ℕ) → Does p (suc (suc (suc (suc d)))) (codes "hear") [] w (pos 1) left
       (reader_steps db)
   hear_is d = does_within (omega (arith, enough)) (routine has.hear
       (next (assign (set_variable (sum_of_two (entry number there.all_are there.size_is) number
@@ -180,11 +180,10 @@ module _ (p : Program) (db : Database) (limits : KeepsLimits db) (has : HasReade
       (called (after_is p _ line there (codes "after_spaces") Eq is_space (λ b. eq_is b 32)
       has.after_spaces _ (start + size) (2 + later) (l.word_within line typed.lower)
       (omega arith)))))) ready.working.wb_there))
-      (next (assign (set_variable (call (argument (global refl refl) (argument (local refl)
-      (called (after_is p _ line there (codes "after_word") Ne in_word (λ b. ne_is b 32)
-      has.after_word _ later (2 + (later + later_size)) (l.later_within line typed.lower)
-      (omega arith)))))) refl))
-      (next (assign (set_variable (sum_of_two (local refl) (global refl refl)
+      (next (assign (set_variable (sum_of_two (call (argument (global refl refl)
+      (argument (local refl) (called (after_is p _ line there (codes "after_word") Ne in_word
+      (λ b. ne_is b 32) has.after_word _ later (2 + (later + later_size))
+      (l.later_within line typed.lower) (omega arith)))))) (global refl refl)
       (small_difference p.width (2 + (later + later_size)) (2 + later) (omega arith)
       (omega (arith, l.noun_within line typed.lower, typed.short))
       ∙ ap pos noun_length)) ready.working.nb_there))
@@ -201,7 +200,7 @@ module _ (p : Program) (db : Database) (limits : KeepsLimits db) (has : HasReade
       (with_global (codes "vnum") (pos verb_given) with_places) db limits tables has noun
       (l.noun_typed line typed.lower) (2 + later) has_noun (suc d) first_number verb_given)))))))
       ready.working.nnum_there))
-      end)))))))))) at_end)
+      end))))))))) at_end)
 
   -- ---- what was read
 
@@ -283,7 +282,7 @@ module _ (p : Program) (db : Database) (limits : KeepsLimits db) (has : HasReade
 
 pub lines_are_heard : LinesAreHeard
 lines_are_heard db p width limits serves s line w d room typed ready has_line =
-    with_room 6 (λ d. Reads db p (codes "hear") s line w d) (λ d. record {
+    with_room 4 (λ d. Reads db p (codes "hear") s line w d) (λ d. record {
       value = pos 1;
       after = left p db limits reader line typed s w ready has_line;
       does = hear_is p db limits reader line typed s w ready has_line d;

@@ -12,12 +12,13 @@ use Rattle.inform_logic.specs.Holding.{Has}
 use Rattle.inform_logic.proofs.Lists.{after_rest}
 use Rattle.inform_logic.proofs.Words.{counted_up}
 use Rattle.inform_logic.proofs.Values.{within, number, local, entry}
-use Rattle.inform_logic.proofs.Conditions.{compare, all_of, all_hold, one_holds, one_fails}
+use Rattle.inform_logic.proofs.Conditions.{compare}
 use Rattle.inform_logic.proofs.Changes.{increment}
 use Rattle.inform_logic.proofs.Statements.{end, next, returns, assign, return}
 use Rattle.inform_logic.proofs.Loops.{while, while_once_more, while_ends}
 use Rattle.inform_logic.proofs.Routines.{does_within, routine}
 use Rattle.trans_words.proofs.Trees.{both, below_end, is_space, after_loop, after_routine}
+use Rattle.trans_words.proofs.Pairs.{second_of_both, first_of_both}
 use Rattle.trans_words.proofs.Standing.{Stands, byte_there}
 
 -- a line stands in the buffer from entry 2 on, with its length in entry 1
@@ -47,7 +48,7 @@ module _ (p : Program) (w : Stage) (line : List ℕ)
       → Loops p d (after_loop op) (scope i) w Normal (scope m) w (2 * length rest + 1)
   loop [] at i m left place stop all = subst
       (λ (m : ℕ). Loops p d (after_loop op) (scope i) w Normal (scope m) w 1) done
-      (while_ends (all_of (one_fails (compare (local refl) (local refl) over)))) where
+      (while_ends (first_of_both (compare (local refl) (local refl) over))) where
         done : i ≡ m
         done = omega (arith, stop)
 
@@ -62,25 +63,22 @@ module _ (p : Program) (w : Stage) (line : List ℕ)
         byte_is : slice_get there.all i ≡ Some (pos x)
         byte_is = ap (slice_get there.all) place ∙ byte_there there.stands at left
 
-        test : (t : Bool) → passes x ≡ t
+        test : {t : Bool} → passes x ≡ t
             → Tests p d (both below_end (is_space op)) (scope i) w t w 0
-        test true is = all_of (one_holds (compare (local refl) (local refl) under)
-            (one_holds (compare (entry (local refl) there.all_are byte_is) number (tells x ∙ is))
-            all_hold))
-        test false is = all_of (one_holds (compare (local refl) (local refl) under)
-            (one_fails (compare (entry (local refl) there.all_are byte_is) number (tells x ∙ is))))
+        test is = second_of_both (compare (local refl) (local refl) under)
+            (compare (entry (local refl) there.all_are byte_is) number (tells x ∙ is))
 
         from : (t : Bool) → passes x ≡ t → i + cond t (1 + prefix_len passes rest) 0 ≡ m
             → ((m : ℕ) → (i + 1) + prefix_len passes rest ≡ m
             → Loops p d (after_loop op) (scope (i + 1)) w Normal (scope m) w (2 * length rest + 1))
             → Loops p d (after_loop op) (scope i) w Normal (scope m) w (2 * length (x ∷ rest) + 1)
-        from true is stop more = within (omega arith) (while_once_more (test true is)
+        from true is stop more = within (omega arith) (while_once_more (test is)
             (next (assign (increment refl (counted_up p.width i
             (omega (arith, place, all, there.short))))) end)
             (more m (omega (arith, stop))))
         from false is stop more = within (omega arith) (subst
             (λ (m : ℕ). Loops p d (after_loop op) (scope i) w Normal (scope m) w 1) here
-            (while_ends (test false is))) where
+            (while_ends (test is))) where
               here : i ≡ m
               here = omega (arith, stop)
 

@@ -43,6 +43,9 @@ call f xs = v.Call f (v.arguments xs)
 abbrev pub both : Condition → Condition → Condition
 both x y = c.All (c.conditions (x ∷ y ∷ []))
 
+abbrev pub either : Condition → Condition → Condition
+either x y = c.Any (c.conditions (x ∷ y ∷ []))
+
 abbrev pub if_only : Condition → List Statement → Statement
 if_only x body = s.If x (statements body) s.NoStatements
 
@@ -68,19 +71,7 @@ abbrev pub after_routine : List ℕ → Relation → RoutineTree
 after_routine f op = routine f (codes "i" ∷ codes "e" ∷ [])
     (s.While (both below_end (is_space op)) (after_loop op).body ∷ return (name (codes "i")) ∷ [])
 
--- ---- a letter of a word
-
-abbrev pub letter_routine : RoutineTree
-letter_routine = routine (codes "letter") (codes "a" ∷ codes "n" ∷ codes "i" ∷ [])
-    (if_only (c.Compare Lt (name (codes "i")) (name (codes "n")))
-    (return (byte (codes "buf") (sum (name (codes "a")) (name (codes "i")))) ∷ [])
-    ∷ return (v.Number 0) ∷ [])
-
 -- ---- the names of a column
-
-abbrev pub same_name : Column → List ℕ
-same_name Verbs = codes "same_verb"
-same_name Nouns = codes "same_noun"
 
 abbrev pub find_name : Column → List ℕ
 find_name Verbs = codes "find_verb"
@@ -98,26 +89,6 @@ abbrev pub base_array : Column → List ℕ
 base_array Verbs = codes "vroot"
 base_array Nouns = codes "nroot"
 
--- ---- whether a word has the letters of an entry
-
-abbrev pub letter_differs : Column → ℕ → Condition
-letter_differs column size = c.Compare Ne
-    (call (codes "letter") (name (codes "a") ∷ name (codes "n") ∷ name (codes "i") ∷ []))
-    (byte (word_array column) (sum (product (v.Number size) (name (codes "k"))) (name (codes "i"))))
-
-abbrev pub below_size : ℕ → Condition
-below_size size = c.Compare Lt (name (codes "i")) (v.Number size)
-
-abbrev pub same_loop : Column → ℕ → Loop
-same_loop column size = for_loop (Some (below_size size)) (Some (s.Inc (codes "i")))
-    (statements (if_only (letter_differs column size) (s.Rfalse ∷ []) ∷ []))
-
-abbrev pub same_routine : Column → ℕ → RoutineTree
-same_routine column size = routine (same_name column)
-    (codes "a" ∷ codes "n" ∷ codes "k" ∷ codes "i" ∷ [])
-    (s.For (Some (s.Set (codes "i") (v.Number 0))) (Some (below_size size))
-    (Some (s.Inc (codes "i"))) (same_loop column size).body ∷ s.Rtrue ∷ [])
-
 -- ---- the entry that a word names
 
 abbrev pub base_of : Column → Expression
@@ -126,23 +97,58 @@ base_of column = v.Entry (base_array column) true (name (codes "k"))
 abbrev pub has_base : Column → Condition
 has_base column = c.Compare Ne (base_of column) (v.Number 0)
 
-abbrev pub is_same : Column → Condition
-is_same column = c.Nonzero (call (same_name column)
-    (name (codes "a") ∷ name (codes "n") ∷ name (codes "k") ∷ []))
+-- letter i of entry k
+abbrev pub entry_letter : Column → ℕ → Expression
+entry_letter column size = byte (word_array column)
+    (sum (product (v.Number size) (name (codes "k"))) (name (codes "i")))
+
+abbrev pub below_size : ℕ → Condition
+below_size size = c.Compare Lt (name (codes "i")) (v.Number size)
+
+abbrev pub below_length : Condition
+below_length = c.Compare Lt (name (codes "i")) (name (codes "n"))
+
+abbrev pub same_letter : Column → ℕ → Condition
+same_letter column size = c.Compare Eq
+    (byte (codes "buf") (sum (name (codes "a")) (name (codes "i")))) (entry_letter column size)
+
+abbrev pub goes_on : Column → ℕ → Condition
+goes_on column size =
+    both (has_base column) (both (below_size size) (both below_length (same_letter column size)))
+
+abbrev pub letters_loop : Column → ℕ → Loop
+letters_loop column size =
+    for_loop (Some (goes_on column size)) (Some (s.Inc (codes "i"))) s.NoStatements
+
+-- whether i letters that are the same are all that count
+abbrev pub at_size : ℕ → Condition
+at_size size = c.Compare Eq (name (codes "i")) (v.Number size)
+
+abbrev pub at_length : Condition
+at_length = c.Compare Eq (name (codes "i")) (name (codes "n"))
+
+abbrev pub no_letter : Column → ℕ → Condition
+no_letter column size = c.Compare Eq (entry_letter column size) (v.Number 0)
+
+abbrev pub is_same : Column → ℕ → Condition
+is_same column size = either (at_size size) (both at_length (no_letter column size))
 
 abbrev pub below_entries : ℕ → Condition
 below_entries entries = c.Compare Lt (name (codes "k")) (v.Number entries)
 
-abbrev pub find_loop : Column → ℕ → Loop
-find_loop column entries = for_loop (Some (below_entries entries)) (Some (s.Inc (codes "k")))
-    (statements (if_only (both (has_base column) (is_same column)) (return (base_of column) ∷ [])
-    ∷ []))
+abbrev pub find_loop : Column → ℕ → ℕ → Loop
+find_loop column size entries =
+    for_loop (Some (below_entries entries)) (Some (s.Inc (codes "k")))
+    (statements (s.For (Some (s.Set (codes "i") (v.Number 0))) (Some (goes_on column size))
+    (Some (s.Inc (codes "i"))) s.NoStatements
+    ∷ if_only (is_same column size) (return (base_of column) ∷ []) ∷ []))
 
-abbrev pub find_routine : Column → ℕ → RoutineTree
-find_routine column entries = routine (find_name column) (codes "a" ∷ codes "n" ∷ codes "k" ∷ [])
+abbrev pub find_routine : Column → ℕ → ℕ → RoutineTree
+find_routine column size entries =
+    routine (find_name column) (codes "a" ∷ codes "n" ∷ codes "k" ∷ codes "i" ∷ [])
     (if_only (c.Compare Eq (name (codes "n")) (v.Number 0)) (return (v.Number 0) ∷ [])
     ∷ s.For (Some (s.Set (codes "k") (v.Number 1))) (Some (below_entries entries))
-    (Some (s.Inc (codes "k"))) (find_loop column entries).body
+    (Some (s.Inc (codes "k"))) (find_loop column size entries).body
     ∷ return (v.Number 0) ∷ [])
 
 -- ---- the entry that a first word names
@@ -200,8 +206,8 @@ hear_routine = routine (codes "hear") (codes "e" ∷ codes "i" ∷ codes "x" ∷
     ∷ set (codes "i") (after (codes "after_word") (name (codes "wa")))
     ∷ set (codes "na") (difference (name (codes "i")) (name (codes "wa")))
     ∷ set (codes "wb") (after (codes "after_spaces") (name (codes "i")))
-    ∷ set (codes "i") (after (codes "after_word") (name (codes "wb")))
-    ∷ set (codes "nb") (difference (name (codes "i")) (name (codes "wb")))
+    ∷ set (codes "nb")
+    (difference (after (codes "after_word") (name (codes "wb"))) (name (codes "wb")))
     ∷ set (codes "x") (call (codes "first_noun")
     (name (codes "wa") ∷ name (codes "na") ∷ name (codes "nb") ∷ []))
     ∷ set (codes "vnum") (call (codes "heard_verb")

@@ -19,9 +19,8 @@ ReaderIsFormed = (db : Database) → KeepsLimits db → is_well_formed (word_dir
 
 -- the routines of the reader that its routines call
 abbrev pub reader_parts : List (List ℕ)
-reader_parts = codes "after_spaces" ∷ codes "after_word" ∷ codes "letter" ∷ codes "heard_verb"
-    ∷ codes "heard_noun" ∷ codes "same_verb" ∷ codes "find_verb" ∷ codes "first_verb"
-    ∷ codes "same_noun" ∷ codes "find_noun" ∷ codes "first_noun" ∷ []
+reader_parts = codes "after_spaces" ∷ codes "after_word" ∷ codes "heard_verb" ∷ codes "heard_noun"
+    ∷ codes "find_verb" ∷ codes "first_verb" ∷ codes "find_noun" ∷ codes "first_noun" ∷ []
 
 -- They call no other routine.
 abbrev pub ReaderCallsItself : Type 0

@@ -6,14 +6,12 @@
 use inform_codes::{Code, Row};
 use inform_tree::{ProdOp, Relation, SumOp};
 
-/// The names for verbs: the routines, their locals, the arrays and the routine that they use.
-pub const VERB_NAMES: [&[u8]; 12] = [
-    b"same_verb",
+/// The names for verbs: the routines, the arrays that they use, and their locals.
+pub const VERB_NAMES: [&[u8]; 10] = [
     b"find_verb",
     b"first_verb",
     b"vword",
     b"vroot",
-    b"letter",
     b"buf",
     b"a",
     b"n",
@@ -23,13 +21,11 @@ pub const VERB_NAMES: [&[u8]; 12] = [
 ];
 
 /// The names for nouns, at the same places.
-pub const NOUN_NAMES: [&[u8]; 12] = [
-    b"same_noun",
+pub const NOUN_NAMES: [&[u8]; 10] = [
     b"find_noun",
     b"first_noun",
     b"nword",
     b"nroot",
-    b"letter",
     b"buf",
     b"a",
     b"n",
@@ -39,75 +35,44 @@ pub const NOUN_NAMES: [&[u8]; 12] = [
 ];
 
 // Places in the names.
-const SAME_NAME: usize = 0;
+const FIND_NAME: usize = 0;
 
-const FIND_NAME: usize = 1;
+const FIRST_NAME: usize = 1;
 
-const FIRST_NAME: usize = 2;
+const WORD: usize = 2;
 
-const WORD: usize = 3;
+const ROOT: usize = 3;
 
-const ROOT: usize = 4;
+const BUF: usize = 4;
 
-const LETTER: usize = 5;
+const A: usize = 5;
 
-const BUF: usize = 6;
+const N: usize = 6;
 
-const A: usize = 7;
+const K: usize = 7;
 
-const N: usize = 8;
+const I: usize = 8;
 
-const K: usize = 9;
-
-const I: usize = 10;
-
-const M: usize = 11;
+const M: usize = 9;
 
 // Places in the numbers that are handed in; the numbers of the seven words follow.
 const LENGTH: usize = 0;
 
 const ENTRIES: usize = 1;
 
-/// Whether the n bytes from entry a on have the letters of word k, as many as count:
+/// The base entry that the n bytes from entry a on name, or 0. For each entry k that has a base, i
+/// counts the letters that are the same, up to the end of the entry or of the bytes:
 ///
-/// `for (i = 0: i < LENGTH: i++) { if (letter(a, n, i) ~= word->(LENGTH * k + i)) rfalse; }`
-/// `rtrue;`
-pub const SAME: [Code; 27] = [
-    Code::For(I),
-    Code::Number(0),
-    Code::Compare(Relation::Lt),
-    Code::Variable(I),
-    Code::Given(LENGTH),
-    Code::If,
-    Code::Compare(Relation::Ne),
-    Code::CallValue(LETTER),
-    Code::Argument,
-    Code::Variable(A),
-    Code::Argument,
-    Code::Variable(N),
-    Code::Argument,
-    Code::Variable(I),
-    Code::NoMore,
-    Code::Entry(WORD, false),
-    Code::Sum(SumOp::Add),
-    Code::Product(ProdOp::Mul),
-    Code::Given(LENGTH),
-    Code::Variable(K),
-    Code::Variable(I),
-    Code::Rfalse,
-    Code::End,
-    Code::End,
-    Code::End,
-    Code::Rtrue,
-    Code::End,
-];
-
-/// The base entry that the n bytes from entry a on name, or 0:
-///
-/// `if (n == 0) return 0;`
-/// `for (k = 1: k < ENTRIES: k++) { if (root-->k ~= 0 && same(a, n, k)) return root-->k; }`
-/// `return 0;`
-pub const FIND: [Code; 37] = [
+/// ```text
+/// if (n == 0) return 0;
+/// for (k = 1: k < ENTRIES: k++) {
+///   for (i = 0: root-->k ~= 0 && i < LENGTH && i < n
+///       && buf->(a + i) == word->(LENGTH * k + i): i++) { }
+///   if (i == LENGTH || (i == n && word->(LENGTH * k + i) == 0)) return root-->k;
+/// }
+/// return 0;
+/// ```
+pub const FIND: [Code; 66] = [
     Code::If,
     Code::Compare(Relation::Eq),
     Code::Variable(N),
@@ -121,21 +86,50 @@ pub const FIND: [Code; 37] = [
     Code::Compare(Relation::Lt),
     Code::Variable(K),
     Code::Given(ENTRIES),
-    Code::If,
+    Code::For(I),
+    Code::Number(0),
     Code::Both,
     Code::Compare(Relation::Ne),
     Code::Entry(ROOT, true),
     Code::Variable(K),
     Code::Number(0),
-    Code::Nonzero,
-    Code::CallValue(SAME_NAME),
-    Code::Argument,
-    Code::Variable(A),
-    Code::Argument,
+    Code::Both,
+    Code::Compare(Relation::Lt),
+    Code::Variable(I),
+    Code::Given(LENGTH),
+    Code::Both,
+    Code::Compare(Relation::Lt),
+    Code::Variable(I),
     Code::Variable(N),
-    Code::Argument,
+    Code::Compare(Relation::Eq),
+    Code::Entry(BUF, false),
+    Code::Sum(SumOp::Add),
+    Code::Variable(A),
+    Code::Variable(I),
+    Code::Entry(WORD, false),
+    Code::Sum(SumOp::Add),
+    Code::Product(ProdOp::Mul),
+    Code::Given(LENGTH),
     Code::Variable(K),
-    Code::NoMore,
+    Code::Variable(I),
+    Code::End,
+    Code::If,
+    Code::Either,
+    Code::Compare(Relation::Eq),
+    Code::Variable(I),
+    Code::Given(LENGTH),
+    Code::Both,
+    Code::Compare(Relation::Eq),
+    Code::Variable(I),
+    Code::Variable(N),
+    Code::Compare(Relation::Eq),
+    Code::Entry(WORD, false),
+    Code::Sum(SumOp::Add),
+    Code::Product(ProdOp::Mul),
+    Code::Given(LENGTH),
+    Code::Variable(K),
+    Code::Variable(I),
+    Code::Number(0),
     Code::Return,
     Code::Entry(ROOT, true),
     Code::Variable(K),
@@ -213,8 +207,7 @@ pub const FIRST: [Code; 57] = [
 ];
 
 /// All of them, each with its arguments and locals.
-pub const ROUTINES: [Row<'static>; 3] = [
-    (SAME_NAME, &[A, N, K, I], &SAME),
-    (FIND_NAME, &[A, N, K], &FIND),
+pub const ROUTINES: [Row<'static>; 2] = [
+    (FIND_NAME, &[A, N, K, I], &FIND),
     (FIRST_NAME, &[A, N, M], &FIRST),
 ];

@@ -12,7 +12,5 @@ mod directives;
 
 // Laws.
 pub mod laws;
-#[cfg(test)]
-mod tests;
 
 pub use directives::words;

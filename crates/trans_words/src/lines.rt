@@ -7,10 +7,9 @@ use scott_types::verbs::{GO, LAST_DIRECTION};
 
 /// The names of these routines, of their locals, and of the globals, arrays and routines that they
 /// use.
-pub const NAMES: [&[u8]; 23] = [
+pub const NAMES: [&[u8]; 22] = [
     b"after_spaces",
     b"after_word",
-    b"letter",
     b"heard_verb",
     b"heard_noun",
     b"hear",
@@ -38,47 +37,45 @@ const AFTER_SPACES_NAME: usize = 0;
 
 const AFTER_WORD_NAME: usize = 1;
 
-const LETTER_NAME: usize = 2;
+const HEARD_VERB_NAME: usize = 2;
 
-const HEARD_VERB_NAME: usize = 3;
+const HEARD_NOUN_NAME: usize = 3;
 
-const HEARD_NOUN_NAME: usize = 4;
+const HEAR_NAME: usize = 4;
 
-const HEAR_NAME: usize = 5;
+const BUF: usize = 5;
 
-const BUF: usize = 6;
+const WA: usize = 6;
 
-const WA: usize = 7;
+const NA: usize = 7;
 
-const NA: usize = 8;
+const WB: usize = 8;
 
-const WB: usize = 9;
+const NB: usize = 9;
 
-const NB: usize = 10;
+const VNUM: usize = 10;
 
-const VNUM: usize = 11;
+const NNUM: usize = 11;
 
-const NNUM: usize = 12;
+const FIRST_VERB: usize = 12;
 
-const FIRST_VERB: usize = 13;
+const FIRST_NOUN: usize = 13;
 
-const FIRST_NOUN: usize = 14;
+const FIND_NOUN: usize = 14;
 
-const FIND_NOUN: usize = 15;
+const I: usize = 15;
 
-const I: usize = 16;
+const E: usize = 16;
 
-const E: usize = 17;
+const A: usize = 17;
 
-const A: usize = 18;
+const N: usize = 18;
 
-const N: usize = 19;
+const M: usize = 19;
 
-const M: usize = 20;
+const X: usize = 20;
 
-const X: usize = 21;
-
-const V: usize = 22;
+const V: usize = 21;
 
 /// The first entry from i on that is no space, or e where there is none before it:
 ///
@@ -117,26 +114,6 @@ pub const AFTER_WORD: [Code; 14] = [
     Code::End,
     Code::Return,
     Code::Variable(I),
-    Code::End,
-];
-
-/// Byte i of the n bytes from entry a on, or 0 after their end:
-///
-/// `if (i < n) return buf->(a + i); return 0;`
-pub const LETTER: [Code; 14] = [
-    Code::If,
-    Code::Compare(Relation::Lt),
-    Code::Variable(I),
-    Code::Variable(N),
-    Code::Return,
-    Code::Entry(BUF, false),
-    Code::Sum(SumOp::Add),
-    Code::Variable(A),
-    Code::Variable(I),
-    Code::End,
-    Code::End,
-    Code::Return,
-    Code::Number(0),
     Code::End,
 ];
 
@@ -208,10 +185,10 @@ pub const HEARD_NOUN: [Code; 28] = [
 ///
 /// `e = buf->1 + 2;`
 /// `wa = after_spaces(2, e); i = after_word(wa, e); na = i - wa;`
-/// `wb = after_spaces(i, e); i = after_word(wb, e); nb = i - wb;`
+/// `wb = after_spaces(i, e); nb = after_word(wb, e) - wb;`
 /// `x = first_noun(wa, na, nb);`
 /// `vnum = heard_verb(x, wa, na, nb); nnum = heard_noun(x, vnum, wb, nb);`
-pub const HEAR: [Code; 73] = [
+pub const HEAR: [Code; 71] = [
     Code::Set(E),
     Code::Sum(SumOp::Add),
     Code::Entry(BUF, false),
@@ -242,16 +219,14 @@ pub const HEAR: [Code; 73] = [
     Code::Argument,
     Code::Variable(E),
     Code::NoMore,
-    Code::Set(I),
+    Code::Set(NB),
+    Code::Sum(SumOp::Sub),
     Code::CallValue(AFTER_WORD_NAME),
     Code::Argument,
     Code::Variable(WB),
     Code::Argument,
     Code::Variable(E),
     Code::NoMore,
-    Code::Set(NB),
-    Code::Sum(SumOp::Sub),
-    Code::Variable(I),
     Code::Variable(WB),
     Code::Set(X),
     Code::CallValue(FIRST_NOUN),
@@ -288,10 +263,9 @@ pub const HEAR: [Code; 73] = [
 ];
 
 /// All of them, each with its arguments and locals.
-pub const ROUTINES: [Row<'static>; 6] = [
+pub const ROUTINES: [Row<'static>; 5] = [
     (AFTER_SPACES_NAME, &[I, E], &AFTER_SPACES),
     (AFTER_WORD_NAME, &[I, E], &AFTER_WORD),
-    (LETTER_NAME, &[A, N, I], &LETTER),
     (HEARD_VERB_NAME, &[X, A, N, M], &HEARD_VERB),
     (HEARD_NOUN_NAME, &[X, V, A, N], &HEARD_NOUN),
     (HEAR_NAME, &[E, I, X], &HEAR),
