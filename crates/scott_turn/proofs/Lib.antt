@@ -8,4 +8,3 @@ pub mod Prompts
 pub mod Playing
 pub mod SessionViews
 pub mod Said
-pub mod WordIndexes

@@ -1,5 +1,4 @@
 pub mod Heads
-pub mod WordIndex
 pub mod Turns
 pub mod ItemTurns
 pub mod Ways

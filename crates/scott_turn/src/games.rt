@@ -8,9 +8,9 @@ ghost use Rattle.scott_types.specs.Action.{verb_of};
 ghost use Rattle.scott_turn.specs.Heads.{groups_for, ComesNext, HasFirsts, IsAfter, IsIndex};
 
 use crate::heads::next_head;
-use crate::words::WordIndex;
 use adv_io::Memory;
 use indexmap::IndexMap;
+use scott_index::WordIndex;
 use scott_types::{Column, Db, Style};
 use scott_vocab::Vocabulary;
 use std::alloc::Global;
@@ -38,7 +38,7 @@ impl<'a> Model for Game<'a> {
     ghost use Rattle.indexmap.specs.IndexMap.{get};
     ghost use Rattle.scott_types.specs.Style.{Game, in_style};
     ghost use Rattle.scott_turn.specs.Heads.{IsIndex};
-    ghost use Rattle.scott_turn.specs.WordIndex.{FindsAllWords};
+    ghost use Rattle.scott_index.specs.BaseEntries.{FindsAllWords};
 
     ghost Value = { Game };
 

@@ -7,7 +7,6 @@ mod games;
 mod heads;
 mod searching;
 mod trying;
-mod words;
 
 // What commands do by themselves: get, drop and go.
 mod all_items;

@@ -15,5 +15,6 @@ mod Burnt
 mod Burning
 mod Owed
 mod Zeros
+mod ClassIndexes
 mod DataFormed
 mod TextsFormed

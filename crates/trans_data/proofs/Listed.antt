@@ -64,7 +64,7 @@ separator_said {p} {d} {s} separator n w there = from (nat_eq n 0) refl where
   from false is = if_true (nonzero (local there) (nothing is))
       (next (print (print_text print_nothing)) end)
 
--- whether one was said, as a number, behind texts
+-- whether one was said, as a number, after texts
 abbrev pub last_said : ℕ → List (List ℕ) → ℕ
 last_said n [] = n
 last_said n (text ∷ texts) = last_said 1 texts

@@ -3,4 +3,5 @@ pub mod Routines
 pub mod Texts
 pub mod Tables
 pub mod Items
+pub mod Nouns
 pub mod Laws

@@ -1,37 +1,28 @@
 //! The table of exits.
-ghost use Rattle.std.specs.Prelude.{◌≡◌, ◌++◌, IfOk, map, flat_map};
+ghost use Rattle.std.specs.Prelude.{◌≡◌, ◌≤◌, ◌++◌, IfOk, map, flat_map};
 ghost use Rattle.scott_types.specs.Room.{room_beyond};
 ghost use Rattle.trans_rows.specs.Tables.{exits_of_room};
 
 use adv_io::Memory;
-use scott_types::{Db, Room};
+use scott_types::{Db, Room, room_beyond};
 use std::alloc::Global;
-
-// The room that an exit's number means, or 0.
-fn beyond(rooms: usize, number: i32) -> u32
-    ensures { result ≡ room_beyond rooms number }
-{
-    if 0 < number && (number as usize) < rooms {
-        number as u32
-    } else {
-        0
-    }
-}
 
 // The exits of a room, after those of other rooms.
 fn with_exits(numbers: Vec<u32>, rooms: usize, exits: &[i32]) -> Result<Vec<u32>, Memory>
+    requires { rooms ≤ 255 }
     ensures { IfOk result (λ all. all.items
         ≡ numbers.items ++ map (room_beyond rooms) exits.now) }
 {
     let mut all = numbers;
     for number in exits {
-        all.push(beyond(rooms, *number))?;
+        all.push(room_beyond(rooms, *number) as u32)?;
     }
     Ok(all)
 }
 
 // The exits of these rooms, of so many that there are.
 fn exits_of(alloc: Global, count: usize, rooms: &[Room]) -> Result<Vec<u32>, Memory>
+    requires { count ≤ 255 }
     ensures { IfOk result (λ numbers. numbers.items
         ≡ flat_map (λ room. map (room_beyond count) room.exits) rooms.now) }
 {

@@ -9,6 +9,7 @@ use crate::classes::classes;
 use crate::entries::{bytes, with_guard, words, zero_bytes};
 use crate::exit_tables::exits;
 use crate::item_tables::{item_classes, item_nouns, items_with_words, start_places, treasures};
+use crate::nouns::IndexedNouns;
 use crate::word_tables::{bases, word_letters};
 use adv_io::Memory;
 use inform_codes::joined;
@@ -48,28 +49,28 @@ fn bases_array(alloc: Global, db: &Db, column: Column, name: &[u8]) -> Result<Di
     words(alloc, name, numbers.as_slice())
 }
 
-fn noun_classes_array(alloc: Global, db: &Db) -> Result<Directive, Memory>
+fn noun_classes_array(alloc: Global, nouns: &IndexedNouns) -> Result<Directive, Memory>
     ensures { IfOk result (λ directive. directive_of directive
-        ≡ the_array (codes "nclass") (noun_classes db.now)) }
+        ≡ the_array (codes "nclass") (noun_classes nouns.now)) }
 {
-    let numbers = with_guard(classes(alloc, db)?)?;
+    let numbers = with_guard(classes(alloc, nouns)?)?;
     words(alloc, b"nclass", numbers.as_slice())
 }
 
 #[tactic(auto, unfolding(crate::specs::Items::class_of_item))]
-fn item_classes_array(alloc: Global, db: &Db) -> Result<Directive, Memory>
+fn item_classes_array(alloc: Global, nouns: &IndexedNouns) -> Result<Directive, Memory>
     ensures { IfOk result (λ directive. directive_of directive
-        ≡ the_array (codes "iclass") (the_item_classes db.now)) }
+        ≡ the_array (codes "iclass") (the_item_classes nouns.now)) }
 {
-    let numbers = with_guard(item_classes(alloc, db, db.items())?)?;
+    let numbers = with_guard(item_classes(alloc, nouns, nouns.db().items())?)?;
     words(alloc, b"iclass", numbers.as_slice())
 }
 
-fn item_nouns_array(alloc: Global, db: &Db) -> Result<Directive, Memory>
+fn item_nouns_array(alloc: Global, nouns: &IndexedNouns) -> Result<Directive, Memory>
     ensures { IfOk result (λ directive. directive_of directive
-        ≡ the_array (codes "inoun") (the_item_nouns db.now)) }
+        ≡ the_array (codes "inoun") (the_item_nouns nouns.now)) }
 {
-    let numbers = with_guard(item_nouns(alloc, db, db.items())?)?;
+    let numbers = with_guard(item_nouns(alloc, nouns, nouns.db().items())?)?;
     words(alloc, b"inoun", numbers.as_slice())
 }
 
@@ -89,10 +90,16 @@ fn treasures_array(alloc: Global, db: &Db) -> Result<Directive, Memory>
     words(alloc, b"gold", numbers.as_slice())
 }
 
-/// The arrays that never change.
-pub fn fixed_arrays(alloc: Global, db: &Db) -> Result<Vec<Directive>, Memory>
+// The places, exits and vocabulary.
+fn first_arrays(alloc: Global, db: &Db) -> Result<Vec<Directive>, Memory>
     ensures { IfOk result (λ directives. map directive_of directives.items
-        ≡ the_arrays db.now) }
+        ≡ the_array (codes "start") (the_places db.now)
+        ∷ the_array (codes "exits") (the_exits db.now)
+        ∷ the_bytes (codes "vword") (the_letters db.now Verbs)
+        ∷ the_bytes (codes "nword") (the_letters db.now Nouns)
+        ∷ the_array (codes "vroot") (word_bases db.now Verbs)
+        ∷ the_array (codes "nroot") (word_bases db.now Nouns)
+        ∷ []) }
 {
     let mut arrays = Vec::new(alloc);
     arrays.push(places_array(alloc, db)?)?;
@@ -101,12 +108,45 @@ pub fn fixed_arrays(alloc: Global, db: &Db) -> Result<Vec<Directive>, Memory>
     arrays.push(letters_array(alloc, db, Column::Nouns, b"nword")?)?;
     arrays.push(bases_array(alloc, db, Column::Verbs, b"vroot")?)?;
     arrays.push(bases_array(alloc, db, Column::Nouns, b"nroot")?)?;
-    arrays.push(noun_classes_array(alloc, db)?)?;
-    arrays.push(item_classes_array(alloc, db)?)?;
-    arrays.push(item_nouns_array(alloc, db)?)?;
+    Ok(arrays)
+}
+
+// The classes, and what the words of items name.
+fn noun_arrays(alloc: Global, nouns: &IndexedNouns) -> Result<Vec<Directive>, Memory>
+    ensures { IfOk result (λ directives. map directive_of directives.items
+        ≡ the_array (codes "nclass") (noun_classes nouns.now)
+        ∷ the_array (codes "iclass") (the_item_classes nouns.now)
+        ∷ the_array (codes "inoun") (the_item_nouns nouns.now)
+        ∷ []) }
+{
+    let mut arrays = Vec::new(alloc);
+    arrays.push(noun_classes_array(alloc, nouns)?)?;
+    arrays.push(item_classes_array(alloc, nouns)?)?;
+    arrays.push(item_nouns_array(alloc, nouns)?)?;
+    Ok(arrays)
+}
+
+// What else is known of items.
+fn item_arrays(alloc: Global, db: &Db) -> Result<Vec<Directive>, Memory>
+    ensures { IfOk result (λ directives. map directive_of directives.items
+        ≡ the_array (codes "iget") (the_words db.now)
+        ∷ the_array (codes "gold") (the_treasures db.now)
+        ∷ []) }
+{
+    let mut arrays = Vec::new(alloc);
     arrays.push(item_words_array(alloc, db)?)?;
     arrays.push(treasures_array(alloc, db)?)?;
     Ok(arrays)
+}
+
+/// The arrays that never change. The nouns are put into indexes once.
+pub fn fixed_arrays(alloc: Global, db: &Db) -> Result<Vec<Directive>, Memory>
+    ensures { IfOk result (λ directives. map directive_of directives.items
+        ≡ the_arrays db.now) }
+{
+    let nouns = IndexedNouns::of(alloc, db)?;
+    let found = joined(noun_arrays(alloc, &nouns)?, item_arrays(alloc, db)?)?;
+    joined(first_arrays(alloc, db)?, found)
 }
 
 /// The arrays that a line is read into.

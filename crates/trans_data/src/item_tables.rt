@@ -1,4 +1,4 @@
-//! The tables of items and exits.
+//! The tables of items.
 ghost use Rattle.std.specs.Prelude.{◌≡◌, IfOk, map, not};
 ghost use Rattle.scott_types.specs.Database.{place_of_item};
 ghost use Rattle.scott_types.specs.ItemText.{is_treasure as is_treasure_text};
@@ -7,10 +7,9 @@ ghost use Rattle.scott_types.specs.declared.commands.Column.TheVariants.{Nouns};
 ghost use Rattle.trans_rows.specs.Tables.{bit, or_zero, item_word};
 ghost use Rattle.trans_data.specs.Items.{class_of_item as the_item_class};
 
-use crate::classes::class_of;
+use crate::nouns::IndexedNouns;
 use adv_io::Memory;
-use scott_types::{Column, Db, Item, get_word, is_treasure};
-use scott_vocab::which;
+use scott_types::{Item, get_word, is_treasure};
 use std::alloc::Global;
 
 /// Where each item is when a game begins.
@@ -52,43 +51,33 @@ pub fn treasures(alloc: Global, items: &[Item]) -> Result<Vec<u32>, Memory>
     Ok(numbers)
 }
 
-// The noun that a word names, or 0.
-fn noun_of(db: &Db, word: &[u8]) -> u32
-    ensures { result ≡ or_zero (the_which db.now Nouns word.now) }
-{
-    match which(db, Column::Nouns, word) {
-        Some(noun) => noun as u32,
-        None => 0,
-    }
-}
-
 /// The noun that the word of each item names.
-pub fn item_nouns(alloc: Global, db: &Db, items: &[Item]) -> Result<Vec<u32>, Memory>
+pub fn item_nouns(alloc: Global, nouns: &IndexedNouns, items: &[Item]) -> Result<Vec<u32>, Memory>
     ensures { IfOk result (λ numbers. numbers.items
-        ≡ map (λ item. or_zero (the_which db.now Nouns (item_word item))) items.now) }
+        ≡ map (λ item. or_zero (the_which nouns.now Nouns (item_word item))) items.now) }
 {
     let mut numbers = Vec::with_capacity(alloc, items.len())?;
     for item in items {
-        numbers.push(noun_of(db, get_word(&item.text)))?;
+        numbers.push(nouns.noun_of(get_word(&item.text)))?;
     }
     Ok(numbers)
 }
 
 // The class of the word of an item.
 #[tactic(auto, unfolding(crate::specs::Items::class_of_item))]
-fn class_of_item(db: &Db, item: &Item) -> u32
-    ensures { result ≡ the_item_class db.now item.now }
+fn class_of_item(nouns: &IndexedNouns, item: &Item) -> u32
+    ensures { result ≡ the_item_class nouns.now item.now }
 {
-    class_of(db, get_word(&item.text))
+    nouns.class_of(get_word(&item.text))
 }
 
 /// The class of the word of each item.
-pub fn item_classes(alloc: Global, db: &Db, items: &[Item]) -> Result<Vec<u32>, Memory>
-    ensures { IfOk result (λ numbers. numbers.items ≡ map (the_item_class db.now) items.now) }
+pub fn item_classes(alloc: Global, nouns: &IndexedNouns, items: &[Item]) -> Result<Vec<u32>, Memory>
+    ensures { IfOk result (λ numbers. numbers.items ≡ map (the_item_class nouns.now) items.now) }
 {
     let mut numbers = Vec::with_capacity(alloc, items.len())?;
     for item in items {
-        numbers.push(class_of_item(db, item))?;
+        numbers.push(class_of_item(nouns, item))?;
     }
     Ok(numbers)
 }

@@ -18,6 +18,9 @@ mod choices;
 mod descriptions;
 mod messages;
 
+// The nouns, each found by one look-up.
+mod nouns;
+
 // The globals and arrays.
 mod classes;
 mod entries;
@@ -32,7 +35,5 @@ mod game_tables;
 
 // What the routines owe.
 pub mod laws;
-#[cfg(test)]
-mod tests;
 
 pub use game_tables::tables;

@@ -3,34 +3,13 @@ ghost use Rattle.std.specs.Prelude.{◌≡◌, ◌+◌, ◌^◌, ◌≤◌, ◌<
 ghost use Rattle.std.specs.List.{list_all};
 ghost use Rattle.std.specs.Char.{is_ascii_graphic};
 ghost use Rattle.scott_types.specs.ItemText.{is_starred};
-ghost use Rattle.scott_rules.specs.Words.{column_of, entries_of, spelling as the_spelling};
-ghost use Rattle.trans_rows.specs.Tables.{or_zero as the_zero, entry_letters, bases_from, bases as the_bases};
+ghost use Rattle.scott_rules.specs.Words.{column_of, entries_of};
+ghost use Rattle.trans_rows.specs.Tables.{entry_letters, bases_from, bases as the_bases};
 
 use adv_io::Memory;
 use scott_types::{Column, Db, Word, starts_with_star};
-use scott_vocab::letters;
+use scott_vocab::{entry_text, letters, spelling};
 use std::alloc::Global;
-
-// The text of an entry in a column.
-fn entry_text(word: &Word, column: Column) -> &[u8]
-    ensures { result.now ≡ column_of column word.now }
-{
-    match column {
-        Column::Verbs => word.verb.bytes(),
-        Column::Nouns => word.noun.bytes(),
-    }
-}
-
-// An entry without the mark of a synonym.
-fn spelling(entry: &[u8]) -> &[u8]
-    ensures { result.now ≡ the_spelling entry.now }
-{
-    if starts_with_star(entry) {
-        &entry[1..]
-    } else {
-        entry
-    }
-}
 
 // Whether a word can be typed.
 fn is_printed(word: &[u8]) -> bool
@@ -102,15 +81,6 @@ fn nearest(base: Option<u32>, k: u32, entry: &[u8]) -> Option<u32>
     }
 }
 
-fn or_zero(number: Option<u32>) -> u32
-    ensures { result ≡ the_zero number }
-{
-    match number {
-        Some(number) => number,
-        None => 0,
-    }
-}
-
 // The base entries of those from entry k on, after other numbers.
 fn with_bases(
     numbers: Vec<u32>,
@@ -128,7 +98,7 @@ fn with_bases(
         [word, rest @ ..] => {
             let base = nearest(base, k, entry_text(word, column));
             let mut all = numbers;
-            all.push(or_zero(base))?;
+            all.push(base.unwrap_or(0))?;
             with_bases(all, column, base, k + 1, rest)
         }
     }

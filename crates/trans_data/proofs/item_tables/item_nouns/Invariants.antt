@@ -7,5 +7,5 @@ use Rattle.trans_data.proofs.item_tables.item_nouns.Given as goal
 -- what was made of those before, and what is to be made of those to come, are all
 abbrev pub invariant-loop-item : goal.invariant-loop-item
 invariant-loop-item l =
-    map (λ item. or_zero (which l.db Nouns (item_word item))) l.items ≡ l.numbers.items ++ map
-    (λ item. or_zero (which l.db Nouns (item_word item))) (drop l.item-index l.items)
+    map (λ item. or_zero (which l.nouns Nouns (item_word item))) l.items ≡ l.numbers.items ++ map
+    (λ item. or_zero (which l.nouns Nouns (item_word item))) (drop l.item-index l.items)

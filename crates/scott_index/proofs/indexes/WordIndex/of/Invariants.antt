@@ -1,6 +1,6 @@
 use Rattle.std.proofs.Common.{◌≡◌, ◌<◌, IfSome}
-use Rattle.scott_turn.specs.WordIndex.{FindsWordsBefore}
-use Rattle.scott_turn.proofs.words.WordIndex.of.Given as goal
+use Rattle.scott_index.specs.BaseEntries.{FindsWordsBefore}
+use Rattle.scott_index.proofs.indexes.WordIndex.of.Given as goal
 
 -- what isn't in the index is found from entry k on, and the nearest base entry stands before it
 abbrev pub invariant-loop-k : goal.invariant-loop-k

@@ -1,32 +1,19 @@
--- An index of the words of a column: the base entry that each names, by its letters.
-use Rattle.std.specs.Prelude.{◌≡◌, ℕ, List, Option, nat_eq}
-use Rattle.std.specs.Cmp.Lexicographic.{pointwise}
-use Rattle.std.specs.Map.{lookup}
+-- An index of the words of a column: the base entry that each names.
+use Rattle.std.specs.Prelude.{◌≡◌, ℕ, List, Option}
 use Rattle.std.specs.Option.{option_or}
-use Rattle.arrayvec.specs.ArrayVec.{ArrayVec}
 use Rattle.scott_types.specs.declared.commands.Column.{Column}
 use Rattle.scott_types.specs.declared.commands.Column.TheVariants.{Verbs, Nouns}
 use Rattle.scott_types.specs.Database.{Database}
 use Rattle.scott_rules.specs.Words.{which}
 use Rattle.scott_vocab.specs.Found.{which_from}
-use Rattle.scott_vocab.specs.Keys.{letters}
-
--- how many bytes of a word count, and for the letters of each word its base entry
-pub record WordIndex : Type 0 where
-  pub size : ℕ
-  pub entries : List (ArrayVec ℕ × ℕ)
-
--- what an index has for a word
-abbrev pub found_in : WordIndex → List ℕ → Option ℕ
-found_in index word =
-    lookup (λ key. pointwise nat_eq (letters index.size word) key.items) index.entries
+use Rattle.scott_index.specs.WordIndex.{WordIndex, found_in}
 
 -- for every word an index has the base entry that it names
 abbrev pub FindsWords : Database → Column → WordIndex → Type 0
 FindsWords db column index = (word : List ℕ) → found_in index word ≡ which db column word
 
 -- for every word an index has the base entry that it names, or the word names it from entry k on,
--- where `plain` is the nearest base entry before that one
+-- where `base` is the nearest base entry before that one
 abbrev pub FindsWordsBefore : Database → Column → Option ℕ → ℕ → WordIndex → Type 0
 FindsWordsBefore db column base k index = (word : List ℕ)
     → option_or (found_in index word) (which_from db column word base k) ≡ which db column word

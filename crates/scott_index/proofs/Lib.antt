@@ -1,0 +1,2 @@
+pub mod WordIndexes
+pub mod BaseEntries

@@ -1,0 +1,2 @@
+pub mod WordIndex
+pub mod BaseEntries
