@@ -1,6 +1,7 @@
 //! Each public call on words, with a vocabulary made by hand.
 use crate::games::game;
 use adv_io::Line;
+use scott_index::WordIndex;
 use scott_types::Db;
 use scott_vocab::{
     Column, Heard, Vocabulary, command, entry_at, is_direction, is_typed, letters, root, split,
@@ -32,6 +33,12 @@ fn worded(alloc: Global) -> Result<Db, Fail> {
     game(alloc, &[header, WORDS, rest])
 }
 
+// What a word names by an index of its column.
+fn looked_up(alloc: Global, db: &Db, column: Column, word: &str) -> Result<Option<u16>, Fail> {
+    let index = WordIndex::of(alloc, db, column)?;
+    Ok(index.find(word.as_bytes()))
+}
+
 #[test]
 fn words_name_base_entries(rt: HostRuntime) -> Result<(), Fail> {
     let db = worded(rt.alloc())?;
@@ -50,6 +57,23 @@ fn words_name_base_entries(rt: HostRuntime) -> Result<(), Fail> {
         (Column::Nouns, "nothing", Some(9)),
     ] {
         assert_eq!(rt; which(&db, column, word.as_bytes()), entry, "at {word}");
+        assert_eq!(rt;
+            looked_up(rt.alloc(), &db, column, word)?,
+            entry,
+            "at {word}"
+        );
+    }
+    Ok(())
+}
+
+#[test]
+fn first_number_of_a_word_stays(rt: HostRuntime) -> Result<(), Fail> {
+    let mut index = WordIndex::empty(rt.alloc(), 4, 2)?;
+    for (word, number) in [("Lamp", 7), ("lamps", 8), ("", 9)] {
+        index.add(rt.alloc(), word.as_bytes(), number)?;
+    }
+    for (word, number) in [("LAMPS", Some(7)), ("lam", None), ("", None)] {
+        assert_eq!(rt; index.find(word.as_bytes()), number, "at {word}");
     }
     Ok(())
 }

@@ -1,4 +1,4 @@
--- Codes one behind another.
+-- Codes one after another.
 use Rattle.std.proofs.Common.{◌∙◌, [], ◌∷◌, refl, sym, ap}
 use Rattle.inform_codes.specs.Parts.{none, nearest_block}
 use Rattle.inform_codes.specs.Codes.{taken}

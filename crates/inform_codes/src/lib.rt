@@ -21,8 +21,6 @@ mod tables;
 // Laws and worked routines.
 pub mod examples;
 pub mod laws;
-#[cfg(test)]
-mod tests;
 
 pub use codes::Code;
 pub use growing::{before, body, fork};

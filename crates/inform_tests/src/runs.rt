@@ -1,9 +1,8 @@
 //! Runs: what programs say and why they stop, with ample memory.
+use super::texts::program_of;
 use adv_draws::Draws;
 use adv_io::{Line, MemoryConsole};
-use inform_lexer::tokens;
 use inform_names::{Accepted, accept};
-use inform_parser::parse;
 use inform_run::{Runner, Stop};
 use inform_tree::Width;
 use itoa::Buffer;
@@ -352,9 +351,7 @@ const TAKEN: &[Row] = &[
 
 // The accepted program of a text.
 fn accepted(alloc: Global, text: &[u8], width: Width) -> Result<Option<Accepted>, Fail> {
-    let read = tokens(alloc, text)?;
-    let program = parse(alloc, &read, text)?;
-    match accept(alloc, program, width) {
+    match accept(alloc, program_of(alloc, text)?, width) {
         Ok(program) => Ok(Some(program)),
         Err(_) => Ok(None),
     }

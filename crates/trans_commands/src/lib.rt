@@ -16,8 +16,6 @@ mod searching;
 // All of them as directives, and what they owe.
 pub mod laws;
 mod table;
-#[cfg(test)]
-mod tests;
 
 pub use searching::search;
 pub use table::commands;

@@ -41,7 +41,7 @@ fn directives(
     Ok(all)
 }
 
-/// The program of a game that opens at its beginning, or behind a prompt in a state that is handed
+/// The program of a game that opens at its beginning, or after a prompt in a state that is handed
 /// in. No number is too wide for words of the width.
 pub fn program(
     alloc: Global,

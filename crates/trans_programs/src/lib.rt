@@ -7,7 +7,5 @@ mod games;
 
 // Its laws.
 pub mod laws;
-#[cfg(test)]
-mod tests;
 
 pub use games::program;

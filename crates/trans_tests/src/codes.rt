@@ -1,8 +1,8 @@
-//! With ample memory each call succeeds, and what it gives is the tree that was written.
-use crate::examples::{CALL, CARRIED, FORK, MESSAGE, NAMES, ROUTINES};
-use crate::{before, body, fork, numbered, routines};
-use inform_tree::{Change, Cond, Directive, Expr, Name, Relation, Stmt};
-use std::alloc::{AllocError, Global};
+//! Codes: each call succeeds, and what it gives is the tree that was written.
+use super::sizes::sizes;
+use inform_codes::examples::{CALL, CARRIED, FORK, MESSAGE, NAMES, ROUTINES};
+use inform_codes::{before, body, fork, numbered, routines};
+use inform_tree::{Change, Cond, Expr, Name, Relation, Stmt};
 use std::test::Fail;
 
 fn is(name: &Name, text: &str) -> bool {
@@ -75,18 +75,6 @@ fn carried_is_grown(rt: HostRuntime) -> Result<(), Fail> {
     assert!(rt; counts_up(&body[0]) && other.is_empty());
     assert!(rt; returns_count(&grown[1]));
     Ok(())
-}
-
-// How many statements each routine of a table has.
-fn sizes(alloc: Global, table: &[Directive]) -> Result<Vec<usize>, AllocError> {
-    let mut sizes = Vec::new(alloc);
-    for directive in table {
-        match directive {
-            Directive::Routine(routine) => sizes.push(routine.body.len())?,
-            _ => {}
-        }
-    }
-    Ok(sizes)
 }
 
 #[test]

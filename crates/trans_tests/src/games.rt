@@ -1,0 +1,64 @@
+//! A small game.
+use scott_types::{Action, Db, Header, Item, Parts, Room, Text, Trailer, Word};
+use std::alloc::Global;
+use std::test::Fail;
+
+const HEADER: Header = Header {
+    unused: 0,
+    carry: 0,
+    start: 0,
+    treasures: 0,
+    length: 3,
+    light: 0,
+    home: 0,
+};
+
+const ACTION: Action = Action {
+    vocab: 0,
+    conds: [0; 5],
+    pairs: [0; 2],
+};
+
+const TRAILER: Trailer = Trailer {
+    version: 0,
+    adventure: 0,
+    third: 0,
+};
+
+fn empty_text(alloc: Global) -> Text {
+    Text::of(Vec::new(alloc))
+}
+
+// One entry in each list, and each text empty.
+fn parts(alloc: Global) -> Result<Parts, Fail> {
+    let word = Word {
+        verb: empty_text(alloc),
+        noun: empty_text(alloc),
+    };
+    let room = Room {
+        exits: [0; 6],
+        text: empty_text(alloc),
+    };
+    let item = Item {
+        text: empty_text(alloc),
+        place: 0,
+    };
+    Ok(Parts {
+        header: HEADER,
+        actions: vec![in alloc; ACTION]?,
+        words: vec![in alloc; word]?,
+        rooms: vec![in alloc; room]?,
+        messages: vec![in alloc; empty_text(alloc)]?,
+        items: vec![in alloc; item]?,
+        comments: vec![in alloc; empty_text(alloc)]?,
+        trailer: TRAILER,
+    })
+}
+
+/// A database with one entry in each list.
+pub fn smallest(alloc: Global) -> Result<Db, Fail> {
+    match Db::new(parts(alloc)?) {
+        Ok(db) => Ok(db),
+        Err(_) => Err(Fail::from("its limits")),
+    }
+}
