@@ -293,7 +293,7 @@ module _ (files : Files) where
       by (Ok other) f g = let same : other ≡ draws = cc in f ∙ ap Ok same
       by (Err at) f g = absurd cc
 
-  -- ---- a request that is accepted comes to a task
+  -- ---- a request that is accepted has a task
 
   abbrev Comes : Request → Option (List (List ℕ)) → Type 0
   Comes request left = (task : Task) × (expected files (Some request) ≡ Ok task) × EndsWith0 task left

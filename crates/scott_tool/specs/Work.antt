@@ -1,4 +1,4 @@
--- What a request comes to: a task, or the first refusal in the order of the steps.
+-- What a request asks for: a task, or the first refusal in the order of the steps.
 use Rattle.std.specs.Prelude.{◌≡◌, ℕ, List, [], ◌∷◌, Option, Some, None, Result, Ok, Err}
 use Rattle.adv_check.specs.Report.{report_text}
 use Rattle.adv_decompiler.specs.Plain.{plain}

@@ -2,7 +2,9 @@
 use super::games::T;
 use super::plays::{self, WALK};
 use super::refusals::{self, USAGE};
-use super::trying::{Case, File, NOTHING, answer_of, console_of, expect};
+use super::trying::{
+    Case, File, NOTHING, Translated, answer_of, console_of, expect, expect_translated,
+};
 use super::{runs, sources, translations};
 use crate::program::scott;
 use crate::status_without_words;
@@ -21,6 +23,16 @@ fn expect_all<R: Abort + AllocGlobal>(rt: &R, tables: &[&[Case<'_>]]) -> Result<
     Ok(())
 }
 
+// Whether a text has a part.
+fn is_in(part: &[u8], text: &[u8]) -> bool {
+    for at in 0..text.len() {
+        if text[at..].starts_with(part) {
+            return true;
+        }
+    }
+    false
+}
+
 #[test]
 fn commands_are_answered(rt: HostRuntime) -> Result<(), Fail> {
     expect_all(&rt, &plays::ALL)?;
@@ -30,8 +42,34 @@ fn commands_are_answered(rt: HostRuntime) -> Result<(), Fail> {
 }
 
 #[test]
-fn translations_are_answered(rt: HostRuntime) -> Result<(), Fail> {
+fn refused_translations_are_answered(rt: HostRuntime) -> Result<(), Fail> {
     expect_all(&rt, &translations::ALL)
+}
+
+// Each of these games is translated and played.
+fn expect_all_translated<R: Abort + AllocGlobal>(
+    rt: &R,
+    cases: &[Translated<'_>],
+) -> Result<(), Fail> {
+    for case in cases {
+        expect_translated(rt, case)?;
+    }
+    Ok(())
+}
+
+#[test]
+fn translations_are_played(rt: HostRuntime) -> Result<(), Fail> {
+    expect_all_translated(&rt, translations::PLAYED)
+}
+
+// Each array has an entry more than the list that it is made of.
+#[test]
+fn arrays_have_an_entry_more(rt: HostRuntime) -> Result<(), Fail> {
+    let shelf = expect_translated(&rt, &translations::CELL)?;
+    let program = shelf.file("g.inf").ok_or("no program")?;
+    assert!(rt; is_in(b"\nArray item --> 0 0 ;\n", program));
+    assert!(rt; is_in(b"\nArray exits --> 0 0 0 0 0 0 0 ;\n", program));
+    Ok(())
 }
 
 #[test]
@@ -81,23 +119,29 @@ fn long_files_and_no_words_are_refused(rt: HostRuntime) -> Result<(), Fail> {
 }
 
 // The console's calls fail one by one, until none is left that can. What was said then is a prefix
-// of the whole.
-#[test]
-fn consoles_fail(rt: HostRuntime) -> Result<(), Fail> {
-    let (_, whole, _) = answer_of(rt.alloc(), &WALK)?;
+// of the whole. Answers how many calls can fail.
+fn expect_failures<R: Abort + AllocGlobal>(rt: &R, case: &Case<'_>) -> Result<u64, Fail> {
+    let (status_of_all, whole, _) = answer_of(rt.alloc(), case)?;
     for number in 1..1_000 {
+        let numbers = [number];
         let failing = Case {
-            failing_calls: &[number],
-            ..WALK
+            failing_calls: &numbers,
+            ..*case
         };
         let (status, console, _) = answer_of(rt.alloc(), &failing)?;
         assert!(rt; whole.said().starts_with(console.said()), "{number}");
-        if status == 0 {
+        if status == status_of_all {
             assert_eq!(rt; console.said(), whole.said());
-            assert!(rt; number > 8);
-            return Ok(());
+            return Ok(number - 1);
         }
         assert_eq!(rt; status, 3, "{number}");
     }
     panic!(rt; "a console that fails is never used up")
+}
+
+#[test]
+fn consoles_fail(rt: HostRuntime) -> Result<(), Fail> {
+    assert!(rt; 8 <= expect_failures(&rt, &WALK)?);
+    assert!(rt; 3 <= expect_failures(&rt, &runs::READING)?);
+    Ok(())
 }

@@ -60,7 +60,8 @@ const SEEDED: [Case<'static>; 4] = [
     },
 ];
 
-const BLANK_LINE: Case<'static> = Case {
+/// A command in capitals and small letters, and a line without a command.
+pub const BLANK_LINE: Case<'static> = Case {
     lines: &[b"WALK North", b""],
     said: &[HALL, ASK, MOVED, HILL, ASK, ASK],
     ..WALK
@@ -167,13 +168,16 @@ const LIT: Game<'static> = Game {
     ..T
 };
 
+/// A light that goes out.
+pub const RUN_OUT: Case<'static> = Case {
+    game: File::Of(LIT),
+    lines: &[b"look", b"look", b"look", b"look"],
+    said: &[HALL, ASK, NO, ASK, NO, OUT, ASK, NO, OUT, ASK, NO, ASK],
+    ..LOOK
+};
+
 const LIGHTS: [Case<'static>; 3] = [
-    Case {
-        game: File::Of(LIT),
-        lines: &[b"look", b"look", b"look", b"look"],
-        said: &[HALL, ASK, NO, ASK, NO, OUT, ASK, NO, OUT, ASK, NO, ASK],
-        ..LOOK
-    },
+    RUN_OUT,
     Case {
         game: File::Of(Game { light: 21, ..LIT }),
         said: &[HALL, ASK, NO, "Your light is growing dim. ", ASK],
@@ -232,31 +236,33 @@ const YOUR_HALL: &str = "You are in a hall\nObvious exits: North.\n\nYou can als
 
 const LAST_TURN: &str = "Your light runs out in 1 turns. ";
 
-// Plays in a style, with their settings in either order.
-const STYLES: [Case<'static>; 3] = [
-    Case {
-        command: "play t.dat style=y",
-        lines: &[b"go south"],
-        said: &[YOUR_HALL, ASK, "You can't go in that direction. ", ASK],
-        ..WALK
-    },
-    Case {
-        command: "play t.dat style=cv",
-        game: File::Of(LIT),
-        lines: &[b"look", b"look", b"look", b"look"],
-        said: &[
-            HALL, ASK, NO, LAST_TURN, ASK, NO, OUT, ASK, NO, ASK, NO, ASK,
-        ],
-        ..WALK
-    },
-    Case {
-        command: "play t.dat style=ycv seed=1",
-        game: File::Of(LIT),
-        lines: &[b"look"],
-        said: &[YOUR_HALL, ASK, NO, LAST_TURN, ASK],
-        ..WALK
-    },
-];
+/// A play in the second person.
+pub const SPOKEN_TO: Case<'static> = Case {
+    command: "play t.dat style=y",
+    lines: &[b"go south"],
+    said: &[YOUR_HALL, ASK, "You can't go in that direction. ", ASK],
+    ..WALK
+};
+
+/// A light that is counted, and vanishes.
+pub const VANISHED: Case<'static> = Case {
+    command: "play t.dat style=cv",
+    game: File::Of(LIT),
+    lines: &[b"look", b"look", b"look", b"look"],
+    said: &[
+        HALL, ASK, NO, LAST_TURN, ASK, NO, OUT, ASK, NO, ASK, NO, ASK,
+    ],
+    ..WALK
+};
+
+/// A play in all styles at once, and with a seed.
+pub const ALL_STYLES: Case<'static> = Case {
+    command: "play t.dat style=ycv seed=1",
+    game: File::Of(LIT),
+    lines: &[b"look"],
+    said: &[YOUR_HALL, ASK, NO, LAST_TURN, ASK],
+    ..WALK
+};
 
 const SHORT: &str = "rooms 3, items 1, lines 1, words 7, messages 1\n";
 
@@ -285,7 +291,7 @@ pub const ALL: [&[Case<'static>]; 7] = [
     &DRAWS,
     &ENDINGS,
     &LIGHTS,
-    &STYLES,
+    &[SPOKEN_TO, VANISHED, ALL_STYLES],
     &[BLANK_LINE, GET_ALL],
     &REPORTS,
 ];

@@ -144,16 +144,19 @@ const WIDTHS: [Case<'static>; 8] = [
     },
 ];
 
+/// A run that takes a line, and wants another one.
+pub const READING: Case<'static> = Case {
+    program: File::Bytes(
+        b"Array t -> 12; Array p -> 2; [ Main; t->0 = 5; read t p; print t->1, (char) t->2; read t p; ];",
+    ),
+    lines: &[b"Hallo there"],
+    said: &["5h"],
+    ..DONE
+};
+
 // What a run takes.
 const TAKEN: [Case<'static>; 4] = [
-    Case {
-        program: File::Bytes(
-            b"Array t -> 12; Array p -> 2; [ Main; t->0 = 5; read t p; print t->1, (char) t->2; read t p; ];",
-        ),
-        lines: &[b"Hallo there"],
-        said: &["5h"],
-        ..DONE
-    },
+    READING,
     Case {
         program: File::Bytes(b"Array t -> 3; Array p -> 2; [ Main; t->0 = 2; read t p; ];"),
         lines: &[b"x"],

@@ -1,7 +1,9 @@
-//! Databases that aren't translated, and what is said of them.
+//! Games that are translated and run, and databases that aren't translated, with what is said of
+//! them.
 use super::games::{Game, T};
+use super::plays::{ALL_STYLES, ASK, BLANK_LINE, RUN_OUT, SPOKEN_TO, VANISHED, WALK};
 use super::refusals::USAGE;
-use super::trying::{Case, File, NOTHING};
+use super::trying::{Case, File, NOTHING, Translated};
 
 // Nothing is stored.
 const REFUSED: Case<'static> = Case {
@@ -81,7 +83,14 @@ const LINES: [Case<'static>; 3] = [
     },
 ];
 
-const NO_GAMES: [Case<'static>; 2] = [
+const NO_GAMES: [Case<'static>; 3] = [
+    // The database is stored by the first call of the shelf, and loaded by the second one.
+    Case {
+        failing_loads: &[3],
+        status: 2,
+        said: &["cannot write t.inf\n"],
+        ..REFUSED
+    },
     Case {
         game: File::Bytes(b"0 0 0 0 255"),
         status: 4,
@@ -141,5 +150,77 @@ const NO_REQUESTS: [Case<'static>; 8] = [
     },
 ];
 
-/// Cases of `translate`.
+// ---- games that are translated
+
+const STORED: Translated<'static> = Translated {
+    translate: "translate t.dat g.inf",
+    run: "run g.inf",
+    play: WALK,
+};
+
+const LONG_WALK: Case<'static> = Case {
+    game: File::Of(LONG_LIGHT),
+    ..WALK
+};
+
+/// Plays whose games are translated, in styles and at both widths.
+pub const PLAYED: &[Translated<'static>] = &[
+    STORED,
+    Translated {
+        play: BLANK_LINE,
+        ..STORED
+    },
+    Translated {
+        translate: "translate t.dat g.inf words=32",
+        run: "run g.inf words=32",
+        play: LONG_WALK,
+    },
+    Translated {
+        play: Case {
+            game: File::Of(Game { light: 32_767, ..T }),
+            ..WALK
+        },
+        ..STORED
+    },
+    Translated {
+        translate: "translate t.dat g.inf style=y",
+        play: SPOKEN_TO,
+        ..STORED
+    },
+    Translated {
+        translate: "translate t.dat g.inf words=32 style=cv",
+        run: "run g.inf words=32",
+        play: VANISHED,
+    },
+    Translated {
+        translate: "translate t.dat g.inf style=ycv words=16",
+        play: ALL_STYLES,
+        ..STORED
+    },
+    Translated {
+        play: RUN_OUT,
+        ..STORED
+    },
+];
+
+/// A game with one entry in each list.
+pub const CELL: Translated<'static> = Translated {
+    play: Case {
+        game: File::Bytes(
+            b"0 0 0 0 0 5 0 0 3 -1 0 0\n0 0 0 0 0 0 0 0\n\"AUT\" \"ANY\"\n0 0 0 0 0 0 \"cell\"\n\
+              \"\"\n\"Rug\" 0\n\"\"\n1 1 1\n",
+        ),
+        lines: &[b"n"],
+        said: &[
+            "I'm in a cell\nObvious exits: none.\n\nI can also see: Rug\n",
+            ASK,
+            "\"n\" is a word I don't know. ",
+            ASK,
+        ],
+        ..WALK
+    },
+    ..STORED
+};
+
+/// Cases of `translate` that are refused.
 pub const ALL: [&[Case<'static>]; 4] = [&WIDE_NUMBERS, &LINES, &NO_GAMES, &NO_REQUESTS];

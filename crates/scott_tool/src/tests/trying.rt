@@ -103,12 +103,23 @@ pub fn console_of(alloc: Global, case: &Case<'_>) -> Result<MemoryConsole, Fail>
     Ok(MemoryConsole::new(alloc, lines, failing, 65_536)?)
 }
 
+// Gives a command to a shelf, with the lines of a case: its status, and the console after it.
+fn given(
+    alloc: Global,
+    command: &str,
+    case: &Case<'_>,
+    shelf: &mut MemoryShelf,
+) -> Result<(u8, MemoryConsole), Fail> {
+    let words = words_of(alloc, command)?;
+    let mut console = console_of(alloc, case)?;
+    let status = scott(alloc, &words, shelf, &mut console);
+    Ok((status, console))
+}
+
 /// Gives a command: its status, and the console and the shelf after it.
 pub fn answer_of(alloc: Global, case: &Case<'_>) -> Result<(u8, MemoryConsole, MemoryShelf), Fail> {
-    let words = words_of(alloc, case.command)?;
     let mut shelf = shelf_of(alloc, case)?;
-    let mut console = console_of(alloc, case)?;
-    let status = scott(alloc, &words, &mut shelf, &mut console);
+    let (status, console) = given(alloc, case.command, case, &mut shelf)?;
     Ok((status, console, shelf))
 }
 
@@ -124,6 +135,32 @@ fn expect_file<R: Abort + AllocGlobal>(
         None => assert_eq!(rt; shelf.file(name), None, "{name}"),
     }
     Ok(())
+}
+
+/// A play, and the two commands that translate its game and run what is stored.
+#[derive(Clone, Copy)]
+pub struct Translated<'a> {
+    pub translate: &'a str,
+    pub run: &'a str,
+    pub play: Case<'a>,
+}
+
+/// Plays a game, translates it without a word, and expects that the run of what is stored says what
+/// the play says. Gives the shelf with it.
+pub fn expect_translated<R: Abort + AllocGlobal>(
+    rt: &R,
+    case: &Translated<'_>,
+) -> Result<MemoryShelf, Fail> {
+    let alloc = rt.alloc();
+    let played = expect(rt, &case.play)?;
+    let mut shelf = shelf_of(alloc, &case.play)?;
+    let (status, silent) = given(alloc, case.translate, &NOTHING, &mut shelf)?;
+    assert_eq!(rt; status, 0, "{}", case.translate);
+    assert_eq!(rt; silent.said().len(), 0, "{}", case.translate);
+    let (status, console) = given(alloc, case.run, &case.play, &mut shelf)?;
+    assert_eq!(rt; status, 0, "{}", case.run);
+    assert_eq!(rt; console.said(), played.said(), "{}", case.run);
+    Ok(shelf)
 }
 
 /// Gives a command, and expects its status, what is said, and the files after it.
