@@ -23,7 +23,7 @@ use Rattle.trans_rows.specs.Shaped.{Shaped}
 
 -- ---- where a game opens
 
--- at the beginning, or behind a prompt in a state that is handed in
+-- at the beginning, or after a prompt in a state that is handed in
 abbrev pub opening_state : Database → Option State → State
 opening_state db None = start db
 opening_state db (Some s) = s

@@ -35,13 +35,13 @@ abbrev pub ActionsOwe : Width → Game → List DirectiveTree → Type 0
 ActionsOwe width game ds =
     (p : Program) → Translates width game.db → Serves width ds p → LineRow game p
 
--- how a round is called, as a whole and behind its prompt
+-- how a round is called, as a whole and after its prompt
 pub record RoundCalls : Type 0 where
   pub name : List ℕ
   pub whole : List ℤ
   pub rest : List ℤ
 
--- a round, the rest of a round behind its prompt, and all rounds from where the game opens
+-- a round, the rest of a round after its prompt, and all rounds from where the game opens
 pub record TurnRows (game : Game) (p : Program) (calls : RoundCalls) (begin : Position) : Type 0
   where
     pub whole_round : RoundRow game p calls.name calls.whole Fresh

@@ -24,7 +24,7 @@ use Rattle.trans_rows.specs.Calls.{CallEndsGame, CallWaits}
 use Rattle.trans_rows.specs.Rounds.{round}
 use Rattle.trans_rows.specs.Same.{EndsAlike}
 
--- ---- where a round begins, or goes on behind its prompt
+-- ---- where a round begins, or goes on after its prompt
 
 -- the lines that are left are typed ones, and the draws are 1 to 100
 pub record FairStage (w : Stage) : Type 0 where
@@ -72,7 +72,7 @@ abbrev pub round_room : ℕ
 round_room = 140
 
 -- A call with these arguments does a round from this position on: a whole one from where a round
--- begins, and the rest of one from behind its prompt.
+-- begins, and the rest of one from after its prompt.
 abbrev pub RoundRow : Game → Program → List ℕ → List ℤ → Position → Type 0
 RoundRow game p name values position = (s : State) (noun : List ℕ) (w : Stage) (d : ℕ)
     → round_room ≤ d → FairStage w → StandsFor game.db s noun w

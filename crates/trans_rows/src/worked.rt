@@ -22,7 +22,7 @@ pub fn hill_opens()
     ensures { HillOpens }
 {}
 
-/// A game that opens behind a prompt shows the state that it is given.
+/// A game that opens after a prompt shows the state that it is given.
 pub fn later_opens()
     ensures { LaterOpens }
 {}

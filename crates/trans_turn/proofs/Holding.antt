@@ -6,6 +6,7 @@ use Rattle.inform_codes.specs.declared.codes.Code.{Code}
 use Rattle.inform_codes.specs.Routines.{row_routine}
 use Rattle.inform_meaning.specs.Worlds.{Program}
 use Rattle.inform_logic.specs.Holding.{Has}
+use Rattle.inform_logic.proofs.Holding.{has}
 use Rattle.scott_types.specs.declared.endings.Position.{Position}
 use Rattle.trans_rows.specs.Programs.{Serves}
 use Rattle.trans_turn.specs.declared.names.TheConstants.{MAIN, ROUND, ADVANCE, DESCRIBE, AUTOMATIC, ASK, ANSWER, SAY_WORD, ASKED, I}
@@ -29,48 +30,17 @@ pub record HasRound (p : Program) (asked : ℕ) : Type 0 where
 pub has_round : {width : Width} (begin : Position) {p : Program}
     → Serves width (round_directives begin) p → HasRound p (first_asked begin)
 unfolding rounds_asking
-has_round begin serves = let all = serves.holds in record {
-  describe = record {
-    at = all.0.0;
-    there = all.0.1;
-    unseen = serves.notes_lines (codes "describe") all.0.0;
-  };
-  advance = record {
-    at = all.1.0.0;
-    there = all.1.0.1;
-    unseen = serves.notes_lines (codes "advance") all.1.0.0;
-  };
-  ask = record {
-    at = all.1.1.0.0;
-    there = all.1.1.0.1;
-    unseen = serves.notes_lines (codes "ask") all.1.1.0.0;
-  };
-  say_word = record {
-    at = all.1.1.1.0.0;
-    there = all.1.1.1.0.1;
-    unseen = serves.notes_lines (codes "say_word") all.1.1.1.0.0;
-  };
-  answer = record {
-    at = all.1.1.1.1.0.0;
-    there = all.1.1.1.1.0.1;
-    unseen = serves.notes_lines (codes "answer") all.1.1.1.1.0.0;
-  };
-  round = record {
-    at = all.1.1.1.1.1.0.0;
-    there = all.1.1.1.1.1.0.1;
-    unseen = serves.notes_lines (codes "round") all.1.1.1.1.1.0.0;
-  };
-  main = record {
-    at = all.1.1.1.1.1.1.0.0;
-    there = all.1.1.1.1.1.1.0.1;
-    unseen = serves.notes_lines (codes "main") all.1.1.1.1.1.1.0.0;
-  };
+has_round begin {p = p} serves = let all = serves.holds in record {
+  describe = has p all.0 (serves.notes_lines (codes "describe") _);
+  advance = has p all.1.0 (serves.notes_lines (codes "advance") _);
+  ask = has p all.1.1.0 (serves.notes_lines (codes "ask") _);
+  say_word = has p all.1.1.1.0 (serves.notes_lines (codes "say_word") _);
+  answer = has p all.1.1.1.1.0 (serves.notes_lines (codes "answer") _);
+  round = has p all.1.1.1.1.1.0 (serves.notes_lines (codes "round") _);
+  main = has p all.1.1.1.1.1.1.0 (serves.notes_lines (codes "main") _);
 }
 
 pub has_automatic : {width : Width} {p : Program} → Serves width no_group_directives p
     → Has p (written 0 AUTOMATIC [] BEFORE_GROUPS)
-has_automatic serves = record {
-  at = serves.holds.0.0;
-  there = serves.holds.0.1;
-  unseen = serves.notes_lines (codes "automatic") serves.holds.0.0;
-}
+has_automatic {p = p} serves =
+    has p serves.holds.0 (serves.notes_lines (codes "automatic") _)

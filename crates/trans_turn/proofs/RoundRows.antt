@@ -63,7 +63,7 @@ round_is game position s (line ∷ lines) ds = refl
 abbrev ended : Position → State → List ℕ → List Step → Traced Step RoundEnd
 ended position r ds es = traced es (record { position = position; state = r; draws = ds })
 
--- behind the prompt the rest of the round follows
+-- after the prompt the rest of the round follows
 prompted_is : (game : Game) (lines : List (List ℕ)) (r : State) (ds : List ℕ) (es : List Step)
     → after es (round game Line r lines ds) ≡ round_after game lines (ended Line r ds es)
 unfolding round
@@ -98,7 +98,7 @@ module _ (law : WordNamesLeastMatch) (game : Game) (p : Program) (asked : ℕ)
 
   module _ (s : State) (noun : List ℕ) (w : Stage) (fair : FairStage w)
       (stands : StandsFor game.db s noun w) where
-    -- behind the prompt
+    -- after the prompt
     rest : Body (pos 1) w (round game Line s w.lines w.draws)
     unfolding body_of
     rest = let t : Traced Step PlayEnd = round game Line s w.lines w.draws in

@@ -1,4 +1,4 @@
--- A round, whole or behind its prompt.
+-- A round, whole or after its prompt.
 use Rattle.std.proofs.Common.{◌≡◌, ◌∙◌, arith, ℕ, suc, ◌+◌, ◌-◌, ◌*◌, ◌≤◌, pos, true, List, [], ◌∷◌, ◌++◌, drop, length, codes, refl, sym, ap, subst, append-nil}
 use Rattle.std.specs.List.{AllByRecursion}
 use Rattle.adv_io.specs.Steps.{Step, Took, Traced, after, traced}
@@ -51,7 +51,7 @@ ask_statement = t.Call (codes "ask") v.NoArguments
 abbrev pub ask_loop : Loop
 ask_loop = while_loop is_again (statements (ask_statement ∷ []))
 
--- what is left of a round behind its prompt
+-- what is left of a round after its prompt
 abbrev pub rest_block : t.Statements
 rest_block = statements (ask_statement ∷ t.While is_again ask_loop.body ∷ [])
 
@@ -253,7 +253,7 @@ module _ (law : WordNamesLeastMatch) (game : Game) (p : Program) (asked : ℕ)
     Rest lines w t = PartOutcome t.value.position p (suc d) (TheBlock rest_block) scope w game.db t
         (rest_steps game.db (lines_spent lines t))
 
-    -- the rest of a round, behind its prompt
+    -- the rest of a round, after its prompt
     pub rest_of_round : (lines : List (List ℕ)) (s : State) (w : Stage)
         → AllByRecursion IsTyped lines → Ready game.db s w → w.lines ≡ lines
         → Rest lines w (round game Line s lines w.draws)

@@ -29,7 +29,7 @@ pub record RoundParts (game : Game) (p : Program) : Type 0 where
 abbrev pub round_calls : RoundCalls
 round_calls = record { name = codes "round"; whole = pos 0 ∷ []; rest = pos 1 ∷ [] }
 
--- a game opens where a round begins, or behind a prompt
+-- a game opens where a round begins, or after a prompt
 abbrev pub IsOpening : Position → Type 0
 IsOpening Fresh = Unit {0}
 IsOpening Line = Unit {0}

@@ -6,7 +6,7 @@ use trans_commands::laws::{commands_owe, search_owes};
 use trans_data::laws::{data_owes, helpers_owe, parts_are_served};
 use trans_rows::laws::plays_are_rounds;
 
-/// Where the routines that a round calls do what they owe, so do a round, the rest of one behind
+/// Where the routines that a round calls do what they owe, so do a round, the rest of one after
 /// its prompt, and all rounds.
 pub fn rounds_owe()
     ensures { RoundsOwe }

@@ -42,7 +42,7 @@ both_hold : (p : Program) (xs ys : List DirectiveTree) → Holds p xs → Holds 
 both_hold p [] ys h k = k
 both_hold p (x ∷ xs) ys h k = (h.0, both_hold p xs ys h.1 k)
 
--- a game opens where a round begins, or behind a prompt
+-- a game opens where a round begins, or after a prompt
 opens : (from : Option State) → IsOpening (opening_position from)
 opens None = tt
 opens (Some s) = tt

@@ -19,33 +19,23 @@ place_opening (Condition k j) = codes "line "
 place_opening (Opcode k j) = codes "line "
 
 abbrev pub place_line : Place → List ℕ
-place_line Carry = []
-place_line Treasures = []
-place_line Light = []
-place_line Home = []
 place_line (Verb k) = decimal k
 place_line (Condition k j) = decimal k
 place_line (Opcode k j) = decimal k
+place_line _ = []
 
 unfoldable pub place_part : Place → List ℕ
-place_part Carry = []
-place_part Treasures = []
-place_part Light = []
-place_part Home = []
 place_part (Verb k) = codes " verb"
 place_part (Condition k j) = codes " condition "
 place_part (Opcode k j) = codes " opcode "
+place_part _ = []
 
 abbrev pub place_number : Place → List ℕ
-place_number Carry = []
-place_number Treasures = []
-place_number Light = []
-place_number Home = []
-place_number (Verb k) = []
 place_number (Condition k j) = decimal j
 place_number (Opcode k j) = decimal j
+place_number _ = []
 
--- ---- a fault
+-- ---- a fault: one that is too wide has all seven pieces, and one that isn't built the first alone
 
 unfoldable pub before_value : List ℕ
 before_value = codes " is "
@@ -62,34 +52,28 @@ fault_opening (Wide place value) = place_opening place
 fault_opening Memory = []
 
 abbrev pub fault_line : TransFault → List ℕ
-fault_line (NotBuilt k) = []
 fault_line (Wide place value) = place_line place
-fault_line Memory = []
+fault_line _ = []
 
 abbrev pub fault_part : TransFault → List ℕ
-fault_part (NotBuilt k) = []
 fault_part (Wide place value) = place_part place
-fault_part Memory = []
+fault_part _ = []
 
 abbrev pub fault_number : TransFault → List ℕ
-fault_number (NotBuilt k) = []
 fault_number (Wide place value) = place_number place
-fault_number Memory = []
+fault_number _ = []
 
 abbrev pub fault_before_value : TransFault → List ℕ
-fault_before_value (NotBuilt k) = []
 fault_before_value (Wide place value) = before_value
-fault_before_value Memory = []
+fault_before_value _ = []
 
 abbrev pub fault_value : TransFault → List ℕ
-fault_value (NotBuilt k) = []
 fault_value (Wide place value) = signed_decimal value
-fault_value Memory = []
+fault_value _ = []
 
 abbrev pub fault_ending : TransFault → List ℕ
-fault_ending (NotBuilt k) = []
 fault_ending (Wide place value) = too_wide_ending
-fault_ending Memory = []
+fault_ending _ = []
 
 -- a place with its number; want of memory has no text
 abbrev pub fault_pieces : TransFault → List (List ℕ)

@@ -57,7 +57,7 @@ fn test_game(db: &Db, width: Width) -> Result<(), TransFault>
 }
 
 /// The text of an Inform program that is faithful to the database: a game in this style, with words
-/// of this width, which opens with the first round, or behind a prompt in the state that is handed
+/// of this width, which opens with the first round, or after a prompt in the state that is handed
 /// in, which fits the database.
 ///
 /// A game with lines is refused first, and one with a number that is too wide then: docs/INFORM.md.
