@@ -7,8 +7,8 @@
 # What one prover may take in megabytes, and what 1,000 lines of code take: megabytes of the disk, and
 # seconds of one processor.
 prover_memory=3000
-disk_per_1000=250
-seconds_per_1000=160
+disk_per_1000=320
+seconds_per_1000=200
 
 # How many crates are proved side by side on the way to the program, on average and at most: each waits for those
 # below it, so that more provers would have nothing to do.
