@@ -1,6 +1,6 @@
 //! Sources that are compiled, and databases that are decompiled.
-use super::games::{Game, T};
-use super::trying::{Case, File, NOTHING};
+use crate::games::{Game, T};
+use crate::trying::{Case, File, NOTHING};
 
 // The plain text of the game T: up to its items, from there to its one line, and what follows that.
 const FRONT: &str = "header {

@@ -1,6 +1,6 @@
 //! Sessions that are handed their lines.
-use super::games::T;
-use super::trying::{NOTHING, console_of};
+use crate::games::T;
+use crate::trying::{NOTHING, console_of};
 use adv_draws::Draws;
 use adv_io::Line;
 use scott_format::read_db;

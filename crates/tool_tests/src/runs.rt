@@ -1,5 +1,5 @@
 //! Runs of Inform programs.
-use super::trying::{Case, File, NOTHING};
+use crate::trying::{Case, File, NOTHING};
 
 /// A run that is done, and says nothing.
 pub const DONE: Case<'static> = Case {

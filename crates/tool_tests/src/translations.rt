@@ -1,9 +1,9 @@
 //! Games that are translated and run, and databases that aren't translated, with what is said of
 //! them.
-use super::games::{Game, T};
-use super::plays::{ALL_STYLES, ASK, BLANK_LINE, RUN_OUT, SPOKEN_TO, VANISHED, WALK};
-use super::refusals::USAGE;
-use super::trying::{Case, File, NOTHING, Translated};
+use crate::games::{Game, T};
+use crate::plays::{ALL_STYLES, ASK, BLANK_LINE, RUN_OUT, SPOKEN_TO, VANISHED, WALK};
+use crate::refusals::USAGE;
+use crate::trying::{Case, File, NOTHING, Translated};
 
 // Nothing is stored.
 const REFUSED: Case<'static> = Case {

@@ -1,14 +1,13 @@
 //! Each case of the tables, files that are too long, and consoles that fail.
-use super::games::T;
-use super::plays::{self, WALK};
-use super::refusals::{self, USAGE};
-use super::trying::{
-    Case, File, NOTHING, Translated, answer_of, console_of, expect, expect_translated,
+use crate::games::T;
+use crate::plays::{self, WALK};
+use crate::refusals::{self, USAGE};
+use crate::trying::{
+    Case, File, NOTHING, Translated, answer_of, expect, expect_translated, obeyed,
 };
-use super::{runs, sources, translations};
-use crate::program::scott;
-use crate::status_without_words;
+use crate::{runs, sources, translations};
 use adv_io::MemoryShelf;
+use scott_tool::status_without_words;
 use std::io::ErrorKind;
 use std::process::Abort;
 use std::test::Fail;
@@ -110,8 +109,8 @@ fn long_files_and_no_words_are_refused(rt: HostRuntime) -> Result<(), Fail> {
     };
     expect(&rt, &case)?;
     let mut shelf = MemoryShelf::new(Vec::new(alloc), Vec::new(alloc));
-    let mut console = console_of(alloc, &NOTHING)?;
-    assert_eq!(rt; scott(alloc, &[], &mut shelf, &mut console), 1);
+    let (status, console) = obeyed(alloc, &[], &NOTHING, &mut shelf)?;
+    assert_eq!(rt; status, 1);
     assert_eq!(rt; console.said(), USAGE.as_bytes());
     assert_eq!(rt; status_without_words(ErrorKind::OutOfMemory), 9);
     assert_eq!(rt; status_without_words(ErrorKind::InvalidData), 12);

@@ -1,7 +1,7 @@
 //! Commands that are refused.
-use super::games::T;
-use super::plays::{ASK, HALL};
-use super::trying::{Case, File, NOTHING};
+use crate::games::T;
+use crate::plays::{ASK, HALL};
+use crate::trying::{Case, File, NOTHING};
 
 pub const USAGE: &str =
     "usage: scott check F | compile S F | decompile F S | play F | translate F G | run G\n";

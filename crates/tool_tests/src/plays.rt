@@ -1,6 +1,6 @@
 //! Plays and reports that were worked out by hand.
-use super::games::{Game, T};
-use super::trying::{Case, File, NOTHING};
+use crate::games::{Game, T};
+use crate::trying::{Case, File, NOTHING};
 
 pub const HALL: &str = "I'm in a hall\nObvious exits: North.\n\nI can also see: Rug\n";
 

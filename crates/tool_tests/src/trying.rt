@@ -1,7 +1,7 @@
 //! Giving a command, and expecting what becomes of it.
-use super::games::Game;
-use crate::program::scott;
+use crate::games::Game;
 use adv_io::{Line, MemoryConsole, MemoryShelf, Shelf};
+use scott_tool::scott;
 use std::alloc::Global;
 use std::process::Abort;
 use std::test::Fail;
@@ -103,6 +103,18 @@ pub fn console_of(alloc: Global, case: &Case<'_>) -> Result<MemoryConsole, Fail>
     Ok(MemoryConsole::new(alloc, lines, failing, 65_536)?)
 }
 
+/// Has words obeyed on a shelf, with the lines of a case: their status, and the console after it.
+pub fn obeyed(
+    alloc: Global,
+    words: &[String],
+    case: &Case<'_>,
+    shelf: &mut MemoryShelf,
+) -> Result<(u8, MemoryConsole), Fail> {
+    let mut console = console_of(alloc, case)?;
+    let status = scott(alloc, words, shelf, &mut console);
+    Ok((status, console))
+}
+
 // Gives a command to a shelf, with the lines of a case: its status, and the console after it.
 fn given(
     alloc: Global,
@@ -111,9 +123,7 @@ fn given(
     shelf: &mut MemoryShelf,
 ) -> Result<(u8, MemoryConsole), Fail> {
     let words = words_of(alloc, command)?;
-    let mut console = console_of(alloc, case)?;
-    let status = scott(alloc, &words, shelf, &mut console);
-    Ok((status, console))
+    obeyed(alloc, &words, case, shelf)
 }
 
 /// Gives a command: its status, and the console and the shelf after it.
