@@ -3,6 +3,7 @@ use crate::games::game;
 use adv_io::MemoryConsole;
 use scott_actions::{Ran, perform};
 use scott_types::{State, Style};
+use std::process::Abort;
 use std::test::Fail;
 
 const HEADER: &[u8] = b"0 1 0 0 0 1 0 0 3 -1 1 0\n0 ";
@@ -10,43 +11,55 @@ const HEADER: &[u8] = b"0 1 0 0 0 1 0 0 3 -1 1 0\n0 ";
 const LISTS: &[u8] = b" \"AUT\" \"ANY\" 0 0 0 0 0 0 \"hall\" \"\" \"Hello\"
 \"Rug\" 0 \"Pin\" 255 \"\" 1 1 0";
 
+// An action's numbers, what becomes of it, and what it says.
+const ACTIONS: &[(&[u8], Ran, &str)] = &[
+    (b"0 0 0 0 0 0 0", Ran::Passed(false), ""),
+    (b"0 0 0 0 0 73 150", Ran::Passed(true), "Hello\n"),
+    (
+        b"655340 20 0 0 0 11932 11786",
+        Ran::Passed(false),
+        "32767\n",
+    ),
+    (b"0 0 0 0 0 12685 0", Ran::Passed(false), "gogo\n"),
+    (b"22 0 0 0 0 150 0", Ran::Not, ""),
+    (
+        b"0 0 0 0 0 9971 0",
+        Ran::Passed(false),
+        "I'm carrying:\nPin.\n[Saving is left out.]\n",
+    ),
+    (
+        b"0 0 0 0 0 9813 150",
+        Ran::Over(1),
+        "I've stored 0 treasures.  On a scale of 0 to 100, that rates 0.\nThe game is now over.\n",
+    ),
+    (
+        b"0 0 0 0 0 9150 0",
+        Ran::Passed(false),
+        "I am dead.\nI'm in a hall\nObvious exits: none.\n\nI can also see: Rug\n",
+    ),
+];
+
+// Expects what becomes of an action, and what it says.
+fn expect_done<R: Abort + AllocGlobal>(
+    rt: &R,
+    action: &[u8],
+    ran: Ran,
+    said: &str,
+) -> Result<(), Fail> {
+    let alloc = rt.alloc();
+    let db = game(alloc, &[HEADER, action, LISTS])?;
+    let mut state = State::start(&db);
+    let mut console = MemoryConsole::new(alloc, Vec::new(alloc), Vec::new(alloc), 500)?;
+    let answer = perform(&db, Style::plain(), &mut state, 0, b"go", &mut console);
+    assert_eq!(rt; answer, Ok(ran));
+    assert_eq!(rt; console.said(), said.as_bytes());
+    Ok(())
+}
+
 #[test]
 fn actions_do_their_opcodes(rt: HostRuntime) -> Result<(), Fail> {
-    let alloc = rt.alloc();
-    for (action, ran, said) in [
-        (b"0 0 0 0 0 0 0".as_slice(), Ran::Passed(false), ""),
-        (b"0 0 0 0 0 73 150", Ran::Passed(true), "Hello\n"),
-        (
-            b"655340 20 0 0 0 11932 11786",
-            Ran::Passed(false),
-            "32767\n",
-        ),
-        (b"0 0 0 0 0 12685 0", Ran::Passed(false), "gogo\n"),
-        (b"22 0 0 0 0 150 0", Ran::Not, ""),
-        (
-            b"0 0 0 0 0 9971 0",
-            Ran::Passed(false),
-            "I'm carrying:\nPin.\n[Saving is left out.]\n",
-        ),
-        (
-            b"0 0 0 0 0 9813 150",
-            Ran::Over(1),
-            "I've stored 0 treasures.  On a scale of 0 to 100, that rates 0.\nThe game is now over.\n",
-        ),
-        (
-            b"0 0 0 0 0 9150 0",
-            Ran::Passed(false),
-            "I am dead.\nI'm in a hall\nObvious exits: none.\n\nI can also see: Rug\n",
-        ),
-    ] {
-        let db = game(alloc, &[HEADER, action, LISTS])?;
-        let mut state = State::start(&db);
-        let mut console = MemoryConsole::new(alloc, Vec::new(alloc), Vec::new(alloc), 500)?;
-        assert_eq!(rt;
-            perform(&db, Style::plain(), &mut state, 0, b"go", &mut console),
-            Ok(ran)
-        );
-        assert_eq!(rt; console.said(), said.as_bytes());
+    for (action, ran, said) in ACTIONS {
+        expect_done(&rt, action, *ran, said)?;
     }
     Ok(())
 }

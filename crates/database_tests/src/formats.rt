@@ -1,6 +1,7 @@
 //! Texts of databases that are read and written back, and those that are refused.
 use scott_format::{Field, FormatFault, read_db, write_db};
 use std::alloc::{AllocError, Global};
+use std::process::Abort;
 use std::test::Fail;
 
 const HEADER: &[u8] = b"0 0 0 6 2 5 1 0 3 -1 0 0\n";
@@ -41,24 +42,30 @@ fn game(
     Ok(bytes)
 }
 
+// Expects that a game of these parts is read, and written back as this text.
+fn expect_written<R: Abort + AllocGlobal>(
+    rt: &R,
+    item: &[u8],
+    trailer: &[u8],
+    text: &[u8],
+) -> Result<(), Fail> {
+    let bytes = game(rt.alloc(), HEADER, ACTION, item, trailer)?;
+    assert!(rt; bytes.len() <= 1048576);
+    let db = read_db(rt.alloc(), &bytes)?;
+    let written = write_db(rt.alloc(), &db)?;
+    assert_eq!(rt; written.as_slice(), text);
+    Ok(())
+}
+
 #[test]
 fn texts_are_read_and_written_back(rt: HostRuntime) -> Result<(), Fail> {
     let plain = game(rt.alloc(), HEADER, ACTION, ITEM, TRAILER)?;
     assert_eq!(rt; plain.len(), 209);
+    expect_written(&rt, ITEM, TRAILER, &plain)?;
+    expect_written(&rt, ITEM, b"416 1", &plain)?;
+    expect_written(&rt, ITEM, b"416 1 +00 0 and more", &plain)?;
     let carried = game(rt.alloc(), HEADER, ACTION, b"\"Rug\" 255\n", TRAILER)?;
-    for (item, trailer, text) in [
-        (ITEM, TRAILER, &plain),
-        (ITEM, b"416 1".as_slice(), &plain),
-        (ITEM, b"416 1 +00 0 and more".as_slice(), &plain),
-        (b"  \"Rug\"\r\n-1 ".as_slice(), TRAILER, &carried),
-    ] {
-        let bytes = game(rt.alloc(), HEADER, ACTION, item, trailer)?;
-        assert!(rt; bytes.len() <= 1048576);
-        let db = read_db(rt.alloc(), &bytes)?;
-        let written = write_db(rt.alloc(), &db)?;
-        assert_eq!(rt; written.as_slice(), text.as_slice());
-    }
-    Ok(())
+    expect_written(&rt, b"  \"Rug\"\r\n-1 ", TRAILER, &carried)
 }
 
 #[test]
@@ -91,86 +98,89 @@ fn parts_are_in_their_places(rt: HostRuntime) -> Result<(), Fail> {
     Ok(())
 }
 
+// A header, an action line, a trailer, and the first fault of the game that they make.
+const REFUSED: &[(&[u8], &[u8], &[u8], FormatFault)] = &[
+    (
+        b"0 0 0 6 255 5 1 0 3 -1 0 0\n",
+        ACTION,
+        TRAILER,
+        FormatFault::Limit(Field::HighestRoom, 255),
+    ),
+    (
+        b"0 255 x",
+        ACTION,
+        TRAILER,
+        FormatFault::Limit(Field::HighestItem, 255),
+    ),
+    (
+        b"0 0 -1 0 0 0 3 0 3 -1 0 0\n",
+        ACTION,
+        TRAILER,
+        FormatFault::Limit(Field::HighestAction, -1),
+    ),
+    (
+        b"0 0 0 1000 ",
+        ACTION,
+        TRAILER,
+        FormatFault::Limit(Field::HighestWord, 1000),
+    ),
+    (
+        b"0 0 0 6 2 5 3 0 3 -1 0 0\n",
+        ACTION,
+        TRAILER,
+        FormatFault::NoStart(3),
+    ),
+    (
+        b"0 0 0 6 2 5 1 0 0 -1 0 0\n",
+        ACTION,
+        TRAILER,
+        FormatFault::Limit(Field::WordLength, 0),
+    ),
+    (
+        b"0 0 0 6 2 5 1 0 3 -2 0 0\n",
+        ACTION,
+        TRAILER,
+        FormatFault::Limit(Field::LightTime, -2),
+    ),
+    (
+        b"0 0 0 6 2 5 1 0 3 -1 1000 0\n",
+        ACTION,
+        TRAILER,
+        FormatFault::Limit(Field::HighestMessage, 1000),
+    ),
+    (b" x", ACTION, TRAILER, FormatFault::NoNumber(1)),
+    (
+        HEADER,
+        b"0 0 0 0 0 0 0 -1\n",
+        TRAILER,
+        FormatFault::NegativeAction(0),
+    ),
+    (
+        HEADER,
+        b"0 0 0 0 0 0 0 0 0\n",
+        TRAILER,
+        FormatFault::NoQuote(41),
+    ),
+    (
+        HEADER,
+        ACTION,
+        b"416 1 2147483648",
+        FormatFault::BigNumber(207),
+    ),
+    (HEADER, ACTION, b"416 x", FormatFault::NoNumber(205)),
+];
+
+// Expects that a text is refused, for this fault.
+fn expect_refused<R: Abort + AllocGlobal>(rt: &R, bytes: &[u8], fault: FormatFault) {
+    assert!(rt; bytes.len() <= 1048576);
+    assert_eq!(rt; read_db(rt.alloc(), bytes).err(), Some(fault));
+}
+
 #[test]
 fn parts_are_refused(rt: HostRuntime) -> Result<(), Fail> {
-    for (header, action, trailer, fault) in [
-        (
-            b"0 0 0 6 255 5 1 0 3 -1 0 0\n".as_slice(),
-            ACTION,
-            TRAILER,
-            FormatFault::Limit(Field::HighestRoom, 255),
-        ),
-        (
-            b"0 255 x".as_slice(),
-            ACTION,
-            TRAILER,
-            FormatFault::Limit(Field::HighestItem, 255),
-        ),
-        (
-            b"0 0 -1 0 0 0 3 0 3 -1 0 0\n".as_slice(),
-            ACTION,
-            TRAILER,
-            FormatFault::Limit(Field::HighestAction, -1),
-        ),
-        (
-            b"0 0 0 1000 ".as_slice(),
-            ACTION,
-            TRAILER,
-            FormatFault::Limit(Field::HighestWord, 1000),
-        ),
-        (
-            b"0 0 0 6 2 5 3 0 3 -1 0 0\n".as_slice(),
-            ACTION,
-            TRAILER,
-            FormatFault::NoStart(3),
-        ),
-        (
-            b"0 0 0 6 2 5 1 0 0 -1 0 0\n".as_slice(),
-            ACTION,
-            TRAILER,
-            FormatFault::Limit(Field::WordLength, 0),
-        ),
-        (
-            b"0 0 0 6 2 5 1 0 3 -2 0 0\n".as_slice(),
-            ACTION,
-            TRAILER,
-            FormatFault::Limit(Field::LightTime, -2),
-        ),
-        (
-            b"0 0 0 6 2 5 1 0 3 -1 1000 0\n".as_slice(),
-            ACTION,
-            TRAILER,
-            FormatFault::Limit(Field::HighestMessage, 1000),
-        ),
-        (b" x".as_slice(), ACTION, TRAILER, FormatFault::NoNumber(1)),
-        (
-            HEADER,
-            b"0 0 0 0 0 0 0 -1\n".as_slice(),
-            TRAILER,
-            FormatFault::NegativeAction(0),
-        ),
-        (
-            HEADER,
-            b"0 0 0 0 0 0 0 0 0\n".as_slice(),
-            TRAILER,
-            FormatFault::NoQuote(41),
-        ),
-        (
-            HEADER,
-            ACTION,
-            b"416 1 2147483648".as_slice(),
-            FormatFault::BigNumber(207),
-        ),
-        (
-            HEADER,
-            ACTION,
-            b"416 x".as_slice(),
-            FormatFault::NoNumber(205),
-        ),
-    ] {
+    for (header, action, trailer, fault) in REFUSED {
         let bytes = game(rt.alloc(), header, action, ITEM, trailer)?;
-        assert!(rt; bytes.len() <= 1048576);
-        assert_eq!(rt; read_db(rt.alloc(), &bytes).err(), Some(fault));
+        expect_refused(&rt, &bytes, *fault);
     }
     Ok(())
 }
@@ -179,16 +189,7 @@ fn parts_are_refused(rt: HostRuntime) -> Result<(), Fail> {
 fn cut_comment_is_open(rt: HostRuntime) -> Result<(), Fail> {
     let mut bytes = game(rt.alloc(), HEADER, ACTION, ITEM, TRAILER)?;
     bytes.truncate(199);
-    assert!(rt; bytes.len() <= 1048576);
-    assert_eq!(rt;
-        read_db(rt.alloc(), &bytes).err(),
-        Some(FormatFault::OpenString(198))
-    );
-    bytes.clear();
-    assert!(rt; bytes.len() <= 1048576);
-    assert_eq!(rt;
-        read_db(rt.alloc(), &bytes).err(),
-        Some(FormatFault::NoNumber(0))
-    );
+    expect_refused(&rt, &bytes, FormatFault::OpenString(198));
+    expect_refused(&rt, b"", FormatFault::NoNumber(0));
     Ok(())
 }

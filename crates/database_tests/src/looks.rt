@@ -38,23 +38,32 @@ fn expect_said(rt: &impl Abort, console: &MemoryConsole, said: &str) {
     assert_eq!(rt; console.said(), said.as_bytes());
 }
 
+// A state in a room, that is dark or not.
+fn standing(db: &Db, room: u8, dark: bool) -> State {
+    let mut state = State::start(db);
+    state.room = room;
+    state.flags[15] = dark;
+    state
+}
+
+// A room, whether it is dark, and what a look says.
+const LOOKS: &[(u8, bool, &str)] = &[
+    (
+        1,
+        false,
+        "I'm in a hall\nObvious exits: South, Up.\n\nI can also see: *Gold bar* - Lamp\n",
+    ),
+    (2, false, "A cave\nObvious exits: none.\n"),
+    (2, true, "I can't see. It is too dark!\n"),
+];
+
 #[test]
 fn looks_are_said(rt: HostRuntime) -> Result<(), Fail> {
     let alloc = rt.alloc();
     let db = hall(alloc, (b"-1", b"0"))?;
-    for (room, dark, said) in [
-        (
-            1,
-            false,
-            "I'm in a hall\nObvious exits: South, Up.\n\nI can also see: *Gold bar* - Lamp\n",
-        ),
-        (2, false, "A cave\nObvious exits: none.\n"),
-        (2, true, "I can't see. It is too dark!\n"),
-    ] {
-        let mut state = State::start(&db);
+    for (room, dark, said) in LOOKS {
+        let state = standing(&db, *room, *dark);
         let mut console = console(alloc)?;
-        state.room = room;
-        state.flags[15] = dark;
         assert!(rt; state.fits(&db));
         assert_eq!(rt; look(&db, Style::plain(), &state, &mut console), Ok(()));
         expect_said(&rt, &console, said);
@@ -62,23 +71,22 @@ fn looks_are_said(rt: HostRuntime) -> Result<(), Fail> {
     Ok(())
 }
 
+// Whether the room is dark, and what is said.
+const LOOKS_AFTER: &[(bool, &str)] = &[
+    (false, "Woe! A cave\nObvious exits: none.\n"),
+    (true, "Woe! I can't see. It is too dark!\n"),
+];
+
 #[test]
 fn a_text_is_said_before_a_look(rt: HostRuntime) -> Result<(), Fail> {
     let alloc = rt.alloc();
     let db = hall(alloc, (b"-1", b"0"))?;
-    for (dark, said) in [
-        (false, "Woe! A cave\nObvious exits: none.\n"),
-        (true, "Woe! I can't see. It is too dark!\n"),
-    ] {
-        let mut state = State::start(&db);
+    for (dark, said) in LOOKS_AFTER {
+        let state = standing(&db, 2, *dark);
         let mut console = console(alloc)?;
-        state.room = 2;
-        state.flags[15] = dark;
         assert!(rt; state.fits(&db));
-        assert_eq!(rt;
-            look_after(b"Woe! ", &db, Style::plain(), &state, &mut console),
-            Ok(())
-        );
+        let answer = look_after(b"Woe! ", &db, Style::plain(), &state, &mut console);
+        assert_eq!(rt; answer, Ok(()));
         expect_said(&rt, &console, said);
     }
     Ok(())
@@ -167,51 +175,52 @@ fn what_is_carried_is_said(rt: HostRuntime) -> Result<(), Fail> {
     Ok(())
 }
 
+// The treasure room, whether that ends the game, and what is said.
+const SCORES: &[(&[u8], bool, &str)] = &[
+    (
+        b"0",
+        false,
+        "I've stored 0 treasures.  On a scale of 0 to 100, that rates 0.\n",
+    ),
+    (
+        b"1",
+        true,
+        "I've stored 1 treasures.  On a scale of 0 to 100, that rates 100.\nWell done.\nThe game is now over.\n",
+    ),
+];
+
 #[test]
 fn scores_are_said(rt: HostRuntime) -> Result<(), Fail> {
     let alloc = rt.alloc();
-    for (home, all, said) in [
-        (
-            b"0".as_slice(),
-            false,
-            "I've stored 0 treasures.  On a scale of 0 to 100, that rates 0.\n",
-        ),
-        (
-            b"1",
-            true,
-            "I've stored 1 treasures.  On a scale of 0 to 100, that rates 100.\nWell done.\nThe game is now over.\n",
-        ),
-    ] {
+    for (home, all, said) in SCORES {
         let db = hall(alloc, (b"-1", home))?;
         let mut console = console(alloc)?;
-        assert_eq!(rt;
-            score(&db, Style::plain(), &State::start(&db), &mut console),
-            Ok(all)
-        );
+        let answer = score(&db, Style::plain(), &State::start(&db), &mut console);
+        assert_eq!(rt; answer, Ok(*all));
         expect_said(&rt, &console, said);
     }
     Ok(())
 }
 
+// How long the light lasts before a turn and after it, whether it is out, and what is said.
+const LIGHTS: &[(&[u8], i32, bool, &str)] = &[
+    (b"-1", -1, false, ""),
+    (b"26", 25, false, ""),
+    (b"21", 20, false, "Your light is growing dim. "),
+    (b"1", 0, true, "Your light has run out. "),
+];
+
 #[test]
 fn light_burns_down(rt: HostRuntime) -> Result<(), Fail> {
     let alloc = rt.alloc();
-    for (light, left, out, said) in [
-        (b"-1".as_slice(), -1, false, ""),
-        (b"26", 25, false, ""),
-        (b"21", 20, false, "Your light is growing dim. "),
-        (b"1", 0, true, "Your light has run out. "),
-    ] {
+    for (light, left, out, said) in LIGHTS {
         let db = hall(alloc, (light, b"0"))?;
         let mut state = State::start(&db);
         let mut console = console(alloc)?;
-        assert_eq!(rt;
-            count_light(&db, Style::plain(), &mut state, &mut console),
-            Ok(())
-        );
+        let answer = count_light(&db, Style::plain(), &mut state, &mut console);
+        assert_eq!(rt; answer, Ok(()));
         expect_said(&rt, &console, said);
-        assert_eq!(rt; state.light, left, "to {left}");
-        assert_eq!(rt; state.flags[16], out, "to {left}");
+        assert_eq!(rt; (state.light, state.flags[16]), (*left, *out));
     }
     Ok(())
 }
@@ -241,17 +250,20 @@ fn players_are_spoken_to(rt: HostRuntime) -> Result<(), Fail> {
     Ok(())
 }
 
+// How long the light lasts, whether a spent one goes, where it is after a turn, and what is said.
+const COUNTED: &[(&[u8], bool, u8, &str)] = &[
+    (b"26", true, 1, ""),
+    (b"25", true, 1, "Your light runs out in 24 turns. "),
+    (b"21", false, 1, "Your light runs out in 20 turns. "),
+    (b"2", true, 1, "Your light runs out in 1 turns. "),
+    (b"1", false, 1, "Your light has run out. "),
+    (b"1", true, 0, "Your light has run out. "),
+];
+
 #[test]
 fn turns_of_a_light_are_counted(rt: HostRuntime) -> Result<(), Fail> {
     let alloc = rt.alloc();
-    for (light, vanish, place, said) in [
-        (b"26".as_slice(), true, 1, ""),
-        (b"25", true, 1, "Your light runs out in 24 turns. "),
-        (b"21", false, 1, "Your light runs out in 20 turns. "),
-        (b"2", true, 1, "Your light runs out in 1 turns. "),
-        (b"1", false, 1, "Your light has run out. "),
-        (b"1", true, 0, "Your light has run out. "),
-    ] {
+    for (light, vanish, place, said) in COUNTED {
         let db = hall(alloc, (light, b"0"))?;
         let mut state = State::start(&db);
         state.redraw = false;
@@ -259,11 +271,11 @@ fn turns_of_a_light_are_counted(rt: HostRuntime) -> Result<(), Fail> {
         let style = Style {
             you: false,
             counted: true,
-            vanish,
+            vanish: *vanish,
         };
         assert_eq!(rt; count_light(&db, style, &mut state, &mut console), Ok(()));
         expect_said(&rt, &console, said);
-        assert_eq!(rt; state.places.as_slice().get(9).copied(), Some(place));
+        assert_eq!(rt; state.places.as_slice().get(9).copied(), Some(*place));
         assert!(rt; !state.redraw);
     }
     Ok(())

@@ -3,37 +3,40 @@ use adv_text::{Memory, Scan, TextFault, put_integer, put_number, put_quoted};
 use std::alloc::Global;
 use std::test::Fail;
 
+// Texts, the number that each begins with, and the place after it.
+const NUMBERS: &[(&[u8], i32, usize)] = &[
+    (b"-2147483648x", -2147483648, 11),
+    (b"2147483647", 2147483647, 10),
+    (b"\t\r\n +007 8", 7, 8),
+    (b"-0-1", 0, 2),
+    (b" 30415 2", 30415, 6),
+    (b"\n999999 \"", 999999, 7),
+    (b" 1000000 ", 1000000, 8),
+];
+
 #[test]
 fn numbers_are_read(rt: HostRuntime) {
-    for (bytes, number, at) in [
-        (b"-2147483648x".as_slice(), -2147483648, 11),
-        (b"2147483647".as_slice(), 2147483647, 10),
-        (b"\t\r\n +007 8".as_slice(), 7, 8),
-        (b"-0-1".as_slice(), 0, 2),
-        (b" 30415 2".as_slice(), 30415, 6),
-        (b"\n999999 \"".as_slice(), 999999, 7),
-        (b" 1000000 ".as_slice(), 1000000, 8),
-    ] {
+    for (bytes, number, at) in NUMBERS {
         let mut scan = Scan::new(bytes);
-        assert_eq!(rt; scan.number(), Ok(number));
-        assert_eq!(rt; scan.at(), at);
+        assert_eq!(rt; scan.number(), Ok(*number));
+        assert_eq!(rt; scan.at(), *at);
     }
 }
 
+// Texts that begin with no number, and the fault of each.
+const NO_NUMBERS: &[(&[u8], TextFault)] = &[
+    (b" -", TextFault::NoNumber(1)),
+    (b"", TextFault::NoNumber(0)),
+    (b"  \"1\"", TextFault::NoNumber(2)),
+    (b"2147483648", TextFault::BigNumber(0)),
+    (b" -99999999999999999999999x", TextFault::BigNumber(1)),
+];
+
 #[test]
 fn numbers_are_refused(rt: HostRuntime) {
-    for (bytes, fault) in [
-        (b" -".as_slice(), TextFault::NoNumber(1)),
-        (b"".as_slice(), TextFault::NoNumber(0)),
-        (b"  \"1\"".as_slice(), TextFault::NoNumber(2)),
-        (b"2147483648".as_slice(), TextFault::BigNumber(0)),
-        (
-            b" -99999999999999999999999x".as_slice(),
-            TextFault::BigNumber(1),
-        ),
-    ] {
+    for (bytes, fault) in NO_NUMBERS {
         let mut scan = Scan::new(bytes);
-        assert_eq!(rt; scan.number(), Err(fault));
+        assert_eq!(rt; scan.number(), Err(*fault));
         assert_eq!(rt; scan.at(), 0);
     }
 }
@@ -47,30 +50,36 @@ fn strings_are_read(rt: HostRuntime) -> Result<(), Fail> {
     Ok(())
 }
 
+// Texts, the string that each begins with, and the place after it.
+const STRINGS: &[(&[u8], &[u8], usize)] = &[
+    (b"\n\"hall\" 2", b"hall", 7),
+    (b" \"\"\n", b"", 3),
+    (b" \"a\"\"b\" ", b"a\"b", 7),
+    (b" \"a\"", b"a", 4),
+];
+
 #[test]
 fn plain_strings_are_read(rt: HostRuntime) -> Result<(), Fail> {
-    for (bytes, text, at) in [
-        (b"\n\"hall\" 2".as_slice(), b"hall".as_slice(), 7),
-        (b" \"\"\n".as_slice(), b"".as_slice(), 3),
-        (b" \"a\"\"b\" ".as_slice(), b"a\"b".as_slice(), 7),
-        (b" \"a\"".as_slice(), b"a".as_slice(), 4),
-    ] {
+    for (bytes, text, at) in STRINGS {
         let mut scan = Scan::new(bytes);
-        assert_eq!(rt; scan.quoted(rt.alloc())?.as_slice(), text);
-        assert_eq!(rt; scan.at(), at);
+        assert_eq!(rt; scan.quoted(rt.alloc())?.as_slice(), *text);
+        assert_eq!(rt; scan.at(), *at);
     }
     Ok(())
 }
 
+// Texts that begin with no string, and the fault of each.
+const NO_STRINGS: &[(&[u8], TextFault)] = &[
+    (b" x", TextFault::NoQuote(1)),
+    (b"", TextFault::NoQuote(0)),
+    (b"\n\"ab\"\"", TextFault::OpenString(1)),
+];
+
 #[test]
 fn strings_are_refused(rt: HostRuntime) {
-    for (bytes, fault) in [
-        (b" x".as_slice(), TextFault::NoQuote(1)),
-        (b"".as_slice(), TextFault::NoQuote(0)),
-        (b"\n\"ab\"\"".as_slice(), TextFault::OpenString(1)),
-    ] {
+    for (bytes, fault) in NO_STRINGS {
         let mut scan = Scan::new(bytes);
-        assert!(rt; scan.quoted(rt.alloc()) == Err(fault));
+        assert!(rt; scan.quoted(rt.alloc()) == Err(*fault));
         assert_eq!(rt; scan.at(), 0);
     }
 }

@@ -39,29 +39,29 @@ fn looked_up(alloc: Global, db: &Db, column: Column, word: &str) -> Result<Optio
     Ok(index.find(word.as_bytes()))
 }
 
+// A column, a word, and the base entry that it names.
+const NAMED: &[(Column, &str, Option<u16>)] = &[
+    (Column::Verbs, "go", Some(2)),
+    (Column::Verbs, "WALKING", Some(2)),
+    (Column::Verbs, "auto", None),
+    (Column::Verbs, "run", None),
+    (Column::Verbs, "", None),
+    (Column::Verbs, "loo", Some(5)),
+    (Column::Verbs, "lo", None),
+    (Column::Verbs, "peer", Some(6)),
+    (Column::Verbs, "any", Some(11)),
+    (Column::Nouns, "any", None),
+    (Column::Nouns, "lantern", Some(7)),
+    (Column::Nouns, "nothing", Some(9)),
+];
+
 #[test]
 fn words_name_base_entries(rt: HostRuntime) -> Result<(), Fail> {
     let db = worded(rt.alloc())?;
-    for (column, word, entry) in [
-        (Column::Verbs, "go", Some(2)),
-        (Column::Verbs, "WALKING", Some(2)),
-        (Column::Verbs, "auto", None),
-        (Column::Verbs, "run", None),
-        (Column::Verbs, "", None),
-        (Column::Verbs, "loo", Some(5)),
-        (Column::Verbs, "lo", None),
-        (Column::Verbs, "peer", Some(6)),
-        (Column::Verbs, "any", Some(11)),
-        (Column::Nouns, "any", None),
-        (Column::Nouns, "lantern", Some(7)),
-        (Column::Nouns, "nothing", Some(9)),
-    ] {
-        assert_eq!(rt; which(&db, column, word.as_bytes()), entry, "at {word}");
-        assert_eq!(rt;
-            looked_up(rt.alloc(), &db, column, word)?,
-            entry,
-            "at {word}"
-        );
+    for (column, word, entry) in NAMED {
+        assert_eq!(rt; which(&db, *column, word.as_bytes()), *entry, "at {word}");
+        let found = looked_up(rt.alloc(), &db, *column, word)?;
+        assert_eq!(rt; found, *entry, "at {word}");
     }
     Ok(())
 }
@@ -78,16 +78,19 @@ fn first_number_of_a_word_stays(rt: HostRuntime) -> Result<(), Fail> {
     Ok(())
 }
 
+// A column, a word, and the base entry that a database finds.
+const BASES: &[(Column, &str, Option<u16>)] = &[
+    (Column::Nouns, "NORTHWARD", Some(1)),
+    (Column::Nouns, "lant", Some(7)),
+    (Column::Nouns, "any", None),
+    (Column::Verbs, "walk", Some(2)),
+];
+
 #[test]
 fn a_database_is_a_vocabulary(rt: HostRuntime) -> Result<(), Fail> {
     let db = worded(rt.alloc())?;
-    for (column, word, base) in [
-        (Column::Nouns, "NORTHWARD", Some(1)),
-        (Column::Nouns, "lant", Some(7)),
-        (Column::Nouns, "any", None),
-        (Column::Verbs, "walk", Some(2)),
-    ] {
-        assert_eq!(rt; db.named(column, word.as_bytes()), base, "at {word}");
+    for (column, word, base) in BASES {
+        assert_eq!(rt; db.named(*column, word.as_bytes()), *base, "at {word}");
     }
     Ok(())
 }
@@ -118,51 +121,51 @@ fn nouns_have_texts(rt: HostRuntime) -> Result<(), Fail> {
     Ok(())
 }
 
+// A line, where its two words begin and how long they are, and the text of the noun.
+const LINES: &[(&str, Option<(u8, u8)>, Option<(u8, u8)>, &str)] = &[
+    ("", None, None, ""),
+    ("  ", None, None, ""),
+    ("n", Some((0, 1)), None, ""),
+    (" look  ", Some((1, 4)), None, ""),
+    (" Get LAMP now", Some((1, 3)), Some((5, 4)), "lamp"),
+];
+
 #[test]
 fn lines_split_into_words(rt: HostRuntime) {
-    for (typed, first, second, noun) in [
-        ("", None, None, ""),
-        ("  ", None, None, ""),
-        ("n", Some((0, 1)), None, ""),
-        (" look  ", Some((1, 4)), None, ""),
-        (" Get LAMP now", Some((1, 3)), Some((5, 4)), "lamp"),
-    ] {
+    for (typed, first, second, noun) in LINES {
         let line = Line::of(typed.as_bytes());
         let words = split(&line);
-        assert_eq!(rt; words.first, first, "at {typed}");
-        assert_eq!(rt; words.second, second, "at {typed}");
+        assert_eq!(rt; words.first, *first, "at {typed}");
+        assert_eq!(rt; words.second, *second, "at {typed}");
         assert_eq!(rt; typed_noun(&line), noun.as_bytes(), "at {typed}");
         if let Some((start, length)) = words.second {
-            assert_eq!(rt;
-                word_at(&line, start, length),
-                noun.as_bytes(),
-                "at {typed}"
-            );
+            let word = word_at(&line, start, length);
+            assert_eq!(rt; word, noun.as_bytes(), "at {typed}");
         }
     }
 }
 
+// A line, and the command that it is.
+const COMMANDS: &[(&str, Heard)] = &[
+    ("  ", Heard::Blank),
+    ("  w ", Heard::Command(1, Some(4))),
+    ("North lamp", Heard::Command(1, Some(1))),
+    ("n lamp", Heard::Unknown(0, 1)),
+    ("i", Heard::Unknown(0, 1)),
+    ("walk north", Heard::Command(2, Some(1))),
+    (" peer lant up", Heard::Command(6, Some(7))),
+    ("look xyzzy", Heard::Command(5, None)),
+    ("go", Heard::Command(2, None)),
+    ("lamp get", Heard::Unknown(0, 4)),
+    (" xyzzy rug", Heard::Unknown(1, 5)),
+];
+
 #[test]
 fn lines_are_commands(rt: HostRuntime) -> Result<(), Fail> {
     let db = worded(rt.alloc())?;
-    for (typed, heard) in [
-        ("  ", Heard::Blank),
-        ("  w ", Heard::Command(1, Some(4))),
-        ("North lamp", Heard::Command(1, Some(1))),
-        ("n lamp", Heard::Unknown(0, 1)),
-        ("i", Heard::Unknown(0, 1)),
-        ("walk north", Heard::Command(2, Some(1))),
-        (" peer lant up", Heard::Command(6, Some(7))),
-        ("look xyzzy", Heard::Command(5, None)),
-        ("go", Heard::Command(2, None)),
-        ("lamp get", Heard::Unknown(0, 4)),
-        (" xyzzy rug", Heard::Unknown(1, 5)),
-    ] {
-        assert_eq!(rt;
-            command(&db, &Line::of(typed.as_bytes())),
-            heard,
-            "at {typed}"
-        );
+    for (typed, heard) in COMMANDS {
+        let line = Line::of(typed.as_bytes());
+        assert_eq!(rt; command(&db, &line), *heard, "at {typed}");
     }
     Ok(())
 }
@@ -176,28 +179,16 @@ fn six_nouns_are_directions(rt: HostRuntime) {
 
 #[test]
 fn letters_are_lower_case_and_few(rt: HostRuntime) {
-    for (size, word, lower) in [(3, "LAMP", "lam"), (20, "Lamp", "lamp"), (0, "lamp", "")] {
-        assert_eq!(rt;
-            letters(size, word.as_bytes()).as_slice(),
-            lower.as_bytes(),
-            "at {word}"
-        );
-    }
+    assert_eq!(rt; letters(3, b"LAMP").as_slice(), b"lam".as_slice());
+    assert_eq!(rt; letters(20, b"Lamp").as_slice(), b"lamp".as_slice());
+    assert_eq!(rt; letters(0, b"lamp").as_slice(), b"".as_slice());
 }
 
 #[test]
 fn letters_that_count_match(rt: HostRuntime) {
-    for (size, word, typed, same) in [
-        (3, "LAMP", "lamb", true),
-        (4, "LAMP", "lamb", false),
-        (20, "LAMP", "lamp", true),
-        (20, "LAMP", "lamps", false),
-        (3, "", "", false),
-    ] {
-        assert_eq!(rt;
-            is_typed(size, word.as_bytes(), typed.as_bytes()),
-            same,
-            "at {word}"
-        );
-    }
+    assert!(rt; is_typed(3, b"LAMP", b"lamb"));
+    assert!(rt; !is_typed(4, b"LAMP", b"lamb"));
+    assert!(rt; is_typed(20, b"LAMP", b"lamp"));
+    assert!(rt; !is_typed(20, b"LAMP", b"lamps"));
+    assert!(rt; !is_typed(3, b"", b""));
 }
