@@ -7,7 +7,7 @@ ghost use Rattle.inform_codes.specs.Growths.{waiting};
 
 use crate::growths::Growth;
 use adv_io::Memory;
-use inform_tree::{Change, Item, Name, Stmt, Text};
+use inform_tree::{Change, Head, Item, Name, Stmt, Text};
 
 impl Growth {
     pub fn take_set(&mut self, name: Name) -> Result<(), Memory>
@@ -77,11 +77,14 @@ impl Growth {
     pub fn take_for(&mut self, first: Name, next: Name) -> Result<(), Memory>
         ensures { IfOk result (λ _. waiting self.new ≡ with_for first next (waiting self.old)) }
     {
-        let first = Change::Set(first, self.pop_value());
-        let test = self.pop_test();
-        let next = Change::Inc(next);
+        let head = Head {
+            first: Some(Change::Set(first, self.pop_value())),
+            test: Some(self.pop_test()),
+            next: Some(Change::Inc(next)),
+        };
+        let head = Box::new(self.alloc, head)?;
         let body = self.pop_block().into_vec();
-        self.push_statement(Stmt::For(Some(first), Some(test), Some(next), body))
+        self.push_statement(Stmt::For(head, body))
     }
 
     pub fn take_return(&mut self) -> Result<(), Memory>

@@ -17,7 +17,7 @@ use crate::nexts::Next;
 use crate::signals::Signal;
 use crate::stacks::Stack;
 use crate::values::{goes_to, goes_with};
-use inform_tree::{Change, Cond, Stmt};
+use inform_tree::{Change, Cond, Head, Stmt};
 use inform_worlds::World;
 
 /// A loop that goes on while its test holds.
@@ -64,19 +64,15 @@ fn change_if_any<'a>(change: &'a Option<Change>) -> Option<&'a Change>
     }
 }
 
-/// A loop with a change after each turn.
-pub fn for_loop<'a>(
-    test: &'a Option<Cond>,
-    change: &'a Option<Change>,
-    body: &'a Vec<Stmt>,
-) -> Loop<'a>
-    ensures { loop_of result ≡ for_loop (condition_if_any test.now)
-        (assignment_if_any change.now) (statements_of body.now.items) }
+// A loop with a change after each turn.
+fn for_loop<'a>(head: &'a Head, body: &'a Vec<Stmt>) -> Loop<'a>
+    ensures { loop_of result ≡ for_loop (condition_if_any head.now.test)
+        (assignment_if_any head.now.next) (statements_of body.now.items) }
 {
     Loop {
-        test: test_if_any(test),
+        test: test_if_any(&head.test),
         goes_on: true,
-        change: change_if_any(change),
+        change: change_if_any(&head.next),
         body,
     }
 }
@@ -102,13 +98,15 @@ fn change_before_turn<'a>(
     }
 }
 
-/// A first change, if there is one, and a turn after it.
-pub fn first_next<'a>(stack: &mut Stack<'a>, l: Loop<'a>, first: &'a Option<Change>) -> Next<'a>
+/// The first change of a `for`, if there is one, and its first turn after it.
+pub fn for_next<'a>(stack: &mut Stack<'a>, head: &'a Head, body: &'a Vec<Stmt>) -> Next<'a>
     requires { HasRoom stack.old }
-    ensures { (world : w.World) → Makes world (Goes (change_frames (loop_of l.entry)
-        (assignment_if_any first.now)) Normal Keeps) stack.old stack.new result }
+    ensures { (world : w.World) → Makes world (Goes (change_frames
+        (for_loop (condition_if_any head.now.test) (assignment_if_any head.now.next)
+        (statements_of body.now.items)) (assignment_if_any head.now.first)) Normal Keeps)
+        stack.old stack.new result }
 {
-    change_before_turn(stack, l, change_if_any(first))
+    change_before_turn(stack, for_loop(head, body), change_if_any(&head.first))
 }
 
 /// What follows the test of a turn: the body, or the end of the loop.

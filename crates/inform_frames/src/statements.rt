@@ -16,7 +16,7 @@ use crate::changes::alter_next;
 use crate::choices::cases_next;
 use crate::frames::{Begin, Decide, Frame, Want};
 use crate::immediate::{immediate_arguments, immediate_truth, immediate_value};
-use crate::loops::{do_loop, first_next, for_loop, while_loop};
+use crate::loops::{do_loop, for_next, while_loop};
 use crate::nexts::{Effect, Next};
 use crate::signals::{Halt, Signal};
 use crate::stacks::Stack;
@@ -170,9 +170,7 @@ pub fn statement_next<'a>(world: &World<'a>, stack: &mut Stack<'a>, x: &'a Stmt)
             Frame::Begins(Begin::Blocks(body)),
             Frame::Looping(do_loop(body, test)),
         ),
-        Stmt::For(first, test, change, body) => {
-            first_next(stack, for_loop(test, change, body), first)
-        }
+        Stmt::For(head, body) => for_next(stack, head, body),
         Stmt::Switch(value, cases, rest) => switch_next(world, stack, value, cases, rest),
         Stmt::Break => Next::hands(Signal::Breaks),
         Stmt::Continue => Next::hands(Signal::Continues),

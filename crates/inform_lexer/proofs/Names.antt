@@ -13,6 +13,9 @@ use Rattle.inform_lexemes.specs.declared.keywords.TheConstants.{KEYWORDS}
 use Rattle.inform_lexemes.specs.Keywords.{keyword_text, keyword_spelled}
 use Rattle.inform_lexemes.specs.Lexemes.{Reserved, Name, word_lexeme, word_or_name}
 use Rattle.inform_lexer.specs.Reserved.{reserved_sizes}
+use Rattle.inform_lexer.specs.Spans.{word_said}
+use Rattle.std.specs.Char.{to_ascii_lowercase}
+use Rattle.std.proofs.lemmas.List.{length-map}
 use Rattle.inform_tree.specs.declared.words.TheConstants.{RESERVED}
 use Rattle.inform_lexer.proofs.LongestSymbol.{found_passes}
 
@@ -62,6 +65,14 @@ free_word word free =
     ap (λ (o : Option Keyword). word_or_name o word) (no_keyword (keyword_spelled word) word refl free)
     ∙ ap (λ (t : Bool). cond t Reserved (Name word)) free
 
+-- what doesn't look reserved, where all that is does, is a name
+pub unseen_word : (word : List ℕ) (seen : Bool) → (is_reserved word ≡ true → seen ≡ true) → seen ≡ false → word_lexeme word ≡ Name word
+unseen_word word seen all none = free_word word (by (is_reserved word) refl)
+  where
+    by : (t : Bool) → is_reserved word ≡ t → is_reserved word ≡ false
+    by true e = absurd (both_ways seen none (all e))
+    by false e = e
+
 -- ---- a word among others has the length of one of those with its first byte
 
 -- the lengths of the words that begin with a byte
@@ -104,3 +115,11 @@ among_looks word (other ∷ words) e = by (pointwise nat_eq word other) refl e (
 pub reserved_looks : (word : List ℕ) → is_reserved word ≡ true → has_size (length word) (reserved_sizes (slice_index word 0)) ≡ true
 unfolding reserved_sizes
 reserved_looks word e = among_looks word (map (λ w. w.now) RESERVED) e
+
+-- the same of a word as it is written
+pub said_looks : (word : List ℕ) → is_reserved (word_said word) ≡ true
+    → has_size (length word) (reserved_sizes (to_ascii_lowercase (slice_index word 0))) ≡ true
+said_looks [] e = absurd (cc)
+said_looks (b ∷ bs) e =
+    subst (λ (n : ℕ). has_size n (reserved_sizes (to_ascii_lowercase b)) ≡ true)
+    (length-map (b ∷ bs) to_ascii_lowercase) (reserved_looks (word_said (b ∷ bs)) e)

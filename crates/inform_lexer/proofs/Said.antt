@@ -1,6 +1,5 @@
 -- A lexeme that is a name or a string has these bytes.
-use Rattle.std.proofs.Common.{◌≡◌, ◌∙◌, ap, arith, ℕ, Bool, true, false, cond, leb, List, ◌++◌, take, drop, length, Option, Some, None}
-use Rattle.std.proofs.lemmas.List.{take-append-le}
+use Rattle.std.proofs.Common.{◌≡◌, ℕ, Bool, true, false, cond, leb, List, length, Option, Some, None}
 use Rattle.inform_tree.specs.Words.{is_reserved}
 use Rattle.inform_tree.specs.declared.words.TheConstants.{NAME_LIMIT}
 use Rattle.inform_lexemes.specs.declared.keywords.Keyword.{Keyword}
@@ -67,9 +66,3 @@ text_bytes kind.Number bytes text e = absurd (number_is_no_text (number_said byt
 text_bytes kind.Character bytes text e = absurd (cc)
 text_bytes kind.Quoted bytes text e = cc
 text_bytes kind.Symbol bytes text e = absurd (sign_is_no_text (symbol_spelled bytes) text e)
-
--- what was written over a copy of a word, from its beginning to its end
-pub written_over : (word said lower copy : List ℕ) (size : ℕ) → size ≡ length word → length lower ≡ length word → take (length word) lower ≡ said
-    → take size (lower ++ drop (length lower) copy) ≡ said
-written_over word said lower copy size s l e =
-    take-append-le size lower (drop (length lower) copy) (omega (arith, s, l)) ∙ ap (λ n. take n lower) s ∙ e

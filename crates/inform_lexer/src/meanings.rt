@@ -33,22 +33,33 @@ fn write_lower(word: &[u8], lower: &mut [u8])
     }
 }
 
-// What a word says, where it isn't too long.
+// What a word says that may be a reserved one.
+#[inline(never)]
 #[tactic(auto, using(crate::proofs::Names::free_word), unfolding(inform_lexemes::specs::Lexemes::word_lexeme))]
-fn word_glance(word: &[u8]) -> Glance
+fn reserved_glance(word: &[u8]) -> Glance
     requires { length word.now ≤ 32 }
     ensures { result ≡ glance_of (word_lexeme (word_said word.now)) }
 {
     let mut buffer = [0; NAME_LIMIT];
     write_lower(word, &mut buffer);
     let lower = &buffer[..word.len()];
-    if !looks_reserved(lower) {
-        return Glance::Name;
-    }
     match keyword_of(lower) {
         Some(keyword) => Glance::Word(keyword),
         None if is_reserved(lower) => Glance::Reserved,
         None => Glance::Name,
+    }
+}
+
+// What a word says, where it isn't too long. Most are seen to be names before they are copied.
+#[inline(always)]
+fn word_glance(word: &[u8]) -> Glance
+    requires { length word.now ≤ 32 }
+    ensures { result ≡ glance_of (word_lexeme (word_said word.now)) }
+{
+    if looks_reserved(word) {
+        reserved_glance(word)
+    } else {
+        Glance::Name
     }
 }
 
@@ -98,15 +109,12 @@ pub fn glance(bytes: &[u8], token: Token) -> Glance
 }
 
 /// The name that a token of these bytes is, in lower case.
-
+#[tactic(auto, using(crate::proofs::Said::name_bytes))]
 pub fn name(alloc: Global, bytes: &[u8], token: Token) -> Result<Name, Memory>
     ensures { IfOk result (λ found. (name : List ℕ)
         → lexeme_at bytes.now token ≡ NameLexeme name → found ≡ name) }
 {
-    let word = span(bytes, token);
-    let mut lower = Vec::from_slice(alloc, word)?;
-    write_lower(word, lower.as_mut_slice());
-    Ok(Name::of(lower))
+    Ok(Name::lower_of(alloc, span(bytes, token))?)
 }
 
 // The bytes between the quotes of a string.

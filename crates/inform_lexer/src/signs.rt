@@ -69,6 +69,7 @@ fn three_bytes(first: u8, second: u8, third: u8) -> Option<Symbol>
 
 /// The symbol that these bytes are.
 #[tactic(auto, unfolding(inform_lexemes::specs::Symbols::symbol_spelled))]
+#[inline(always)]
 pub fn symbol_of(bytes: &[u8]) -> Option<Symbol>
     ensures { result ≡ symbol_spelled bytes.now }
 {

@@ -5,6 +5,7 @@ ghost use Rattle.std.specs.Cmp.Lexicographic.{pointwise};
 ghost use Rattle.inform_tree.specs.Words.{is_reserved};
 ghost use Rattle.inform_lexemes.specs.Keywords.{keyword_text, keyword_spelled};
 ghost use Rattle.inform_lexer.specs.Reserved.{reserved_sizes};
+ghost use Rattle.inform_lexer.specs.Spans.{word_said};
 
 use inform_lexemes::Keyword;
 
@@ -98,13 +99,13 @@ fn is_one_of(number: usize, numbers: &[usize]) -> bool
     numbers.iter().any(|other| number == *other)
 }
 
-/// Whether a reserved word begins as this one does, and is as long. What doesn't look so isn't
-/// reserved.
+/// Whether a reserved word begins as this one does in lower case, and is as long. What doesn't look
+/// so isn't reserved.
 pub fn looks_reserved(word: &[u8]) -> bool
-    ensures { is_reserved word.now ≡ true → result ≡ true }
+    ensures { is_reserved (word_said word.now) ≡ true → result ≡ true }
 {
     match word {
-        [first, ..] => is_one_of(word.len(), sizes_from(*first)),
+        [first, ..] => is_one_of(word.len(), sizes_from(first.to_ascii_lowercase())),
         [] => false,
     }
 }

@@ -3,8 +3,7 @@
 use Rattle.std.specs.Prelude.{ℕ, ◌+◌, Bool, true, false, List, [], ◌∷◌, Option, Some, None}
 use Rattle.inform_tree.specs.declared.values.Const.{Const}
 use Rattle.inform_tree.specs.declared.values.Const.TheVariants as k
-use Rattle.inform_tree.specs.declared.conditions.Cond.{Cond}
-use Rattle.inform_tree.specs.declared.statements.Change.{Change}
+use Rattle.inform_tree.specs.declared.statements.Head.{Head}
 use Rattle.inform_tree.specs.Values as v
 use Rattle.inform_tree.specs.Values.{Expression, Arguments, Terms, Factors}
 use Rattle.inform_tree.specs.Conditions as c
@@ -131,9 +130,9 @@ head_demands first test next = Both (optional_demands assignment_demands first)
     (Both (optional_demands condition_demands test) (optional_demands assignment_demands next))
 
 -- the same of a head of the program
-abbrev pub head_demands_of : Option Change → Option Cond → Option Change → Demands
-head_demands_of first test next =
-    head_demands (assignment_if_any first) (condition_if_any test) (assignment_if_any next)
+abbrev pub head_demands_of : Head → Demands
+head_demands_of head = head_demands (assignment_if_any head.first) (condition_if_any head.test)
+    (assignment_if_any head.next)
 
 -- ---- statements, each with the loops and `switch`es round it
 

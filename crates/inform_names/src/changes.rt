@@ -7,7 +7,7 @@ ghost use Rattle.inform_names.specs.Places.{first_fault};
 
 use crate::places::Scope;
 use crate::refusals::Refusal;
-use inform_tree::{Change, Cond, Const, Item};
+use inform_tree::{Change, Cond, Const, Head, Item};
 
 impl<'t, 'a> Scope<'t, 'a> {
     ghost use Rattle.inform_names.specs.Scopes.{scope_of};
@@ -53,18 +53,12 @@ impl<'t, 'a> Scope<'t, 'a> {
     }
 
     /// What stands in the brackets of a `for`.
-    pub fn test_head(
-        &self,
-        first: &'a Option<Change>,
-        test: &'a Option<Cond>,
-        next: &'a Option<Change>,
-    ) -> Result<(), Refusal<'a>>
-        ensures { found result ≡ first_fault (scope_of self.now)
-            (head_demands_of first.now test.now next.now) }
+    pub fn test_head(&self, head: &'a Head) -> Result<(), Refusal<'a>>
+        ensures { found result ≡ first_fault (scope_of self.now) (head_demands_of head.now) }
     {
-        self.test_change_if_any(first)?;
-        self.test_condition_if_any(test)?;
-        self.test_change_if_any(next)
+        self.test_change_if_any(&head.first)?;
+        self.test_condition_if_any(&head.test)?;
+        self.test_change_if_any(&head.next)
     }
 
     fn test_item(&self, item: &'a Item) -> Result<(), Refusal<'a>>

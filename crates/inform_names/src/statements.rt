@@ -39,8 +39,8 @@ impl<'t, 'a> Scope<'t, 'a> {
                 self.test_statements(Enclosure::of_loop(), body)?;
                 self.test_condition(test)
             }
-            Stmt::For(first, test, next, body) => {
-                self.test_head(first, test, next)?;
+            Stmt::For(head, body) => {
+                self.test_head(head)?;
                 self.test_statements(Enclosure::of_loop(), body)
             }
             Stmt::Switch(value, cases, Some(rest)) => {

@@ -13,6 +13,7 @@ use Rattle.inform_lexemes.specs.declared.keywords.Keyword.TheVariants as w
 use Rattle.inform_grammar.specs.Rules as r
 use Rattle.inform_grammar.specs.Lexemes.{heads, name_in, is_arrow, is_factor_sign, is_term_sign}
 use Rattle.inform_grammar.specs.ValueRules.{number_in, minus_number, constant, entry, arguments, name_after, entry_after, primary, unary, factor, factors_after, product, term, terms_after, value, argument}
+use Rattle.inform_grammar.specs.Trees.{product_of, sum_of}
 use Rattle.inform_grammar.specs.Plan.{Plan, done, refuse, next, ◌>>=◌, take, one, many}
 use Rattle.inform_grammar.specs.Rule.{rule}
 use Rattle.inform_grammar.specs.Reading.{Spot, spot, step, reads, within_limit}
@@ -208,6 +209,10 @@ pub factor_last : (front : List (ProdOp × Expression)) (s : Spot) → heads is_
 unfolding read
 factor_last front s e = many-no within_limit s.rest r.Factor (rw (factor_starts s.rest) at e) front done s.opened ∙ done-here within_limit s.rest front s.opened
 
+pub no_factors : (x : Expression) (s : Spot) → heads is_factor_sign s.rest ≡ false → read (many r.Factor [] (λ ys. done (product_of x ys))) s ≡ Ok (x, s)
+unfolding read
+no_factors x s e = many-no within_limit s.rest r.Factor (rw (factor_starts s.rest) at e) [] (λ ys. done (product_of x ys)) s.opened ∙ done-here within_limit s.rest x s.opened
+
 term_starts : (xs : List Lexeme) → heads is_term_sign xs ≡ heads (starts r.Term) xs
 unfolding rule term
 term_starts [] = refl
@@ -222,6 +227,10 @@ term_more front s e = many-yes within_limit s.rest r.Term (rw (term_starts s.res
 pub term_last : (front : List (SumOp × Expression)) (s : Spot) → heads is_term_sign s.rest ≡ false → read (many r.Term front done) s ≡ Ok (front, s)
 unfolding read
 term_last front s e = many-no within_limit s.rest r.Term (rw (term_starts s.rest) at e) front done s.opened ∙ done-here within_limit s.rest front s.opened
+
+pub no_terms : (x : Expression) (s : Spot) → heads is_term_sign s.rest ≡ false → read (many r.Term [] (λ ys. done (sum_of x ys))) s ≡ Ok (x, s)
+unfolding read
+no_terms x s e = many-no within_limit s.rest r.Term (rw (term_starts s.rest) at e) [] (λ ys. done (sum_of x ys)) s.opened ∙ done-here within_limit s.rest x s.opened
 
 pub expressions_push : (xs : List Expr) (x : Expr) → map expression_of (xs ++ x ∷ []) ≡ map expression_of xs ++ expression_of x ∷ []
 expressions_push xs x = map_push expression_of xs x

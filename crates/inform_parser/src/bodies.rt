@@ -18,7 +18,7 @@ use crate::guards::Guard;
 use crate::parts::{Part, cases};
 use crate::stops::Stop;
 use inform_lexemes::{Keyword, Symbol};
-use inform_tree::{Case, Change, Cond, Expr, Stmt};
+use inform_tree::{Case, Change, Cond, Expr, Head, Stmt};
 use std::alloc::Global;
 
 // How many statements a body is expected to have: most have one, and a statement is large.
@@ -196,9 +196,15 @@ impl<'a> Cursor<'a> {
             self.old result self.new }
         ensures ahead { length self.new.rest ≤ length self.old.rest }
     {
+        let head = Head {
+            first,
+            test: condition_if_any(test),
+            next: last,
+        };
+        let head = Box::new(alloc, head)?;
         let body = self.body(alloc)?;
         self.shut();
-        Ok(Stmt::For(first, condition_if_any(test), last, body))
+        Ok(Stmt::For(head, body))
     }
 
     // The head of a `for` after its second colon.

@@ -1,10 +1,7 @@
 //! Statements without a body that begin with a word.
-ghost use Rattle.std.specs.Prelude.{◌≡◌, ◌≤◌, ◌<◌, List, [], ◌∷◌, OnOk, length};
+ghost use Rattle.std.specs.Prelude.{◌≡◌, ◌≤◌, ◌<◌, OnOk, length};
 ghost use Rattle.inform_tree.specs.Statements.{statement_of};
-ghost use Rattle.inform_lexemes.specs.Lexemes.{is_sign};
-ghost use Rattle.inform_lexemes.specs.declared.symbols.Symbol.TheVariants.{Semicolon};
 ghost use Rattle.inform_grammar.specs.StatementRules.{return_after, read_after};
-ghost use Rattle.inform_grammar.specs.Plan.{done, take};
 ghost use Rattle.inform_parser.specs.Reading.{Gives};
 ghost use Rattle.inform_parser.specs.Plans.{plain_statement, simple_statement};
 
@@ -15,19 +12,6 @@ use inform_tree::Stmt;
 use std::alloc::Global;
 
 impl<'a> Cursor<'a> {
-    // A statement that is nothing but a word, and its semicolon.
-    #[tactic(auto, using(crate::proofs::Steps::steps))]
-    #[inline(always)]
-    fn alone(&mut self, statement: Stmt) -> Result<Stmt, Stop>
-        ensures gives { Gives statement_of
-            (take (is_sign Semicolon) (done (statement_of statement))) self.old result self.new }
-        ensures ahead { length self.new.rest ≤ length self.old.rest }
-        ensures taken { OnOk result (length self.new.rest < length self.old.rest) }
-    {
-        self.expect(Symbol::Semicolon)?;
-        Ok(statement)
-    }
-
     // What follows `return`.
     #[tactic(auto, using(crate::proofs::Steps::steps, crate::proofs::TreesMade::statements, crate::proofs::StatementSteps::return_after_as))]
     #[inline(always)]
@@ -69,26 +53,32 @@ impl<'a> Cursor<'a> {
     {
         if self.at_word(Keyword::Break) {
             self.expect_word(Keyword::Break)?;
-            return self.alone(Stmt::Break);
+            self.expect(Symbol::Semicolon)?;
+            return Ok(Stmt::Break);
         }
         if self.at_word(Keyword::Continue) {
             self.expect_word(Keyword::Continue)?;
-            return self.alone(Stmt::Continue);
+            self.expect(Symbol::Semicolon)?;
+            return Ok(Stmt::Continue);
         }
         if self.at_word(Keyword::Quit) {
             self.expect_word(Keyword::Quit)?;
-            return self.alone(Stmt::Quit);
+            self.expect(Symbol::Semicolon)?;
+            return Ok(Stmt::Quit);
         }
         if self.at_word(Keyword::Rtrue) {
             self.expect_word(Keyword::Rtrue)?;
-            return self.alone(Stmt::Rtrue);
+            self.expect(Symbol::Semicolon)?;
+            return Ok(Stmt::Rtrue);
         }
         if self.at_word(Keyword::Rfalse) {
             self.expect_word(Keyword::Rfalse)?;
-            return self.alone(Stmt::Rfalse);
+            self.expect(Symbol::Semicolon)?;
+            return Ok(Stmt::Rfalse);
         }
         self.expect_word(Keyword::NewLine)?;
-        self.alone(Stmt::NewLine)
+        self.expect(Symbol::Semicolon)?;
+        Ok(Stmt::NewLine)
     }
 
     /// A statement that has no body and begins with a word.

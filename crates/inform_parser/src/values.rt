@@ -259,13 +259,16 @@ impl<'a> Cursor<'a> {
 
     /// A product with its first factor read.
     #[cycle(values)]
-    #[tactic(auto, using(crate::proofs::Steps::steps, crate::proofs::TreesMade::expressions), unfolding(inform_grammar::specs::ValueRules::factors_after))]
+    #[tactic(auto, using(crate::proofs::Steps::steps, crate::proofs::TreesMade::expressions, crate::proofs::ValueSteps::no_factors), unfolding(inform_grammar::specs::ValueRules::factors_after))]
     #[inline(always)]
     pub fn factors_after(&mut self, alloc: Global, first: Expr) -> Result<Expr, Stop>
         ensures gives { Gives expression_of (factors_after (expression_of first))
             self.old result self.new }
         ensures ahead { length self.new.rest ≤ length self.old.rest }
     {
+        if !self.at_factor() {
+            return Ok(first);
+        }
         let factors = self.factors(alloc)?;
         product_of(alloc, first, factors)
     }
@@ -312,13 +315,16 @@ impl<'a> Cursor<'a> {
 
     /// A sum with its first term read.
     #[cycle(values)]
-    #[tactic(auto, using(crate::proofs::Steps::steps, crate::proofs::TreesMade::expressions), unfolding(inform_grammar::specs::ValueRules::terms_after))]
+    #[tactic(auto, using(crate::proofs::Steps::steps, crate::proofs::TreesMade::expressions, crate::proofs::ValueSteps::no_terms), unfolding(inform_grammar::specs::ValueRules::terms_after))]
     #[inline(always)]
     pub fn terms_after(&mut self, alloc: Global, first: Expr) -> Result<Expr, Stop>
         ensures gives { Gives expression_of (terms_after (expression_of first))
             self.old result self.new }
         ensures ahead { length self.new.rest ≤ length self.old.rest }
     {
+        if !self.at_term() {
+            return Ok(first);
+        }
         let terms = self.terms(alloc)?;
         sum_of(alloc, first, terms)
     }

@@ -1,8 +1,7 @@
 -- The lexemes with which statements are printed, before those that follow.
 use Rattle.std.specs.Prelude.{Bool, true, false, List, [], ◌∷◌, Option, Some, None}
 use Rattle.inform_tree.specs.declared.values.Const.{Const}
-use Rattle.inform_tree.specs.declared.conditions.Cond.{Cond}
-use Rattle.inform_tree.specs.declared.statements.Change.{Change}
+use Rattle.inform_tree.specs.declared.statements.Head.{Head}
 use Rattle.inform_tree.specs.Conditions.{Condition}
 use Rattle.inform_tree.specs.Statements as s
 use Rattle.inform_tree.specs.Statements.{Statement, Statements, Cases, Default, Assignment, PrintItem, Choice, assignment_if_any, condition_if_any}
@@ -61,9 +60,10 @@ head_lexemes first test next rest =
     (Sign Colon ∷ optional_lexemes assignment_lexemes next (Sign RightRound ∷ rest)))
 
 -- the same of a head of the program
-abbrev pub head_lexemes_of : Option Change → Option Cond → Option Change → List Lexeme → List Lexeme
-head_lexemes_of first test next rest =
-    head_lexemes (assignment_if_any first) (condition_if_any test) (assignment_if_any next) rest
+abbrev pub head_lexemes_of : Head → List Lexeme → List Lexeme
+head_lexemes_of head rest =
+    head_lexemes (assignment_if_any head.first) (condition_if_any head.test)
+    (assignment_if_any head.next) rest
 
 -- ---- statements
 

@@ -15,7 +15,7 @@ use crate::values::{put_constant, put_element, put_separator, put_value};
 use crate::writing::{put_name, put_sign, put_text, put_word};
 use adv_io::Memory;
 use inform_lexemes::{Keyword, Symbol};
-use inform_tree::{Change, Cond, Const, Item};
+use inform_tree::{Change, Cond, Const, Head, Item};
 
 // ---- changes
 
@@ -127,18 +127,12 @@ fn put_last_change(out: &mut Vec<u8>, next: &Option<Change>) -> Result<(), Memor
 }
 
 /// Prints what stands in the brackets of a `for`, with them.
-pub fn put_head(
-    out: &mut Vec<u8>,
-    first: &Option<Change>,
-    test: &Option<Cond>,
-    next: &Option<Change>,
-) -> Result<(), Memory>
-    ensures { OnOk result (Prints (head_lexemes_of first.now test.now next.now)
-        out.old.items out.new.items) }
+pub fn put_head(out: &mut Vec<u8>, head: &Head) -> Result<(), Memory>
+    ensures { OnOk result (Prints (head_lexemes_of head.now) out.old.items out.new.items) }
 {
-    put_first_change(out, first)?;
-    put_turn_test(out, test)?;
-    put_last_change(out, next)?;
+    put_first_change(out, &head.first)?;
+    put_turn_test(out, &head.test)?;
+    put_last_change(out, &head.next)?;
     Ok(())
 }
 

@@ -121,9 +121,9 @@ fn put_statement(out: &mut Vec<u8>, statement: &Stmt) -> Result<(), Memory>
             put_until(out, test)?;
             Ok(())
         }
-        Stmt::For(first, test, next, body) => {
+        Stmt::For(head, body) => {
             put_word(out, Keyword::For)?;
-            put_head(out, first, test, next)?;
+            put_head(out, head)?;
             put_body(out, body)?;
             Ok(())
         }

@@ -15,7 +15,7 @@ use Rattle.inform_tree.specs.Conditions.{condition_of}
 use Rattle.inform_tree.specs.Statements as s
 use Rattle.inform_tree.specs.Statements.{Statement, Statements, Choice, statement_step, case_step, statement_of, statements_of, cases_of, assignment_of}
 use Rattle.inform_tree.specs.declared.conditions.Cond.{Cond}
-use Rattle.inform_tree.specs.declared.statements.Change.{Change}
+use Rattle.inform_tree.specs.declared.statements.Head.{Head}
 use Rattle.inform_tree.specs.declared.statements.Case.{Case}
 use Rattle.inform_tree.specs.declared.statements.Stmt.{Stmt}
 use Rattle.inform_tree.specs.declared.statements.Stmt.TheVariants as sv
@@ -41,8 +41,8 @@ statement_of_while test body = ap statement_of (sym (sv.rolls-While test body)) 
 pub statement_of_do : (body : Vec Stmt) (test : Cond) → statement_of (sv.Do body test) ≡ s.Do (statements_of body.items) (condition_of test)
 statement_of_do body test = ap statement_of (sym (sv.rolls-Do body test)) ∙ fold-roll-Stmt Statement (List Choice × Statements) statement_step case_step (so.Do body test)
 
-pub statement_of_for : (first : Option Change) (test : Option Cond) (next : Option Change) (body : Vec Stmt) → statement_of (sv.For first test next body) ≡ s.For (option_map assignment_of first) (option_map condition_of test) (option_map assignment_of next) (statements_of body.items)
-statement_of_for first test next body = ap statement_of (sym (sv.rolls-For first test next body)) ∙ fold-roll-Stmt Statement (List Choice × Statements) statement_step case_step (so.For first test next body)
+pub statement_of_for : (head : Box Head) (body : Vec Stmt) → statement_of (sv.For head body) ≡ s.For (option_map assignment_of head.value.first) (option_map condition_of head.value.test) (option_map assignment_of head.value.next) (statements_of body.items)
+statement_of_for head body = ap statement_of (sym (sv.rolls-For head body)) ∙ fold-roll-Stmt Statement (List Choice × Statements) statement_step case_step (so.For head body)
 
 pub statement_of_switch : (x : Expr) (xs : Vec Case) → statement_of (sv.Switch x xs None) ≡ s.Switch (expression_of x) (cases_of xs.items) s.NoDefault
 statement_of_switch x xs = ap statement_of (sym (sv.rolls-Switch x xs None)) ∙ fold-roll-Stmt Statement (List Choice × Statements) statement_step case_step (so.Switch x xs None)

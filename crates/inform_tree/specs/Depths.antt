@@ -1,7 +1,6 @@
 -- How deep a tree is: a node counts 1, and each node directly inside another one 1 more.
 use Rattle.std.specs.Prelude.{ℕ, ◌+◌, List, [], ◌∷◌, Option, Some, None, max, min}
-use Rattle.inform_tree.specs.declared.conditions.Cond.{Cond}
-use Rattle.inform_tree.specs.declared.statements.Change.{Change}
+use Rattle.inform_tree.specs.declared.statements.Head.{Head}
 use Rattle.inform_tree.specs.Values as v
 use Rattle.inform_tree.specs.Values.{Expression, Arguments, Terms, Factors}
 use Rattle.inform_tree.specs.Conditions as c
@@ -80,9 +79,9 @@ head_depth first test next =
     (max (optional_depth condition_depth test) (optional_depth assignment_depth next))
 
 -- the same of a head of the program
-abbrev pub head_depth_of : Option Change → Option Cond → Option Change → ℕ
-head_depth_of first test next =
-    head_depth (assignment_if_any first) (condition_if_any test) (assignment_if_any next)
+abbrev pub head_depth_of : Head → ℕ
+head_depth_of head = head_depth (assignment_if_any head.first) (condition_if_any head.test)
+    (assignment_if_any head.next)
 
 abbrev mutual
   pub statement_depth : Statement → ℕ

@@ -4,8 +4,7 @@ use Rattle.std.specs.List.{list_all}
 use Rattle.inform_tree.specs.declared.values.Const.{Const}
 use Rattle.inform_tree.specs.declared.values.Const.TheVariants as k
 use Rattle.inform_tree.specs.declared.formed_programs.TheConstants.{DEPTH_LIMIT}
-use Rattle.inform_tree.specs.declared.conditions.Cond.{Cond}
-use Rattle.inform_tree.specs.declared.statements.Change.{Change}
+use Rattle.inform_tree.specs.declared.statements.Head.{Head}
 use Rattle.inform_tree.specs.Values as v
 use Rattle.inform_tree.specs.Values.{Expression, Arguments, Terms, Factors}
 use Rattle.inform_tree.specs.Conditions as c
@@ -134,9 +133,9 @@ is_formed_head first test next =
     && (is_formed_if_any is_formed_condition test && is_formed_if_any is_formed_assignment next)
 
 -- the same of a head of the program
-abbrev pub is_formed_head_of : Option Change → Option Cond → Option Change → Bool
-is_formed_head_of first test next =
-    is_formed_head (assignment_if_any first) (condition_if_any test) (assignment_if_any next)
+abbrev pub is_formed_head_of : Head → Bool
+is_formed_head_of head = is_formed_head (assignment_if_any head.first) (condition_if_any head.test)
+    (assignment_if_any head.next)
 
 abbrev mutual
   pub is_formed_statement : Statement → Bool

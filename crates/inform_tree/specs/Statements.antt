@@ -110,9 +110,9 @@ statement_step (s.If test body other) =
     If (condition_of test) (statements body.items) (statements other.items)
 statement_step (s.While test body) = While (condition_of test) (statements body.items)
 statement_step (s.Do body test) = Do (statements body.items) (condition_of test)
-statement_step (s.For first test next body) =
-    For (assignment_if_any first) (condition_if_any test) (assignment_if_any next)
-    (statements body.items)
+statement_step (s.For head body) =
+    For (assignment_if_any head.value.first) (condition_if_any head.value.test)
+    (assignment_if_any head.value.next) (statements body.items)
 statement_step (s.Switch x xs rest) =
     Switch (expression_of x) (cases xs.items) (default (option_map (λ v. v.items) rest))
 statement_step s.Break = Break

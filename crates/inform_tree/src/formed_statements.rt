@@ -11,7 +11,7 @@ use crate::formed_values::{
     constant_is_formed, constant_is_formed_if_any, name_is_formed, value_is_formed,
     values_are_formed,
 };
-use crate::statements::{Case, Change, Item, Stmt};
+use crate::statements::{Case, Change, Head, Item, Stmt};
 use crate::values::{Const, Expr};
 use crate::words::is_text;
 
@@ -103,10 +103,12 @@ fn test_is_formed_if_any(test: &Option<Cond>) -> bool
     }
 }
 
-fn head_is_formed(first: &Option<Change>, test: &Option<Cond>, next: &Option<Change>) -> bool
-    ensures { result ≡ is_formed_head_of first.now test.now next.now }
+fn head_is_formed(head: &Head) -> bool
+    ensures { result ≡ is_formed_head_of head.now }
 {
-    change_is_formed_if_any(first) && test_is_formed_if_any(test) && change_is_formed_if_any(next)
+    change_is_formed_if_any(&head.first)
+        && test_is_formed_if_any(&head.test)
+        && change_is_formed_if_any(&head.next)
 }
 
 // ---- statements
@@ -124,9 +126,7 @@ fn statement_is_formed(statement: &Stmt) -> bool
         }
         Stmt::While(test, body) => condition_is_formed(test) && statements_are_formed(body),
         Stmt::Do(body, test) => statements_are_formed(body) && condition_is_formed(test),
-        Stmt::For(first, test, next, body) => {
-            head_is_formed(first, test, next) && statements_are_formed(body)
-        }
+        Stmt::For(head, body) => head_is_formed(head) && statements_are_formed(body),
         Stmt::Switch(value, cases, Some(rest)) => {
             value_is_formed(value) && cases_are_formed(cases) && statements_are_formed(rest)
         }

@@ -30,7 +30,7 @@ pub use conditions::{Cond, Relation};
 pub use names::Name;
 pub use programs::{Directive, Program, Routine};
 pub use statement_depths::depth;
-pub use statements::{Case, Change, Item, Stmt};
+pub use statements::{Case, Change, Head, Item, Stmt};
 pub use texts::Text;
 pub use values::{Const, Expr, ProdOp, SumOp};
 pub use widths::Width;

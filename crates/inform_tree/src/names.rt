@@ -1,7 +1,13 @@
 //! A name of a program.
-ghost use Rattle.std.specs.Prelude.{◌≡◌};
+ghost use Rattle.std.specs.Prelude.{◌≡◌, map, IfOk};
+ghost use Rattle.std.specs.Char.{to_ascii_lowercase};
 
+use smallvec::SmallVec;
+use std::alloc::{AllocError, Global};
 use std::marker::Model;
+
+/// How many bytes of a name stand in the tree itself. Those of a longer one stand elsewhere.
+pub const SHORT: usize = 16;
 
 /// A name of a constant, a global, an array, a routine or a local.
 ///
@@ -10,7 +16,7 @@ use std::marker::Model;
 /// `Program::well_formed` to say.
 #[derive(Drop)]
 pub struct Name {
-    kept: Vec<u8>,
+    kept: SmallVec<u8, SHORT>,
 }
 
 impl Model for Name {
@@ -26,7 +32,18 @@ impl Name {
     pub fn of(bytes: Vec<u8>) -> Name
         ensures { result ≡ bytes.items }
     {
-        Name { kept: bytes }
+        Name {
+            kept: SmallVec::from_vec(bytes),
+        }
+    }
+
+    /// The name that a word says, in lower case.
+    pub fn lower_of(alloc: Global, word: &[u8]) -> Result<Name, AllocError>
+        ensures { IfOk result (λ name. name ≡ map to_ascii_lowercase word.now) }
+    {
+        let mut kept = SmallVec::from_slice(alloc, word)?;
+        kept.as_mut_slice().make_ascii_lowercase();
+        Ok(Name { kept })
     }
 
     /// The bytes of the name.

@@ -7,7 +7,7 @@ ghost use Rattle.inform_tree.specs.Depths.{assignment_depth, item_depth, items_d
 use crate::condition_depths::depth_of_condition;
 use crate::conditions::Cond;
 use crate::programs::Routine;
-use crate::statements::{Case, Change, Item, Stmt};
+use crate::statements::{Case, Change, Head, Item, Stmt};
 use crate::value_depths::{depth_of_value, depth_of_values};
 
 fn depth_of_change(change: &Change) -> u32
@@ -60,12 +60,12 @@ fn depth_of_test_if_any(test: &Option<Cond>) -> u32
 }
 
 // What stands in the brackets of a `for`.
-fn depth_of_head(first: &Option<Change>, test: &Option<Cond>, next: &Option<Change>) -> u32
-    ensures { result ≡ counted (head_depth_of first.now test.now next.now) }
+fn depth_of_head(head: &Head) -> u32
+    ensures { result ≡ counted (head_depth_of head.now) }
 {
-    depth_of_change_if_any(first)
-        .max(depth_of_test_if_any(test))
-        .max(depth_of_change_if_any(next))
+    depth_of_change_if_any(&head.first)
+        .max(depth_of_test_if_any(&head.test))
+        .max(depth_of_change_if_any(&head.next))
 }
 
 #[cycle(statement_depths)]
@@ -87,7 +87,7 @@ fn depth_of_statement(statement: &Stmt) -> u32
         Stmt::Do(body, test) => depth_of_statements(body)
             .max(depth_of_condition(test))
             .saturating_add(1),
-        Stmt::For(first, test, next, body) => depth_of_head(first, test, next)
+        Stmt::For(head, body) => depth_of_head(head)
             .max(depth_of_statements(body))
             .saturating_add(1),
         Stmt::Switch(value, cases, Some(rest)) => depth_of_value(value)

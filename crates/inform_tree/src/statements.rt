@@ -15,6 +15,15 @@ pub enum Change {
     Dec(Name),
 }
 
+/// What stands in the brackets of a `for`: what is done first, the test of each turn, and what is
+/// done after each turn.
+#[derive(Drop)]
+pub struct Head {
+    pub first: Option<Change>,
+    pub test: Option<Cond>,
+    pub next: Option<Change>,
+}
+
 /// What `print` says.
 #[derive(Drop)]
 pub enum Item {
@@ -45,8 +54,8 @@ pub enum Stmt {
     While(Cond, Vec<Stmt>),
     /// The body, and the condition at which the loop ends.
     Do(Vec<Stmt>, Cond),
-    /// What is done first, the test of each turn, what is done after each turn, and the body.
-    For(Option<Change>, Option<Cond>, Option<Change>, Vec<Stmt>),
+    /// The head stands apart, since it is three times as large as any other statement.
+    For(Box<Head>, Vec<Stmt>),
     /// The value, the cases, and what is done where no case fits.
     Switch(Expr, Vec<Case>, Option<Vec<Stmt>>),
     Break,

@@ -2,7 +2,7 @@
 use super::sizes::sizes;
 use inform_codes::examples::{CALL, CARRIED, FORK, MESSAGE, NAMES, ROUTINES};
 use inform_codes::{before, body, fork, numbered, routines};
-use inform_tree::{Change, Cond, Expr, Name, Relation, Stmt};
+use inform_tree::{Change, Cond, Expr, Head, Name, Relation, Stmt};
 use std::test::Fail;
 
 fn is(name: &Name, text: &str) -> bool {
@@ -17,12 +17,12 @@ fn is_variable(value: &Expr, text: &str) -> bool {
 }
 
 // Whether this is `i = 0`, `i <= 9` and `i++`.
-fn is_head(first: &Change, test: &Cond, next: &Change) -> bool {
-    match (first, test, next) {
+fn is_head(head: &Head) -> bool {
+    match (&head.first, &head.test, &head.next) {
         (
-            Change::Set(first, Expr::Number(0)),
-            Cond::Compare(Relation::Le, left, Expr::Number(9)),
-            Change::Inc(next),
+            Some(Change::Set(first, Expr::Number(0))),
+            Some(Cond::Compare(Relation::Le, left, Expr::Number(9))),
+            Some(Change::Inc(next)),
         ) => is(first, "i") && is_variable(left, "i") && is(next, "i"),
         _ => false,
     }
@@ -31,9 +31,7 @@ fn is_head(first: &Change, test: &Cond, next: &Change) -> bool {
 // What is done in each turn, if this is such a loop.
 fn turn_of(statement: &Stmt) -> Option<&Vec<Stmt>> {
     match statement {
-        Stmt::For(Some(first), Some(test), Some(next), turn) if is_head(first, test, next) => {
-            Some(turn)
-        }
+        Stmt::For(head, turn) if is_head(head) => Some(turn),
         _ => None,
     }
 }

@@ -1,9 +1,12 @@
 use Rattle.std.specs.Prelude.{nat_eq}
 use Rattle.std.specs.List.{list_any}
 use Rattle.std.proofs.Common.{ap, ◌∙◌, length}
-use Rattle.inform_lexer.proofs.Names.{reserved_looks}
+use Rattle.inform_lexer.specs.Reserved.{reserved_sizes}
+use Rattle.inform_lexer.proofs.Names.{said_looks}
 use Rattle.inform_lexer.proofs.words.looks_reserved.Goals as goal
 
 pub returns-in-len1-up : goal.returns-in-len1-up
 returns-in-len1-up c =
-    λ e. c.is_one_of.ensures ∙ ap (list_any (nat_eq (length c.args.word.now))) c.sizes_from.ensures ∙ reserved_looks c.args.word.now e
+    λ e. c.is_one_of.ensures
+    ∙ ap (list_any (nat_eq (length c.args.word.now))) (c.sizes_from.ensures ∙ ap reserved_sizes c.to_ascii_lowercase.ensures.value)
+    ∙ said_looks c.args.word.now e

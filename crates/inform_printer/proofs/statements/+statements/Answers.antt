@@ -45,4 +45,4 @@ put_statement-returns-in_ok-put_sign-in-Print t c rest =
     ∙ c.in_ok-put_items-in-Print.ensures _
     ∙ c.in_ok-put_word-in-Print.ensures _
     ∙ ap (λ (x : Statement). c.args.out.now.items ++ text_of (statement_lexemes x rest))
-    (print_tree _ _ _ c.in-Print.is c.deref.ensures.value)
+    (print_tree _ _ _ c.in-Print.is c.deref-in-Print.ensures.value)
