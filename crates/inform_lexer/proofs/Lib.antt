@@ -1,5 +1,6 @@
 pub mod Digits
 pub mod LongestSymbol
+pub mod LoneSymbols
 pub mod Cutting
 pub mod StringLoops
 pub mod SpanBounds

@@ -1,5 +1,5 @@
 //! The symbol that stands first.
-ghost use Rattle.std.specs.Prelude.{◌≡◌, ◌+◌, ◌≤◌, ◌<◌, [], ◌∷◌, IfSome, length};
+ghost use Rattle.std.specs.Prelude.{◌≡◌, ◌+◌, ◌≤◌, ◌<◌, ℕ, List, [], ◌∷◌, Some, IfSome, length};
 ghost use Rattle.inform_lexemes.specs.Symbols.{symbol_text, symbol_spelled};
 ghost use Rattle.inform_lexer.specs.Tokens.{symbol_first};
 
@@ -81,10 +81,10 @@ pub fn symbol_of(bytes: &[u8]) -> Option<Symbol>
     }
 }
 
-/// The longest symbol that these bytes begin with.
+// The longest symbol that these bytes begin with, whichever it is.
 #[tactic(auto, using(crate::proofs::LongestSymbol::few_bytes))]
 #[inline(always)]
-pub fn symbol_first(bytes: &[u8]) -> Option<Symbol>
+fn longest_symbol(bytes: &[u8]) -> Option<Symbol>
     ensures { result ≡ symbol_first bytes.now }
 {
     match bytes {
@@ -95,5 +95,43 @@ pub fn symbol_first(bytes: &[u8]) -> Option<Symbol>
         [first, second] => two_bytes(*first, *second).or(one_byte(*first)),
         [first] => one_byte(*first),
         [] => None,
+    }
+}
+
+// The symbol that this byte is, where no longer one begins with it.
+#[tactic(auto, using(crate::proofs::LoneSymbols::lone_symbols))]
+#[inline(always)]
+fn lone_symbol(first: u8) -> Option<Symbol>
+    ensures { IfSome result (λ symbol. (bytes : List ℕ)
+        → symbol_first (first ∷ bytes) ≡ Some symbol) }
+{
+    match first {
+        b';' => Some(Symbol::Semicolon),
+        b',' => Some(Symbol::Comma),
+        b':' => Some(Symbol::Colon),
+        b'(' => Some(Symbol::LeftRound),
+        b')' => Some(Symbol::RightRound),
+        b'{' => Some(Symbol::LeftBrace),
+        b'}' => Some(Symbol::RightBrace),
+        b'[' => Some(Symbol::LeftSquare),
+        b']' => Some(Symbol::RightSquare),
+        b'*' => Some(Symbol::Times),
+        b'/' => Some(Symbol::Divide),
+        b'%' => Some(Symbol::Remainder),
+        _ => None,
+    }
+}
+
+/// The longest symbol that these bytes begin with.
+#[inline(always)]
+pub fn symbol_first(bytes: &[u8]) -> Option<Symbol>
+    ensures { result ≡ symbol_first bytes.now }
+{
+    match bytes {
+        [first, ..] => match lone_symbol(*first) {
+            Some(symbol) => Some(symbol),
+            None => longest_symbol(bytes),
+        },
+        [] => longest_symbol(bytes),
     }
 }
