@@ -98,6 +98,21 @@ impl<'a> Cursor<'a> {
         Ok(statements)
     }
 
+    // A body of one statement that is no block.
+    #[cycle(statements)]
+    #[tactic(auto, using(crate::proofs::Steps::steps))]
+    fn single_body(&mut self, alloc: Global) -> Result<Vec<Stmt>, Stop>
+        ensures gives { Gives statements_in (one r.Statement (λ x. done (x ∷ [])))
+            self.old result self.new }
+        ensures ahead { length self.new.rest ≤ length self.old.rest }
+        ensures taken { OnOk result (length self.new.rest < length self.old.rest) }
+    {
+        let statement = self.statement(alloc)?;
+        let mut body = Vec::with_capacity(alloc, 1)?;
+        body.push(statement)?;
+        Ok(body)
+    }
+
     // A body: statements in braces, or one other statement.
     #[cycle(statements)]
     #[tactic(auto, using(crate::proofs::Steps::steps, crate::proofs::BodySteps::body_as))]
@@ -112,10 +127,7 @@ impl<'a> Cursor<'a> {
             self.expect(Symbol::RightBrace)?;
             return Ok(body);
         }
-        let statement = self.statement(alloc)?;
-        let mut body = Vec::with_capacity(alloc, 1)?;
-        body.push(statement)?;
-        Ok(body)
+        self.single_body(alloc)
     }
 
     // What follows the body of an `if`.

@@ -7,10 +7,13 @@ use Rattle.inform_parser.specs.Parts.{part_of}
 use Rattle.inform_parser.proofs.cursor.Cursor.«+statements».Given as goal
 
 abbrev pub decreases-statement : goal.decreases-statement
-decreases-statement l = 8 * length l.self.now.rest + 1
+decreases-statement l = 8 * length l.self.now.rest
 
 abbrev pub decreases-statements : goal.decreases-statements
 decreases-statements l = 8 * length l.self.now.rest + 2
+
+abbrev pub decreases-single_body : goal.decreases-single_body
+decreases-single_body l = 8 * length l.self.now.rest + 1
 
 abbrev pub decreases-body : goal.decreases-body
 decreases-body l = 8 * length l.self.now.rest + 2
