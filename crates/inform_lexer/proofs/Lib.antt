@@ -9,6 +9,7 @@ pub mod TokenLoop
 pub mod Exact
 pub mod Fronts
 pub mod WrittenStrings
+pub mod QuickSteps
 pub mod WrittenTables
 pub mod WrittenLexemes
 pub mod ReadLexemes

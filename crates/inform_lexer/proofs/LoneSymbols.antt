@@ -1,7 +1,6 @@
 -- No longer symbol begins with most of the symbols of one byte.
-use Rattle.std.proofs.Common.{◌≡◌, ℕ, ◌≤◌, List, [], ◌∷◌, length, get_or, Some, refl, arith}
+use Rattle.std.proofs.Common.{◌≡◌, ℕ, List, [], ◌∷◌, Some, refl}
 use Rattle.inform_lexemes.specs.Symbols.{symbol_spelled}
-use Rattle.inform_lexemes.specs.declared.symbols.Symbol.{Symbol}
 use Rattle.inform_lexemes.specs.declared.symbols.Symbol.TheVariants.{Semicolon, Comma, Colon, LeftRound, RightRound, LeftBrace, RightBrace, LeftSquare, RightSquare, Times, Divide, Remainder}
 use Rattle.inform_lexer.specs.Tokens.{symbol_first}
 
@@ -78,8 +77,3 @@ remainder (b ∷ []) = refl
 remainder (b ∷ c ∷ bytes) = refl
 
 pub ruleset lone_symbols = (semicolon, comma, colon, left_round, right_round, left_brace, right_brace, left_square, right_square, times, divide, remainder)
-
--- the bytes begin with a first one
-pub alone : (bytes : List ℕ) (s : Symbol) → 1 ≤ length bytes → ((rest : List ℕ) → symbol_first (get_or bytes 0 0 ∷ rest) ≡ Some s) → symbol_first bytes ≡ Some s
-alone [] s some is = absurd (omega arith)
-alone (b ∷ bytes) s some is = is bytes

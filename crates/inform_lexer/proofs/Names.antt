@@ -2,7 +2,7 @@
 -- its first byte.
 use Rattle.std.specs.Prelude.{nat_eq, slice_index}
 use Rattle.std.specs.List.{filter, list_any}
-use Rattle.std.proofs.Common.{◌≡◌, ℕ, Bool, true, false, cond, List, [], ◌∷◌, length, map, Option, Some, None, refl, ap, subst, ◌∙◌, ◌||◌}
+use Rattle.std.proofs.Common.{◌≡◌, ℕ, Bool, true, false, cond, List, [], ◌∷◌, length, map, Option, Some, None, refl, sym, ap, subst, ◌∙◌, ◌||◌}
 use Rattle.std.specs.Cmp.Lexicographic.{pointwise}
 use Rattle.std.proofs.lemmas.Bool.{both_ways, eq-eqb}
 use Rattle.std.proofs.lemmas.Slice.Eq.{bytes_eq-Decides}
@@ -123,3 +123,38 @@ said_looks [] e = absurd (cc)
 said_looks (b ∷ bs) e =
     subst (λ (n : ℕ). has_size n (reserved_sizes (to_ascii_lowercase b)) ≡ true)
     (length-map (b ∷ bs) to_ascii_lowercase) (reserved_looks (word_said (b ∷ bs)) e)
+
+-- ---- a word of the grammar is spelled in lower case
+
+lower_case : (keyword : Keyword) → word_said (keyword_text keyword) ≡ keyword_text keyword
+lower_case k.Array = refl
+lower_case k.Break = refl
+lower_case k.Char = refl
+lower_case k.Constant = refl
+lower_case k.Continue = refl
+lower_case k.Default = refl
+lower_case k.Do = refl
+lower_case k.Else = refl
+lower_case k.For = refl
+lower_case k.Global = refl
+lower_case k.If = refl
+lower_case k.NewLine = refl
+lower_case k.Print = refl
+lower_case k.Quit = refl
+lower_case k.Random = refl
+lower_case k.Read = refl
+lower_case k.Return = refl
+lower_case k.Rfalse = refl
+lower_case k.Rtrue = refl
+lower_case k.Switch = refl
+lower_case k.To = refl
+lower_case k.Until = refl
+lower_case k.While = refl
+
+-- so what is spelled as one says it
+pub spelled_says : (word : List ℕ) (keyword : Keyword) → keyword_spelled word ≡ Some keyword
+    → keyword_spelled (word_said word) ≡ Some keyword
+spelled_says word keyword is =
+    let same : word ≡ keyword_text keyword = spelled_word word keyword is in
+    let said : word_said word ≡ word = ap word_said same ∙ lower_case keyword ∙ sym same in
+    ap keyword_spelled said ∙ is

@@ -6,11 +6,11 @@ use Rattle.inform_lexer.specs.declared.kinds.Kind.{Kind}
 use Rattle.inform_lexer.specs.declared.kinds.Token.{Token}
 use Rattle.inform_lexer.specs.declared.faults.LexFault.{LexFault}
 use Rattle.inform_lexer.specs.Pieces.{Piece, added, cut}
-use Rattle.inform_lexer.specs.Tokens.{token_step, lexed, InOrder}
-use Rattle.inform_lexer.specs.Views.{given}
+use Rattle.inform_lexer.specs.Tokens.{TokenStep, token_step, lexed, InOrder}
+use Rattle.inform_lexer.specs.Views.{given, Reads}
 use Rattle.inform_lexer.proofs.Cutting.{goes_on, stops, ends, added_twice}
 
-abbrev rest : List ℕ → ℕ → List ℕ
+abbrev pub rest : List ℕ → ℕ → List ℕ
 rest whole at = take (length whole - at) (drop at whole)
 
 abbrev pub read : ℕ → List ℕ → Result (List Token) LexFault
@@ -25,6 +25,16 @@ pub read_on : (whole : List ℕ) (tokens : List Token) (at : ℕ) (p : Piece (Un
 read_on whole tokens at p inside is =
     let there : token_step tt at (drop at whole) ≡ Ok p = ap (λ (bytes : List ℕ). token_step tt at bytes) (sym (take_rest whole at)) ∙ sym is in
     sym (ap (λ (r : Result (List Token) LexFault). added tokens r) (goes_on token_step whole at tt p inside there) ∙ added_twice tokens p.gives _)
+
+-- the same of what a call added to the tokens
+pub reads_on : (whole : List ℕ) (before after : List Token) (at more : ℕ) (step : TokenStep) → at < length whole
+    → step ≡ token_step tt at (rest whole at) → Reads step before after (Ok more)
+    → added after (read (at + 1 + more) whole) ≡ added before (read at whole)
+reads_on whole before after at more (Ok p) inside is reads =
+    ap (λ (xs : List Token). added xs (read (at + 1 + more) whole)) reads.0
+    ∙ ap (λ (n : ℕ). added (before ++ p.gives) (read (at + 1 + n) whole)) reads.1
+    ∙ read_on whole before at p inside is
+reads_on whole before after at more (Err fault) inside is reads = absurd reads
 
 pub read_fault : (whole : List ℕ) (tokens : List Token) (at : ℕ) (fault : LexFault) → at < length whole → Err fault ≡ token_step tt at (rest whole at)
     → added tokens (read at whole) ≡ lexed whole → lexed whole ≡ Err fault

@@ -138,7 +138,7 @@ step_is : (c : Bool) (at b : ℕ) (bytes : List ℕ)
 unfolding string_step
 step_is c at b bytes = refl
 
-plain_step : (c : Bool) (at b : ℕ) (bytes : List ℕ) → is_plain b ≡ true → string_step c at (b ∷ bytes) ≡ says 1 b 0
+pub plain_step : (c : Bool) (at b : ℕ) (bytes : List ℕ) → is_plain b ≡ true → string_step c at (b ∷ bytes) ≡ says 1 b 0
 plain_step c at b bytes plain =
     let blank : is_blank b ≡ false = grind (arith, nat_tests) in
     let caret : eqb b 94 ≡ false = grind (arith, nat_tests) in

@@ -1,5 +1,5 @@
 -- What stands between the quotes of a string, and what it says.
-use Rattle.std.specs.Prelude.{ℕ, ◌==◌, ◌&&◌, ◌+◌, nat_le, Bool, true, false, if◌then◌else◌, List, [], ◌∷◌, take, replicate, Result, Ok, Err}
+use Rattle.std.specs.Prelude.{ℕ, ◌==◌, ◌&&◌, ◌+◌, nat_le, Bool, true, false, not, if◌then◌else◌, List, [], ◌∷◌, take, replicate, Result, Ok, Err}
 use Rattle.std.specs.List.{list_any, prefix_len}
 use Rattle.std.specs.Str.Parse.{digits_value}
 use Rattle.inform_tree.specs.Words.{is_byte}
@@ -10,6 +10,11 @@ use Rattle.inform_lexer.specs.Bytes.{is_blank, is_break, is_digit_in, is_plain}
 -- caret stands directly before it.
 abbrev pub StringStep : Type 0
 StringStep = Result (Piece Bool ℕ) ℕ
+
+-- a space, and no blank follows it
+abbrev pub is_lone_space : ℕ → List ℕ → Bool
+is_lone_space b [] = b == 32
+is_lone_space b (c ∷ bytes) = b == 32 && not (is_blank c)
 
 -- so many times this byte
 abbrev pub says : ℕ → ℕ → ℕ → StringStep

@@ -1,5 +1,5 @@
 -- The program's pieces, as the definitions have them.
-use Rattle.std.specs.Prelude.{ℕ, ◌+◌, Bool, List, [], ◌∷◌, replicate, Option, Some, None, Result, Ok, Err}
+use Rattle.std.specs.Prelude.{ℕ, ◌≡◌, ◌+◌, ◌++◌, Bool, List, [], ◌∷◌, replicate, Option, Some, None, Result, Ok, Err}
 use Rattle.inform_lexer.specs.declared.runs.Run.{Run}
 use Rattle.inform_lexer.specs.declared.runs.Run.TheVariants as run
 use Rattle.inform_lexer.specs.declared.strings.StringPiece.{StringPiece}
@@ -7,6 +7,7 @@ use Rattle.inform_lexer.specs.declared.pieces.Found.{Found}
 use Rattle.inform_lexer.specs.declared.kinds.Kind.{Kind}
 use Rattle.inform_lexer.specs.declared.kinds.Token.{Token}
 use Rattle.inform_lexer.specs.declared.faults.LexFault.{LexFault}
+use Rattle.inform_lexer.specs.declared.faults.LexFault.TheVariants.{Memory}
 use Rattle.inform_lexer.specs.Pieces.{Piece}
 use Rattle.inform_lexer.specs.Bytes.{is_blank, is_comment_byte, is_word_byte, is_digit_in, is_inside}
 use Rattle.inform_lexer.specs.Strings.{StringStep}
@@ -38,6 +39,14 @@ piece_at at found = record { gives = given at found.kind found.more; more = foun
 abbrev pub token_view : ℕ → Result Found LexFault → TokenStep
 token_view at (Ok found) = Ok (piece_at at found)
 token_view at (Err fault) = Err fault
+
+-- what a piece gives was added to the tokens, and so many bytes stand after its first one; or the
+-- fault is answered
+abbrev pub Reads : TokenStep → List Token → List Token → Result ℕ LexFault → Type 0
+Reads (Ok p) before after (Ok more) = (after ≡ before ++ p.gives) × (more ≡ p.more)
+Reads (Ok p) before after (Err fault) = fault ≡ Memory
+Reads (Err expected) before after (Ok more) = ⊥
+Reads (Err expected) before after (Err fault) = fault ≡ expected
 
 -- the place of what is refused, if anything is
 abbrev pub refused_at : Result (List ℕ) ℕ → Option ℕ

@@ -26,10 +26,15 @@ pub fn refused(inside: &[u8]) -> Option<usize>
     None
 }
 
-// Adds so many times this byte.
+// Adds so many times this byte, which most often is once.
+#[inline(always)]
 fn say(text: &mut Vec<u8>, byte: u8, count: usize) -> Result<(), AllocError>
     ensures { IfOk result (λ _. text.new.items ≡ text.old.items ++ replicate count byte) }
 {
+    if count == 1 {
+        text.push(byte)?;
+        return Ok(());
+    }
     for _ in 0..count {
         text.push(byte)?;
     }

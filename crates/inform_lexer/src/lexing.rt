@@ -4,43 +4,26 @@ ghost use Rattle.adv_io.specs.Answers.{Answers, IsErrOr};
 ghost use Rattle.inform_lexer.specs.declared.faults.LexFault.TheVariants.{Memory};
 ghost use Rattle.inform_lexer.specs.Tokens.{lexed, Spelled, Faulty, InOrder};
 ghost use Rattle.inform_lexer.specs.Answers.{fault_of, IsTokens};
-ghost use Rattle.inform_lexer.specs.Views.{given};
 
 use crate::exact_laws::exact_laws;
 use crate::faults::LexFault;
 use crate::kinds::Token;
-use crate::pieces::{Found, piece_here};
+use crate::pieces::read_piece;
 use std::alloc::Global;
 
-// Adds the token that a piece at this place is, if it is one.
-#[inline(always)]
-fn keep(tokens: &mut Vec<Token>, found: Found, at: usize) -> Result<(), LexFault>
-    requires { at + 1 + found.more < 2 ^ 64 }
-    ensures kept { IfOk result (λ _. tokens.new.items
-        ≡ tokens.old.items ++ given at found.kind found.more) }
-    ensures memory { IfErr result (λ fault. fault ≡ Memory) }
-{
-    if let Some(kind) = found.kind {
-        tokens.push(Token {
-            kind,
-            start: at,
-            end: at + 1 + found.more,
-        })?;
-    }
-    Ok(())
-}
+// Room is taken at first for one token in four bytes, but for no more than these.
+const ROOM: usize = 16_384;
 
 // Reads the pieces from left to right.
 fn read(alloc: Global, bytes: &[u8]) -> Result<Vec<Token>, LexFault>
     ensures same { Answers (λ tokens. tokens.items) fault_of result (lexed bytes.now) }
     ensures order { IfOk result (λ tokens. InOrder (length bytes.now) 0 tokens.items) }
 {
-    let mut tokens = Vec::new(alloc);
+    let mut tokens = Vec::with_capacity(alloc, (bytes.len() / 4).min(ROOM))?;
     let mut at = 0;
     while at < bytes.len() {
-        let found = piece_here(at, &bytes[at..])?;
-        keep(&mut tokens, found, at)?;
-        at = at + 1 + found.more;
+        let more = read_piece(&mut tokens, at, &bytes[at..])?;
+        at = at + 1 + more;
     }
     Ok(tokens)
 }

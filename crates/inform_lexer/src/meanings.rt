@@ -33,10 +33,10 @@ fn write_lower(word: &[u8], lower: &mut [u8])
     }
 }
 
-// What a word says that may be a reserved one.
+// What a word says that may be a reserved one, in whatever case.
 #[inline(never)]
 #[tactic(auto, using(crate::proofs::Names::free_word), unfolding(inform_lexemes::specs::Lexemes::word_lexeme))]
-fn reserved_glance(word: &[u8]) -> Glance
+fn folded_glance(word: &[u8]) -> Glance
     requires { length word.now ≤ 32 }
     ensures { result ≡ glance_of (word_lexeme (word_said word.now)) }
 {
@@ -47,6 +47,18 @@ fn reserved_glance(word: &[u8]) -> Glance
         Some(keyword) => Glance::Word(keyword),
         None if is_reserved(lower) => Glance::Reserved,
         None => Glance::Name,
+    }
+}
+
+// What a word says that may be a reserved one. Most stand in lower case as they are.
+#[inline(never)]
+fn reserved_glance(word: &[u8]) -> Glance
+    requires { length word.now ≤ 32 }
+    ensures { result ≡ glance_of (word_lexeme (word_said word.now)) }
+{
+    match keyword_of(word) {
+        Some(keyword) => Glance::Word(keyword),
+        None => folded_glance(word),
     }
 }
 

@@ -1,15 +1,15 @@
 //! The pieces of a text: blanks, comments and tokens.
-ghost use Rattle.std.specs.Prelude.{◌≡◌, ◌+◌, ◌∷◌, ◌≤◌, ◌<◌, ◌^◌, length, take, IfOk, Option};
-ghost use Rattle.inform_lexer.specs.Tokens.{word_here, number_token, decimal_here, based_here, dollar_here, character_here, string_here, symbol_token, symbol_first, token_step};
+ghost use Rattle.std.specs.Prelude.{◌≡◌, ◌+◌, ◌∷◌, ◌≤◌, ◌<◌, ◌^◌, length, take, IfOk, Option, Ok};
+ghost use Rattle.inform_lexer.specs.Tokens.{word_here, number_token, decimal_here, based_here, dollar_here, character_here, string_here, symbol_token, symbol_first, token_step, InOrder};
 ghost use Rattle.inform_lexer.specs.Strings.{inside_said};
-ghost use Rattle.inform_lexer.specs.Views.{token_view, refused_at};
+ghost use Rattle.inform_lexer.specs.Views.{token_view, piece_at, Reads, refused_at};
 
 use crate::bytes::{begins_word, is_blank};
 use crate::faults::LexFault;
 use crate::insides::refused;
-use crate::kinds::Kind;
+use crate::kinds::{Kind, Token};
 use crate::numbers::{is_digit_in, number_in};
-use crate::runs::{Run, comment_size};
+use crate::runs::{Run, comment_size, inside_size};
 use crate::signs::symbol_first;
 use inform_tree::{NAME_LIMIT, is_character};
 
@@ -125,7 +125,7 @@ fn string_here(at: usize, rest: &[u8]) -> Result<Found, LexFault>
     ensures value { token_view at result ≡ string_here at rest.now }
     ensures within { IfOk result (λ found. found.more ≤ length rest.now) }
 {
-    let size = Run::Inside.size(rest);
+    let size = inside_size(rest);
     if size >= rest.len() {
         return Err(LexFault::OpenString(at));
     }
@@ -148,32 +148,53 @@ fn symbol_here(at: usize, bytes: &[u8]) -> Result<Found, LexFault>
     }
 }
 
-/// The first piece, where this place is that of its first byte, or the fault of a token that begins
-/// there.
+// Adds the token that a piece at this place is, if it is one. Gives how many bytes the piece has
+// after its first one.
+#[inline(always)]
+fn keep(tokens: &mut Vec<Token>, at: usize, found: Found) -> Result<usize, LexFault>
+    requires { at + 1 + found.more < 2 ^ 64 }
+    ensures reads { Reads (Ok (piece_at at found)) tokens.old.items tokens.new.items result }
+    ensures order { InOrder at 0 tokens.old.items
+        → IfOk result (λ more. InOrder (at + 1 + more) 0 tokens.new.items) }
+{
+    if let Some(kind) = found.kind {
+        tokens.push(Token {
+            kind,
+            start: at,
+            end: at + 1 + found.more,
+        })?;
+    }
+    Ok(found.more)
+}
+
+/// Adds the first piece, where this place is that of its first byte, if it is a token. Gives how
+/// many bytes it has after its first one, or the fault of a token that begins there.
 #[tactic(auto, unfolding(crate::specs::Tokens::token_step))]
 #[inline(always)]
-pub fn piece_here(at: usize, bytes: &[u8]) -> Result<Found, LexFault>
+pub fn read_piece(tokens: &mut Vec<Token>, at: usize, bytes: &[u8]) -> Result<usize, LexFault>
     requires { at + length bytes.now < 2 ^ 63 }
-    ensures value { token_view at result ≡ token_step tt at bytes.now }
-    ensures within { IfOk result (λ found. 1 + found.more ≤ length bytes.now) }
+    ensures reads { Reads (token_step tt at bytes.now) tokens.old.items tokens.new.items result }
+    ensures order { InOrder at 0 tokens.old.items
+        → IfOk result (λ more. InOrder (at + 1 + more) 0 tokens.new.items) }
+    ensures within { IfOk result (λ more. 1 + more ≤ length bytes.now) }
 {
     let [first, rest @ ..] = bytes else {
         return Err(LexFault::BadByte(at));
     };
     if is_blank(*first) {
-        return Ok(gap(Run::Blanks.size(rest)));
+        return keep(tokens, at, gap(Run::Blanks.size(rest)));
     }
     if begins_word(*first) {
-        return word_here(at, rest);
+        return keep(tokens, at, word_here(at, rest)?);
     }
     if is_digit_in(10, *first) {
-        return decimal_here(at, bytes);
+        return keep(tokens, at, decimal_here(at, bytes)?);
     }
     match *first {
-        b'"' => string_here(at, rest),
-        b'\'' => character_here(at, rest),
-        b'!' => Ok(gap(comment_size(rest))),
-        b'$' => dollar_here(at, rest),
-        _ => symbol_here(at, bytes),
+        b'"' => keep(tokens, at, string_here(at, rest)?),
+        b'\'' => keep(tokens, at, character_here(at, rest)?),
+        b'!' => keep(tokens, at, gap(comment_size(rest))),
+        b'$' => keep(tokens, at, dollar_here(at, rest)?),
+        _ => keep(tokens, at, symbol_here(at, bytes)?),
     }
 }

@@ -1,7 +1,7 @@
 //! How many bytes of a kind stand first.
 ghost use Rattle.std.specs.Prelude.{◌≡◌, ◌≤◌, length};
 ghost use Rattle.std.specs.List.{prefix_len};
-ghost use Rattle.inform_lexer.specs.Bytes.{is_comment_byte};
+ghost use Rattle.inform_lexer.specs.Bytes.{is_comment_byte, is_inside};
 ghost use Rattle.inform_lexer.specs.Views.{in_run};
 
 use crate::bytes::{is_blank, is_break, is_word_byte};
@@ -70,4 +70,23 @@ pub fn comment_size(bytes: &[u8]) -> usize
         rest = more;
     }
     size + Run::Comment.size(rest)
+}
+
+/// How many bytes stand before the first quote. Four bytes at a time are passed as long as none is
+/// one.
+#[inline(always)]
+pub fn inside_size(bytes: &[u8]) -> usize
+    ensures value { result ≡ prefix_len is_inside bytes.now }
+    ensures within { result ≤ length bytes.now }
+{
+    let mut size = 0;
+    let mut rest = bytes;
+    while let [a, b, c, d, more @ ..] = rest {
+        if *a == b'"' || *b == b'"' || *c == b'"' || *d == b'"' {
+            break;
+        }
+        size += 4;
+        rest = more;
+    }
+    size + Run::Inside.size(rest)
 }

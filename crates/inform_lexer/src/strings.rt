@@ -2,7 +2,7 @@
 ghost use Rattle.std.specs.Prelude.{◌≡◌, ◌+◌, ◌∷◌, ◌≤◌, length, take, IfOk, IfErr};
 ghost use Rattle.std.specs.List.{list_any};
 ghost use Rattle.inform_lexer.specs.Bytes.{is_break};
-ghost use Rattle.inform_lexer.specs.Strings.{run_here, escape_here, string_step};
+ghost use Rattle.inform_lexer.specs.Strings.{is_lone_space, run_here, escape_here, string_step};
 ghost use Rattle.inform_lexer.specs.Views.{string_view};
 
 use crate::bytes::{is_blank, is_break, is_plain};
@@ -41,6 +41,17 @@ fn any_break(bytes: &[u8]) -> bool
     ensures { result ≡ list_any is_break bytes.now }
 {
     bytes.iter().any(|byte| is_break(*byte))
+}
+
+// Whether a byte is a space, and no blank stands behind it.
+#[inline(always)]
+fn is_lone_space(first: u8, rest: &[u8]) -> bool
+    ensures { result ≡ is_lone_space first rest.now }
+{
+    match rest {
+        [second, ..] => first == b' ' && !is_blank(*second),
+        [] => first == b' ',
+    }
 }
 
 // The run of blanks that begins with this one.
@@ -86,7 +97,7 @@ fn escape_here(at: usize, rest: &[u8]) -> Result<StringPiece, usize>
 
 /// The first piece, where this place is that of its first byte, or the place where it can't stand
 /// there.
-#[tactic(auto, unfolding(crate::specs::Strings::string_step))]
+#[tactic(auto, using(crate::proofs::QuickSteps::letter_step, crate::proofs::QuickSteps::lone_step), unfolding(crate::specs::Strings::string_step))]
 #[inline(always)]
 pub fn string_piece(caret: bool, at: usize, inside: &[u8]) -> Result<StringPiece, usize>
     ensures value { string_view result ≡ string_step caret at inside.now }
@@ -96,6 +107,9 @@ pub fn string_piece(caret: bool, at: usize, inside: &[u8]) -> Result<StringPiece
     let [first, rest @ ..] = inside else {
         return Err(at);
     };
+    if first.is_ascii_alphabetic() || is_lone_space(*first, rest) {
+        return Ok(StringPiece::single(*first, false));
+    }
     if is_blank(*first) {
         return Ok(run_here(caret, *first, rest));
     }

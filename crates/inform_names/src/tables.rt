@@ -147,7 +147,7 @@ impl<'a> Table<'a> {
         ensures { IfOk result (λ table. found_in table ≡ meanings width (program_of program.now)) }
     {
         let mut table = Table {
-            meanings: IndexMap::new(alloc),
+            meanings: IndexMap::with_capacity(alloc, program.directives.len())?,
         };
         for (at, directive) in program.directives.iter().enumerate() {
             table.add_directive(width, at, directive)?;

@@ -41,14 +41,15 @@ impl<'a> Model for Cursor<'a> {
     ghost invariant = { λ c. c.seen ≡ first_glance (lexemes c.bytes.now c.rest.now) };
 }
 
-// What is seen of the first of these tokens.
-fn first_glance(bytes: &[u8], tokens: &[Token]) -> Option<Glance>
-    ensures { result ≡ first_glance (lexemes bytes.now tokens.now) }
+// Sees the first of these tokens.
+#[inline(never)]
+fn see(seen: &mut Option<Glance>, bytes: &[u8], tokens: &[Token])
+    ensures { seen.new ≡ first_glance (lexemes bytes.now tokens.now) }
 {
-    match tokens {
+    *seen = match tokens {
         [token, ..] => Some(glance(bytes, *token)),
         [] => None,
-    }
+    };
 }
 
 // Whether such a lexeme opens something.
@@ -115,10 +116,12 @@ impl<'a> Cursor<'a> {
     pub fn new(bytes: &'a [u8], tokens: &'a [Token]) -> Cursor<'a>
         ensures { result ≡ spot 0 (lexemes bytes.now tokens.now) }
     {
+        let mut seen = None;
+        see(&mut seen, bytes, tokens);
         Cursor {
             bytes,
             rest: tokens,
-            seen: first_glance(bytes, tokens),
+            seen,
             opened: 0,
         }
     }
@@ -260,7 +263,7 @@ impl<'a> Cursor<'a> {
         };
         self.opened = opened;
         self.rest = &self.rest[1..];
-        self.seen = first_glance(self.bytes, self.rest);
+        see(&mut self.seen, self.bytes, self.rest);
         Ok(())
     }
 

@@ -49,7 +49,7 @@ impl<'a> Cursor<'a> {
         ensures gives { Gives names_in (many r.Local [] done) self.old result self.new }
         ensures ahead { length self.new.rest ≤ length self.old.rest }
     {
-        let mut locals = Vec::new(alloc);
+        let mut locals = Vec::with_capacity(alloc, usize::from(self.at_name()))?;
         while self.at_name() {
             let local = self.local(alloc)?;
             locals.push(local)?;

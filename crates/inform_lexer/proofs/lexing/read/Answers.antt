@@ -1,17 +1,16 @@
-use Rattle.std.proofs.Common.{◌+◌, ◌∙◌, List, sym, ap, subst, arith}
+use Rattle.std.proofs.Common.{◌∙◌, List, refl, sym, ap, subst, arith}
 use Rattle.inform_lexer.specs.declared.kinds.Token.{Token}
 use Rattle.inform_lexer.specs.Pieces.{added}
-use Rattle.inform_lexer.specs.Tokens.{InOrder}
-use Rattle.inform_lexer.specs.Views.{piece_at}
+use Rattle.inform_lexer.specs.Tokens.{token_step, InOrder}
 use Rattle.inform_lexer.proofs.Cutting.{added_none}
 use Rattle.inform_lexer.proofs.StringLoops.{within}
-use Rattle.inform_lexer.proofs.TokenLoop.{begun, read, read_on, next_one}
+use Rattle.inform_lexer.proofs.TokenLoop.{begun, read, rest, reads_on}
 use Rattle.inform_lexer.proofs.lexing.read.Goals as goal
 
 pub loop-at-init : goal.loop-at-init
 loop-at-init c =
     let whole = c.args.bytes.now in
-    let none = c.new-tokens.ensures.items in
+    let none = c.in_ok-tokens.ensures.items in
     record {
       inside = omega arith;
       same = ap (λ (xs : List Token). added xs (read 0 whole)) none ∙ added_none _ ∙ sym (begun whole);
@@ -20,16 +19,14 @@ loop-at-init c =
 
 pub loop-at-preserved : goal.loop-at-preserved
 loop-at-preserved c =
-    let found = c.in_ok-found.found in
+    let more = c.in_ok-more.more in
     let whole = c.args.bytes.now in
     let at = c.loop-at.at in
-    let tokens = c.loop-at.tokens.items in
-    let kept = c.in_ok-keep.ensures.kept in
+    let l = c.loop-at in
     record {
-      inside = within whole at found.more c.loop-at-test.true c.in_ok-found.ensures.within;
+      inside = within whole at more c.loop-at-test.true c.in_ok-more.ensures.within;
       same =
-          ap (λ (xs : List Token). added xs (read (at + 1 + found.more) whole)) kept
-          ∙ read_on whole tokens at (piece_at at found) c.loop-at-test.true c.in_ok-found.ensures.value
-          ∙ c.loop-at.invariant.same;
-      order = subst (λ (xs : List Token). InOrder (at + 1 + found.more) 0 xs) (sym kept) (next_one at 0 tokens found.kind found.more c.loop-at.invariant.order);
+          reads_on whole l.tokens.items c.read_piece.new.tokens.items at more (token_step tt at (rest whole at)) c.loop-at-test.true refl c.in_ok-more.ensures.reads
+          ∙ l.invariant.same;
+      order = c.in_ok-more.ensures.order l.invariant.order;
     }

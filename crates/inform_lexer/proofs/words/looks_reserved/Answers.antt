@@ -7,6 +7,6 @@ use Rattle.inform_lexer.proofs.words.looks_reserved.Goals as goal
 
 pub returns-in-len1-up : goal.returns-in-len1-up
 returns-in-len1-up c =
-    λ e. c.is_one_of.ensures
-    ∙ ap (list_any (nat_eq (length c.args.word.now))) (c.sizes_from.ensures ∙ ap reserved_sizes c.to_ascii_lowercase.ensures.value)
+    λ e. c.is_size_from.ensures
+    ∙ ap (λ first. list_any (nat_eq (length c.args.word.now)) (reserved_sizes first)) c.to_ascii_lowercase.ensures.value
     ∙ said_looks c.args.word.now e

@@ -8,7 +8,7 @@ pub loop-alloc-preserved : goal.loop-alloc-preserved
 loop-alloc-preserved c =
     let l = c.loop-alloc in (
       goes_on_same r.Local l.locals.items c.push.new.self.items c.in_ok-local.local l.self c.local.new.self _
-          (local_more l.locals.items l.self (sym c.at_name.ensures ∙ c.loop-alloc-test.true)) c.in_ok-push.ensures.items
+          (local_more l.locals.items l.self (sym c.at_name-in-loop-alloc.ensures ∙ c.loop-alloc-test.true)) c.in_ok-push.ensures.items
           c.in_ok-local.ensures.gives l.invariant.0,
       omega arith,
     )
