@@ -120,6 +120,7 @@ impl<'a> Cursor<'a> {
             let argument = self.argument(alloc)?;
             arguments.push(argument)?;
         }
+        arguments.shrink_to_fit();
         Ok(arguments)
     }
 
