@@ -1,9 +1,13 @@
 -- Frames on a stack: the last one is the innermost.
-use Rattle.std.proofs.Common.{◌≡◌, ◌∙◌, ℕ, zero, suc, ◌+◌, ◌-◌, ◌*◌, ◌<◌, ◌≤◌, List, [], ◌∷◌, ◌++◌, length, take, get_or, map, refl, sym, ap, arith, length-append}
+use Rattle.std.proofs.Common.{◌≡◌, ◌∙◌, ℕ, zero, suc, ◌+◌, ◌-◌, ◌*◌, ◌<◌, ◌≤◌, List, [], ◌∷◌, ◌++◌, length, take, get_or, map, refl, sym, ap, subst, arith, length-append}
 use Rattle.inform_meaning.specs.Frames as f
 use Rattle.inform_moves.specs.Heights.{calls_open}
 use Rattle.inform_frames.specs.declared.frames.Frame.{Frame}
-use Rattle.inform_frames.specs.Frames.{frame_of, frames_of, rest_of}
+use Rattle.inform_meaning.specs.Worlds.{Program, World}
+use Rattle.inform_moves.specs.Moves.{next}
+use Rattle.inform_frames.specs.declared.nexts.Next.{Next}
+use Rattle.inform_frames.specs.Frames.{frame_of, frames_of, top_of, rest_of}
+use Rattle.inform_frames.specs.Nexts.{MakesOf}
 
 -- a frame that is put at the end is the innermost
 pub frames-push : (xs : List Frame) (y : Frame) → frames_of (xs ++ y ∷ []) ≡ frame_of y ∷ frames_of xs
@@ -48,3 +52,13 @@ calls-few (f.Over halt) = omega arith
 pub calls-fewer : (xs : List f.Frame) → calls_open xs ≤ length xs
 calls-fewer [] = omega arith
 calls-fewer (x ∷ xs) = omega (arith, calls-first x xs, calls-few x, calls-fewer xs)
+
+-- the move of the innermost frame is that of the frame that stands there
+pub innermost-makes : (p : Program) (room : ℕ) (before after : World) (e : f.Outcome) (fs news : List f.Frame) (x : f.Frame) (made : Next)
+    → fs ≡ x ∷ rest_of fs → MakesOf before after (next p room before x e) (rest_of fs) news made
+    → MakesOf before after (next p room before (top_of fs) e) (rest_of fs) news made
+innermost-makes p room before after e fs news x made is makes =
+    subst (λ y. MakesOf before after (next p room before y e) (rest_of fs) news made) (sym (ap top_of is)) makes
+
+pub innermost_is : (fs : List f.Frame) (x : f.Frame) → fs ≡ x ∷ rest_of fs → fs ≡ top_of fs ∷ rest_of fs
+innermost_is fs x is = is ∙ ap (λ y. y ∷ rest_of fs) (sym (ap top_of is))

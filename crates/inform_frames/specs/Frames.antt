@@ -110,6 +110,11 @@ abbrev pub frames_of : List Frame → List f.Frame
 frames_of [] = []
 frames_of (x ∷ xs) = frames_of xs ++ frame_of x ∷ []
 
+-- the innermost; `Main` where there is none
+abbrev pub top_of : List f.Frame → f.Frame
+top_of [] = f.Main
+top_of (x ∷ xs) = x
+
 -- all but the innermost
 abbrev pub rest_of : List f.Frame → List f.Frame
 rest_of [] = []

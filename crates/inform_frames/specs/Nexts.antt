@@ -1,53 +1,65 @@
 -- The moves of the program, as the meaning has them.
-use Rattle.std.specs.Prelude.{ℕ, ◌≡◌, ◌+◌, ◌≤◌, List, [], ◌∷◌, ◌++◌, length, None}
+use Rattle.std.specs.Prelude.{ℕ, ◌≡◌, ◌+◌, ◌≤◌, List, [], ◌∷◌, ◌++◌, length, Option, None}
 use Rattle.std.specs.Fmt.{signed_decimal}
 use Rattle.inform_meaning.specs.Worlds as w
-use Rattle.inform_meaning.specs.Worlds.{assigned, stored}
 use Rattle.inform_meaning.specs.Frames as f
 use Rattle.inform_moves.specs.Moves as m
-use Rattle.inform_moves.specs.Moves.{pushed_in, outcome_in, effect_in}
 use Rattle.inform_moves.specs.Needs as n
-use Rattle.inform_worlds.specs.Scopes.{scope_of}
 use Rattle.inform_frames.specs.declared.needs.Need.{Need}
 use Rattle.inform_frames.specs.declared.needs.Need.TheVariants as d
-use Rattle.inform_frames.specs.declared.nexts.Effect.{Effect}
-use Rattle.inform_frames.specs.declared.nexts.Effect.TheVariants as e
+use Rattle.inform_frames.specs.declared.nexts.Said.{Said}
+use Rattle.inform_frames.specs.declared.nexts.Said.TheVariants as s
 use Rattle.inform_frames.specs.declared.nexts.Next.{Next}
 use Rattle.inform_frames.specs.declared.stacks.Stack.{Stack}
-use Rattle.inform_frames.specs.Frames.{frame_of, signal_of}
+use Rattle.inform_frames.specs.Frames.{signal_of}
 use Rattle.inform_frames.specs.Stacks.{stack_of}
 
-abbrev pub effect_of : w.World → Effect → m.Effect
-effect_of world e.Keeps = m.Keeps
-effect_of world (e.Writes name v) = m.Becomes (assigned name.now v world)
-effect_of world (e.Stores name words i v) = m.Becomes (stored name.now words i v world)
-effect_of world (e.Opens scope) = m.Enters (record world { scope = scope_of scope }) None
-effect_of world (e.Closes scope) = m.Becomes (record world { scope = scope_of scope })
-effect_of world (e.Says text) = m.Says text.now
-effect_of world (e.SaysNumber n) = m.Says (signed_decimal n)
-effect_of world (e.SaysByte byte) = m.Says (byte ∷ [])
+-- the world after a move, the bytes that were said, and the number that was noted, if any
+pub data Done : Type 0 where
+  done : w.World → List ℕ → Option ℕ → Done
 
--- the frames that stand after a move, what is handed to the innermost of them, and what the move
--- does
+-- where the world is this one, and this was said
+abbrev pub done_by : w.World → Said → Done
+done_by world s.Nothing = done world [] None
+done_by world (s.Text text) = done world text.now None
+done_by world (s.Number n) = done world (signed_decimal n) None
+done_by world (s.Byte byte) = done world (byte ∷ []) None
+
+-- what an effect does to a world
+abbrev pub done_in : w.World → m.Effect → Done
+done_in world m.Keeps = done world [] None
+done_in world (m.Becomes after) = done after [] None
+done_in world (m.Says bytes) = done world bytes None
+done_in world (m.Enters after number) = done after [] number
+
+-- the frames that stand after a move, what is handed to the innermost of them, and what was done
 pub data Made : Type 0 where
-  made : List f.Frame → f.Outcome → m.Effect → Made
+  made : List f.Frame → f.Outcome → Done → Made
 
-abbrev pub made_of : m.Move → List f.Frame → Made
-made_of (m.Goes frames e effect) rest = made (frames ++ rest) e effect
-made_of (m.Ticks frames e effect) rest = made (frames ++ rest) e effect
-made_of (m.Reads name) rest = made rest f.Normal m.Keeps
-made_of (m.Draws n) rest = made rest f.Normal m.Keeps
+abbrev pub made_of : w.World → m.Move → List f.Frame → Made
+made_of world (m.Goes frames e effect) rest = made (frames ++ rest) e (done_in world effect)
+made_of world (m.Ticks frames e effect) rest = made (frames ++ rest) e (done_in world effect)
+made_of world (m.Reads name) rest = made rest f.Normal (done world [] None)
+made_of world (m.Draws n) rest = made rest f.Normal (done world [] None)
 
--- this is what a move makes of a stack
+-- this is what a move makes of a world and of these frames
+abbrev pub MakesOf : w.World → w.World → m.Move → List f.Frame → List f.Frame → Next → Type 0
+MakesOf before after move rest frames next =
+    made frames (signal_of next.signal) (done_by after next.said) ≡ made_of before move rest
+
+-- the same of a world and a stack
+abbrev pub Changes : w.World → w.World → m.Move → Stack → Stack → Next → Type 0
+Changes before after move old new next =
+    MakesOf before after move (stack_of old) (stack_of new) next
+
+-- of a move that leaves the world as it is
 abbrev pub Makes : w.World → m.Move → Stack → Stack → Next → Type 0
-Makes world move old new next =
-    made (stack_of new) (signal_of next.signal) (effect_of world next.effect)
-    ≡ made_of move (stack_of old)
+Makes world move old new next = Changes world world move old new next
 
--- the same of a move that puts no frame on the stack
-abbrev pub Hands : w.World → m.Move → Next → Type 0
-Hands world move next = (rest : List f.Frame)
-    → made rest (signal_of next.signal) (effect_of world next.effect) ≡ made_of move rest
+-- of a move that puts no frame on the stack
+abbrev pub Hands : w.World → w.World → m.Move → Next → Type 0
+Hands before after move next =
+    (rest : List f.Frame) → MakesOf before after move rest rest next
 
 abbrev pub need_seen : Need → n.Need
 need_seen d.Nothing = n.Nothing

@@ -4,7 +4,7 @@ ghost use Rattle.inform_moves.specs.Moves.{begin_move};
 ghost use Rattle.inform_worlds.specs.Views.{world_of, program_seen};
 ghost use Rattle.inform_frames.specs.Frames.{begin_of};
 ghost use Rattle.inform_frames.specs.Stacks.{HasRoom};
-ghost use Rattle.inform_frames.specs.Nexts.{Makes};
+ghost use Rattle.inform_frames.specs.Nexts.{Changes};
 
 use crate::calls::call_next;
 use crate::changes::alter_next;
@@ -22,14 +22,16 @@ use inform_worlds::World;
 /// The move of what hasn't begun, where so many more calls may be open. A line and a draw are for
 /// the machine to take.
 pub fn begin_next<'a>(
-    world: &World<'a>,
+    world: &mut World<'a>,
     stack: &mut Stack<'a>,
     room: usize,
     begin: &Begin<'a>,
 ) -> Next<'a>
     requires { HasRoom stack.old }
-    ensures { Makes (world_of world.now) (begin_move (program_seen world.now) room
-        (world_of world.now) (begin_of begin.now)) stack.old stack.new result }
+    ensures names { world.new.names ≡ world.old.names }
+    ensures next { Changes (world_of world.old) (world_of world.new)
+        (begin_move (program_seen world.old) room (world_of world.old) (begin_of begin.now))
+        stack.old stack.new result }
 {
     match begin {
         Begin::Evals(x) => eval_next(world, stack, x),

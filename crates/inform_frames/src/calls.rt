@@ -6,12 +6,13 @@ ghost use Rattle.inform_worlds.specs.Scopes.{values_of};
 ghost use Rattle.inform_worlds.specs.Worlds.{program_of};
 ghost use Rattle.inform_worlds.specs.Views.{world_of, program_seen};
 ghost use Rattle.inform_frames.specs.Stacks.{HasRoom};
-ghost use Rattle.inform_frames.specs.Nexts.{Makes};
+ghost use Rattle.inform_frames.specs.Nexts.{Changes};
 
 use crate::frames::{Begin, Frame};
-use crate::nexts::{Effect, Next};
-use crate::signals::{Halt, Signal};
+use crate::nexts::Next;
+use crate::signals::Signal;
 use crate::stacks::Stack;
+use crate::values::trapped;
 use inform_meaning::Trap;
 use inform_names::Names;
 use inform_names::laws::meanings_are_of_directives;
@@ -43,14 +44,16 @@ fn routine<'a>(names: &Names<'a>, name: &Name) -> Option<(usize, &'a Routine)>
 
 // A call where more calls may be open.
 fn enter_next<'a>(
-    world: &World<'a>,
+    world: &mut World<'a>,
     stack: &mut Stack<'a>,
-    name: &'a Name,
+    name: &Name,
     values: &Arguments,
 ) -> Next<'a>
     requires { HasRoom stack.old }
-    ensures { let p = program_seen world.now in Makes (world_of world.now)
-        (enter_move p (world_of world.now) name.now (p.routines name.now) (values_of values.now))
+    ensures names { world.new.names ≡ world.old.names }
+    ensures next { let p = program_seen world.old in
+        Changes (world_of world.old) (world_of world.new)
+        (enter_move p (world_of world.old) name.now (p.routines name.now) (values_of values.now))
         stack.old stack.new result }
 {
     match routine(world.names(), name) {
@@ -58,29 +61,28 @@ fn enter_next<'a>(
         Some((directive, routine)) => {
             stack.push(Frame::Calling(world.scope()));
             stack.push(Frame::Begins(Begin::Blocks(&routine.body)));
-            Next {
-                signal: Signal::Normal,
-                effect: Effect::Opens(Scope::of(directive, routine, values)),
-            }
+            world.enter(Scope::of(directive, routine, values));
+            Next::hands(Signal::Normal)
         }
     }
 }
 
 /// A call whose arguments are known, where so many more calls may be open.
 pub fn call_next<'a>(
-    world: &World<'a>,
+    world: &mut World<'a>,
     stack: &mut Stack<'a>,
     room: usize,
-    name: &'a Name,
+    name: &Name,
     values: &Arguments,
 ) -> Next<'a>
     requires { HasRoom stack.old }
-    ensures { Makes (world_of world.now) (call_move (program_seen world.now) room
-        (world_of world.now) name.now (values_of values.now)) stack.old stack.new result }
+    ensures names { world.new.names ≡ world.old.names }
+    ensures next { Changes (world_of world.old) (world_of world.new)
+        (call_move (program_seen world.old) room (world_of world.old) name.now
+        (values_of values.now)) stack.old stack.new result }
 {
     if room == 0 {
-        let directive = world.scope().directive;
-        return Next::hands(Signal::Halts(Halt::Trapped(Trap::Depth, directive)));
+        return trapped(world, Trap::Depth);
     }
     enter_next(world, stack, name, values)
 }

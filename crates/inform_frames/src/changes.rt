@@ -3,15 +3,15 @@ ghost use Rattle.std.specs.Prelude.{◌≡◌};
 ghost use Rattle.inform_tree.specs.Values.{expression_of};
 ghost use Rattle.inform_tree.specs.Statements.{assignment_of};
 ghost use Rattle.inform_meaning.specs.Words.{word_sum};
-ghost use Rattle.inform_meaning.specs.Worlds.{value_of, entry_at, entries_of};
+ghost use Rattle.inform_meaning.specs.Worlds.{assigned, value_of, entry_at, entries_of};
 ghost use Rattle.inform_moves.specs.Moves.{alter_move, entry_move, store_move, place_move};
 ghost use Rattle.inform_worlds.specs.Views.{world_of, program_seen};
 ghost use Rattle.inform_frames.specs.Stacks.{HasRoom};
-ghost use Rattle.inform_frames.specs.Nexts.{Hands, Makes};
+ghost use Rattle.inform_frames.specs.Nexts.{Hands, Changes};
 
 use crate::frames::Want;
 use crate::immediate::immediate_value;
-use crate::nexts::{Effect, Next};
+use crate::nexts::{Next, Said};
 use crate::signals::Signal;
 use crate::stacks::Stack;
 use crate::values::{evals, trapped};
@@ -20,30 +20,32 @@ use inform_tree::{Change, Expr, Name};
 use inform_worlds::World;
 
 /// A variable gets a value.
-pub fn assigns<'a>(name: &'a Name, value: i32) -> Next<'a>
-    ensures { result ≡ record { signal = Signal.Normal; effect = Effect.Writes name.entry value } }
+pub fn assigns<'a>(world: &mut World<'a>, name: &Name, value: i32) -> Next<'a>
+    ensures names { world.new.names ≡ world.old.names }
+    ensures world { world_of world.new ≡ assigned name.now value (world_of world.old) }
+    ensures next { result ≡ record { signal = Signal.Normal; said = Said.Nothing } }
 {
-    Next {
-        signal: Signal::Normal,
-        effect: Effect::Writes(name, value),
-    }
+    world.assign(name, value);
+    Next::hands(Signal::Normal)
 }
 
 // A variable counts by 1 or -1.
-fn counts<'a>(world: &World<'a>, name: &'a Name, by: i32) -> Next<'a>
-    ensures { result ≡ record {
-      signal = Signal.Normal;
-      effect = Effect.Writes name.entry (word_sum (program_seen world.now).width
-          (value_of (program_seen world.now) name.now (world_of world.now)) by);
-    } }
+fn counts<'a>(world: &mut World<'a>, name: &Name, by: i32) -> Next<'a>
+    ensures names { world.new.names ≡ world.old.names }
+    ensures world { world_of world.new ≡ assigned name.now
+        (word_sum (program_seen world.old).width
+        (value_of (program_seen world.old) name.now (world_of world.old)) by)
+        (world_of world.old) }
+    ensures next { result ≡ record { signal = Signal.Normal; said = Said.Nothing } }
 {
     let width = world.names().accepted().width();
-    assigns(name, add(width, world.value(name), by))
+    let sum = add(width, world.value(name), by);
+    assigns(world, name, sum)
 }
 
 /// The entry of an array at an index.
 pub fn entry_next<'a>(world: &World<'a>, name: &Name, index: i32) -> Next<'a>
-    ensures { let world = world_of world.now in Hands world
+    ensures { let world = world_of world.now in Hands world world
         (entry_move world (entry_at (entries_of name.now world) index)) result }
 {
     match world.entry(name, index) {
@@ -54,27 +56,28 @@ pub fn entry_next<'a>(world: &World<'a>, name: &Name, index: i32) -> Next<'a>
 
 /// Another value of an entry, if there is such an entry.
 pub fn store_next<'a>(
-    world: &World<'a>,
-    name: &'a Name,
+    world: &mut World<'a>,
+    name: &Name,
     words: bool,
     index: i32,
     value: i32,
 ) -> Next<'a>
-    ensures { let world = world_of world.now in Hands world
-        (store_move world name.now words index value) result }
+    ensures names { world.new.names ≡ world.old.names }
+    ensures next { Hands (world_of world.old) (world_of world.new)
+        (store_move (world_of world.old) name.now words index value) result }
 {
     match world.entry(name, index) {
         None => trapped(world, Trap::Index),
-        Some(_) => Next {
-            signal: Signal::Normal,
-            effect: Effect::Stores(name, words, index, value),
-        },
+        Some(_) => {
+            world.store(name, words, index, value);
+            Next::hands(Signal::Normal)
+        }
     }
 }
 
 /// The value for an entry whose place is known.
 pub fn place_next<'a>(
-    world: &World<'a>,
+    world: &mut World<'a>,
     stack: &mut Stack<'a>,
     name: &'a Name,
     words: bool,
@@ -82,8 +85,10 @@ pub fn place_next<'a>(
     value: &'a Expr,
 ) -> Next<'a>
     requires { HasRoom stack.old }
-    ensures { Makes (world_of world.now) (place_move (program_seen world.now) (world_of world.now)
-        name.now words index (expression_of value.now)) stack.old stack.new result }
+    ensures names { world.new.names ≡ world.old.names }
+    ensures next { Changes (world_of world.old) (world_of world.new)
+        (place_move (program_seen world.old) (world_of world.old) name.now words index
+        (expression_of value.now)) stack.old stack.new result }
 {
     match immediate_value(world, value) {
         Some(a) => store_next(world, name, words, index, a),
@@ -92,14 +97,16 @@ pub fn place_next<'a>(
 }
 
 /// A change that hasn't begun.
-pub fn alter_next<'a>(world: &World<'a>, stack: &mut Stack<'a>, x: &'a Change) -> Next<'a>
+pub fn alter_next<'a>(world: &mut World<'a>, stack: &mut Stack<'a>, x: &'a Change) -> Next<'a>
     requires { HasRoom stack.old }
-    ensures { Makes (world_of world.now) (alter_move (program_seen world.now) (world_of world.now)
-        (assignment_of x.now)) stack.old stack.new result }
+    ensures names { world.new.names ≡ world.old.names }
+    ensures next { Changes (world_of world.old) (world_of world.new)
+        (alter_move (program_seen world.old) (world_of world.old) (assignment_of x.now))
+        stack.old stack.new result }
 {
     match x {
         Change::Set(name, x) => match immediate_value(world, x) {
-            Some(a) => assigns(name, a),
+            Some(a) => assigns(world, name, a),
             None => evals(stack, x, Want::Sets(name)),
         },
         Change::SetEntry(name, words, index, x) => match immediate_value(world, index) {

@@ -7,13 +7,13 @@ ghost use Rattle.inform_worlds.specs.Views.{world_of, program_seen};
 ghost use Rattle.inform_frames.specs.Frames as v;
 ghost use Rattle.inform_frames.specs.Frames.{begin_of, want_of, decide_of, frame_of, signal_of};
 ghost use Rattle.inform_frames.specs.Stacks.{HasRoom};
-ghost use Rattle.inform_frames.specs.Nexts.{Makes};
+ghost use Rattle.inform_frames.specs.Nexts.{Makes, Changes};
 
 use crate::begins::begin_next;
 use crate::conditions::{all_next, any_next};
 use crate::frames::{Begin, Decide, Frame, Want};
 use crate::loops::{body_next, tested_next};
-use crate::nexts::{Effect, Next};
+use crate::nexts::Next;
 use crate::signals::{Halt, Signal};
 use crate::stacks::Stack;
 use crate::values::goes_to;
@@ -72,15 +72,17 @@ pub fn halt_of(signal: Signal) -> Halt
 }
 
 fn begun_next<'a>(
-    world: &World<'a>,
+    world: &mut World<'a>,
     stack: &mut Stack<'a>,
     room: usize,
     begin: &Begin<'a>,
     signal: Signal,
 ) -> Next<'a>
     requires { HasRoom stack.old }
-    ensures { Makes (world_of world.now) (begun_move (program_seen world.now) room
-        (world_of world.now) (begin_of begin.now) (signal_of signal)) stack.old stack.new result }
+    ensures names { world.new.names ≡ world.old.names }
+    ensures next { Changes (world_of world.old) (world_of world.new)
+        (begun_move (program_seen world.old) room (world_of world.old) (begin_of begin.now)
+        (signal_of signal)) stack.old stack.new result }
 {
     match signal {
         Signal::Normal => begin_next(world, stack, room, begin),
@@ -89,14 +91,16 @@ fn begun_next<'a>(
 }
 
 fn wanted_next<'a>(
-    world: &World<'a>,
+    world: &mut World<'a>,
     stack: &mut Stack<'a>,
     want: &Want<'a>,
     signal: Signal,
 ) -> Next<'a>
     requires { HasRoom stack.old }
-    ensures { Makes (world_of world.now) (wanted_move (program_seen world.now) (world_of world.now)
-        (want_of want.now) (signal_of signal)) stack.old stack.new result }
+    ensures names { world.new.names ≡ world.old.names }
+    ensures next { Changes (world_of world.old) (world_of world.new)
+        (wanted_move (program_seen world.old) (world_of world.old) (want_of want.now)
+        (signal_of signal)) stack.old stack.new result }
 {
     match signal {
         Signal::Value(a) => want_next(world, stack, want, a),
@@ -118,25 +122,27 @@ fn decided_next<'a>(stack: &mut Stack<'a>, decide: &Decide<'a>, signal: Signal) 
 /// The move of a frame to which this is handed, where so many more calls may be open. The frame was
 /// taken from the stack.
 pub fn next<'a>(
-    world: &World<'a>,
+    world: &mut World<'a>,
     stack: &mut Stack<'a>,
     room: usize,
     frame: &Frame<'a>,
     signal: Signal,
 ) -> Next<'a>
     requires { HasRoom stack.old }
-    ensures { Makes (world_of world.now) (next (program_seen world.now) room (world_of world.now)
-        (frame_of frame.now) (signal_of signal)) stack.old stack.new result }
+    ensures names { world.new.names ≡ world.old.names }
+    ensures next { Changes (world_of world.old) (world_of world.new)
+        (next (program_seen world.old) room (world_of world.old) (frame_of frame.now)
+        (signal_of signal)) stack.old stack.new result }
 {
     match frame {
         Frame::Begins(begin) => begun_next(world, stack, room, begin, signal),
         Frame::Wants(want) => wanted_next(world, stack, want, signal),
         Frame::Decides(decide) => decided_next(stack, decide, signal),
         Frame::Looping(l) => body_next(stack, *l, signal),
-        Frame::Calling(scope) => Next {
-            signal: returned(signal),
-            effect: Effect::Closes(*scope),
-        },
+        Frame::Calling(scope) => {
+            world.enter(*scope);
+            Next::hands(returned(signal))
+        }
         Frame::Main => Next::hands(Signal::Halts(halt_of(signal))),
         Frame::Over(halt) => Next::hands(Signal::Halts(*halt)),
     }

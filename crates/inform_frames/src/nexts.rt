@@ -1,44 +1,47 @@
-//! What a move does beside the frames that it puts on the stack.
+//! What a move says, and what it hands on.
 use crate::signals::Signal;
-use inform_tree::{Name, Text};
-use inform_worlds::Scope;
+use inform_tree::Text;
 
-/// What a move does to the world, and what it says.
+/// What a move says.
 #[derive(Clone, Copy)]
-pub enum Effect<'a> {
-    Keeps,
-    /// A variable gets this value.
-    Writes(&'a Name, i32),
-    /// An entry of an array of words, or else of bytes, gets this value.
-    Stores(&'a Name, bool, i32, i32),
-    /// A routine is entered.
-    Opens(Scope<'a>),
-    /// The caller of a routine goes on.
-    Closes(Scope<'a>),
-    Says(&'a Text),
+pub enum Said<'a> {
+    Nothing,
+    Text(&'a Text),
     /// A number in decimal.
-    SaysNumber(i32),
-    SaysByte(u8),
+    Number(i32),
+    Byte(u8),
 }
 
-/// What is handed to the innermost frame after a move, and what the move does.
+/// What is handed to the innermost frame after a move, and what the move says. What it changes is
+/// changed by then.
 #[derive(Clone, Copy)]
 pub struct Next<'a> {
     pub signal: Signal,
-    pub effect: Effect<'a>,
+    pub said: Said<'a>,
 }
 
 impl<'a> Next<'a> {
     ghost use Rattle.std.specs.Prelude.{◌≡◌};
 
-    /// This is handed on, and nothing else is done.
+    /// This is handed on, and nothing is said.
     #[inline(always)]
     pub fn hands(signal: Signal) -> Next<'a>
-        ensures { result ≡ record { signal = signal; effect = Effect.Keeps } }
+        ensures { result ≡ record { signal = signal; said = Said.Nothing } }
     {
         Next {
             signal,
-            effect: Effect::Keeps,
+            said: Said::Nothing,
+        }
+    }
+
+    /// This is said, and the run goes on.
+    #[inline(always)]
+    pub fn says(said: Said<'a>) -> Next<'a>
+        ensures { result ≡ record { signal = Signal.Normal; said = said.entry } }
+    {
+        Next {
+            signal: Signal::Normal,
+            said,
         }
     }
 }

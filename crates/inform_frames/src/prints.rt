@@ -11,7 +11,7 @@ ghost use Rattle.inform_frames.specs.Nexts.{Makes};
 
 use crate::frames::{Begin, Frame, Want};
 use crate::immediate::immediate_value;
-use crate::nexts::{Effect, Next};
+use crate::nexts::{Next, Said};
 use crate::signals::Signal;
 use crate::stacks::Stack;
 use crate::values::evals;
@@ -26,10 +26,7 @@ fn says_text<'a>(stack: &mut Stack<'a>, text: &'a Text, xs: &'a [Item]) -> Next<
         stack.old stack.new result }
 {
     stack.push(Frame::Begins(Begin::Prints(xs)));
-    Next {
-        signal: Signal::Normal,
-        effect: Effect::Says(text),
-    }
+    Next::says(Said::Text(text))
 }
 
 /// A number is said, and then these items.
@@ -39,10 +36,7 @@ pub fn says_number<'a>(stack: &mut Stack<'a>, n: i32, xs: &'a [Item]) -> Next<'a
         (map print_item_of xs.now)) stack.old stack.new result }
 {
     stack.push(Frame::Begins(Begin::Prints(xs)));
-    Next {
-        signal: Signal::Normal,
-        effect: Effect::SaysNumber(n),
-    }
+    Next::says(Said::Number(n))
 }
 
 /// The byte of a number is said, and then these items.
@@ -52,10 +46,7 @@ pub fn says_char<'a>(stack: &mut Stack<'a>, n: i32, xs: &'a [Item]) -> Next<'a>
         (map print_item_of xs.now)) stack.old stack.new result }
 {
     stack.push(Frame::Begins(Begin::Prints(xs)));
-    Next {
-        signal: Signal::Normal,
-        effect: Effect::SaysByte(low_byte(n)),
-    }
+    Next::says(Said::Byte(low_byte(n)))
 }
 
 // The next item, and then the others.

@@ -1,11 +1,15 @@
 //! The stack: what has begun and isn't finished.
-ghost use Rattle.std.specs.Prelude.{◌≡◌, ◌≤◌, ◌∷◌, [], vec_capacity};
+ghost use Rattle.std.specs.Prelude.{◌≡◌, ◌≤◌, ◌∷◌, [], vec_capacity, IfSome};
+ghost use Rattle.inform_tree.specs.Statements as s;
+ghost use Rattle.inform_tree.specs.Statements.{statement_of, statements_of};
+ghost use Rattle.inform_meaning.specs.Frames as f;
 ghost use Rattle.inform_moves.specs.Heights.{calls_open};
 ghost use Rattle.inform_frames.specs.Frames.{frame_of, frames_of, rest_of};
 ghost use Rattle.inform_frames.specs.declared.stacks.TheConstants.{ROOM};
 
-use crate::frames::Frame;
+use crate::frames::{Begin, Frame};
 use adv_io::Memory;
+use inform_tree::Stmt;
 use std::alloc::Global;
 
 /// How many frames there is room for: 130 of `Main` and of each of 200 calls, and two more, since a
@@ -20,6 +24,17 @@ pub struct Stack<'a> {
     calls: usize,
     pub ghost counted: { calls ≡ calls_open (frames_of frames.items) },
     pub ghost room: { ROOM ≤ vec_capacity frames },
+}
+
+// The first of these statements, and the others, if there is one.
+fn first_of<'a>(xs: &'a [Stmt]) -> Option<(&'a Stmt, &'a [Stmt])>
+    ensures { IfSome result (λ x. statements_of xs.now
+        ≡ s.MoreStatements (statement_of x.0.now) (statements_of x.1.now)) }
+{
+    match xs {
+        [] => None,
+        [x, others @ ..] => Some((x, others)),
+    }
 }
 
 // How many calls a frame opens: one where a caller waits in it.
@@ -39,7 +54,7 @@ fn calls_in(frame: &Frame) -> usize
 }
 
 impl<'a> Stack<'a> {
-    ghost use Rattle.std.specs.Prelude.{◌<◌, length, IfOk, IfNone, IfSome};
+    ghost use Rattle.std.specs.Prelude.{◌<◌, length, IfOk, IfNone};
     ghost use Rattle.inform_frames.specs.Stacks.{stack_of};
 
     /// No frame, and all the memory that is ever taken.
@@ -58,6 +73,7 @@ impl<'a> Stack<'a> {
     }
 
     /// The innermost frame, if there is one.
+    #[inline(always)]
     pub fn top(&self) -> Option<&Frame<'a>>
         ensures none { IfNone result (stack_of self.now ≡ []) }
         ensures top { IfSome result (λ frame. stack_of self.now
@@ -70,7 +86,24 @@ impl<'a> Stack<'a> {
         Some(&self.frames[size - 1])
     }
 
+    /// The next statement of the block that is the innermost frame, and the others, if it is a block
+    /// that has one.
+    #[inline(always)]
+    pub fn statement(&self) -> Option<(&'a Stmt, &'a [Stmt])>
+        ensures { IfSome result (λ x. stack_of self.now ≡ f.Begins (f.Blocks (s.MoreStatements
+            (statement_of x.0.now) (statements_of x.1.now))) ∷ rest_of (stack_of self.now)) }
+    {
+        match self.top() {
+            None => None,
+            Some(frame) => match frame {
+                Frame::Begins(Begin::Blocks(xs)) => first_of(xs),
+                _ => None,
+            },
+        }
+    }
+
     /// One more frame, which is the innermost one.
+    #[inline(always)]
     pub fn push(&mut self, frame: Frame<'a>)
         requires { length (stack_of self.old) < ROOM }
         ensures { stack_of self.new ≡ frame_of frame.entry ∷ stack_of self.old }
@@ -80,6 +113,7 @@ impl<'a> Stack<'a> {
     }
 
     /// The innermost frame is taken away, if there is one.
+    #[inline(always)]
     pub fn pop(&mut self) -> Option<Frame<'a>>
         ensures none { IfNone result (stack_of self.old ≡ []) }
         ensures top { IfSome result (λ frame. stack_of self.old

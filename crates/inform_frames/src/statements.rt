@@ -10,14 +10,14 @@ ghost use Rattle.inform_moves.specs.Moves.{call_parts, call_alone, branch_move, 
 ghost use Rattle.inform_worlds.specs.Views.{world_of, program_seen};
 ghost use Rattle.inform_frames.specs.Frames.{default_of, default_tree};
 ghost use Rattle.inform_frames.specs.Stacks.{HasRoom};
-ghost use Rattle.inform_frames.specs.Nexts.{Makes};
+ghost use Rattle.inform_frames.specs.Nexts.{Makes, Changes};
 
 use crate::changes::alter_next;
 use crate::choices::cases_next;
 use crate::frames::{Begin, Decide, Frame, Want};
 use crate::immediate::{immediate_arguments, immediate_truth, immediate_value};
 use crate::loops::{do_loop, for_next, while_loop};
-use crate::nexts::{Effect, Next};
+use crate::nexts::{Next, Said};
 use crate::signals::{Halt, Signal};
 use crate::stacks::Stack;
 use crate::values::{evals, goes_to, goes_with, trapped};
@@ -150,10 +150,12 @@ fn return_next<'a>(world: &World<'a>, stack: &mut Stack<'a>, value: &'a Option<E
 }
 
 /// A statement that is due.
-pub fn statement_next<'a>(world: &World<'a>, stack: &mut Stack<'a>, x: &'a Stmt) -> Next<'a>
+pub fn statement_next<'a>(world: &mut World<'a>, stack: &mut Stack<'a>, x: &'a Stmt) -> Next<'a>
     requires { HasRoom stack.old }
-    ensures { Makes (world_of world.now) (statement_move (program_seen world.now)
-        (world_of world.now) (statement_of x.now)) stack.old stack.new result }
+    ensures names { world.new.names ≡ world.old.names }
+    ensures next { Changes (world_of world.old) (world_of world.new)
+        (statement_move (program_seen world.old) (world_of world.old) (statement_of x.now))
+        stack.old stack.new result }
 {
     match x {
         Stmt::Empty => Next::hands(Signal::Normal),
@@ -178,10 +180,7 @@ pub fn statement_next<'a>(world: &World<'a>, stack: &mut Stack<'a>, x: &'a Stmt)
         Stmt::Rtrue => Next::hands(Signal::Returns(1)),
         Stmt::Rfalse => Next::hands(Signal::Returns(0)),
         Stmt::Return(value) => return_next(world, stack, value),
-        Stmt::NewLine => Next {
-            signal: Signal::Normal,
-            effect: Effect::SaysByte(b'\n'),
-        },
+        Stmt::NewLine => Next::says(Said::Byte(b'\n')),
         Stmt::Print(items) => goes_to(stack, Frame::Begins(Begin::Prints(items))),
         Stmt::Read(line, _) => read_next(world, stack, line),
     }

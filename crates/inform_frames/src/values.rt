@@ -12,7 +12,7 @@ ghost use Rattle.inform_frames.specs.Nexts.{Makes};
 
 use crate::frames::{Begin, Frame, Want};
 use crate::immediate::{immediate_arguments, immediate_product, immediate_sum, immediate_value};
-use crate::nexts::{Effect, Next};
+use crate::nexts::{Next, Said};
 use crate::signals::{Halt, Signal};
 use crate::stacks::Stack;
 use crate::words::number;
@@ -24,7 +24,7 @@ use inform_worlds::{Arguments, World};
 pub fn trapped<'a>(world: &World<'a>, kind: Trap) -> Next<'a>
     ensures { result ≡ record {
       signal = Signal.Halts (Halt.Trapped kind (world_of world.now).scope.directive);
-      effect = Effect.Keeps;
+      said = Said.Nothing;
     } }
 {
     let directive = world.scope().directive;

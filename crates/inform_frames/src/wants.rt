@@ -4,7 +4,7 @@ ghost use Rattle.inform_moves.specs.Moves.{range_move, value_move};
 ghost use Rattle.inform_worlds.specs.Views.{world_of, program_seen};
 ghost use Rattle.inform_frames.specs.Frames.{want_of};
 ghost use Rattle.inform_frames.specs.Stacks.{HasRoom};
-ghost use Rattle.inform_frames.specs.Nexts.{Makes};
+ghost use Rattle.inform_frames.specs.Nexts.{Makes, Changes};
 
 use crate::changes::{assigns, entry_next, place_next, store_next};
 use crate::choices::cases_next;
@@ -32,13 +32,19 @@ fn range_next<'a>(world: &World<'a>, stack: &mut Stack<'a>, a: i32) -> Next<'a>
 }
 
 /// The move of what waited for a value.
-pub fn want_next<'a>(world: &World<'a>, stack: &mut Stack<'a>, want: &Want<'a>, a: i32) -> Next<'a>
+pub fn want_next<'a>(
+    world: &mut World<'a>,
+    stack: &mut Stack<'a>,
+    want: &Want<'a>,
+    a: i32,
+) -> Next<'a>
     requires { HasRoom stack.old }
-    ensures { Makes (world_of world.now) (value_move (program_seen world.now) (world_of world.now)
-        (want_of want.now) a) stack.old stack.new result }
+    ensures names { world.new.names ≡ world.old.names }
+    ensures next { Changes (world_of world.old) (world_of world.new)
+        (value_move (program_seen world.old) (world_of world.old) (want_of want.now) a)
+        stack.old stack.new result }
 {
-    let names = world.names();
-    let width = names.accepted().width();
+    let width = world.names().accepted().width();
     match want {
         Want::IndexOf(name) => entry_next(world, name, a),
         Want::Args(name, values, xs) => arguments_next(world, stack, name, values.with(a), xs),
@@ -53,11 +59,11 @@ pub fn want_next<'a>(world: &World<'a>, stack: &mut Stack<'a>, want: &Want<'a>, 
         Want::LeftOf(relation, y) => right_next(world, stack, *relation, a, y),
         Want::RightOf(relation, b) => Next::hands(Signal::Truth(compares(*relation, *b, a))),
         Want::IsNonzero => Next::hands(Signal::Truth(a != 0)),
-        Want::Sets(name) => assigns(name, a),
+        Want::Sets(name) => assigns(world, name, a),
         Want::PlaceOf(name, words, y) => place_next(world, stack, name, *words, a, y),
         Want::Stores(name, words, index) => store_next(world, name, *words, *index, a),
         Want::Forgets => Next::hands(Signal::Normal),
-        Want::Picks(xs, rest) => cases_next(names, stack, a, xs, *rest),
+        Want::Picks(xs, rest) => cases_next(world.names(), stack, a, xs, *rest),
         Want::Gives => Next::hands(Signal::Returns(a)),
         Want::SaysNumber(xs) => says_number(stack, a, xs),
         Want::SaysChar(xs) => says_char(stack, a, xs),

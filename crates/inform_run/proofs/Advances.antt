@@ -1,30 +1,32 @@
 -- A move of a machine, by what its calls promise.
-use Rattle.std.proofs.Common.{◌≡◌, ◌∙◌, ℕ, ℤ, ◌+◌, ◌-◌, ◌<◌, ◌≤◌, true, List, [], ◌∷◌, ◌++◌, Option, Some, None, Result, Ok, Err, refl, sym, ap, subst, arith, add-zero}
+use Rattle.std.proofs.Common.{◌≡◌, ◌∙◌, ℕ, ℤ, ◌+◌, ◌-◌, ◌<◌, ◌≤◌, true, List, [], ◌∷◌, ◌++◌, length, Option, Some, None, Result, Ok, Err, refl, sym, ap, subst, arith, add-zero}
 use Rattle.adv_io.specs.History.{says, GrewByPrefix}
 use Rattle.adv_io.specs.Console.{ConsoleView, Speaks, Takes, TakesFrom}
 use Rattle.adv_io.specs.declared.consoles.Taken.TheVariants.{Got, End}
 use Rattle.adv_io.specs.declared.faults.ConsoleFault.{ConsoleFault}
 use Rattle.inform_meaning.specs.Worlds.{Program, World, entries_of, has_room, with_line}
 use Rattle.inform_meaning.specs.Words.{draw_within}
+use Rattle.inform_tree.specs.Statements.{Statement, Statements, MoreStatements}
+use Rattle.adv_io.proofs.Sayings.{nothing_said}
 use Rattle.inform_meaning.specs.Frames as f
 use Rattle.inform_meaning.specs.Runs.{CALL_LIMIT, room_in}
 use Rattle.inform_moves.specs.Moves as m
-use Rattle.inform_moves.specs.Moves.{Move, Goes, Ticks, Reads, Draws, pushed_in, outcome_in, effect_in, next}
+use Rattle.inform_moves.specs.Moves.{Move, Goes, Ticks, Reads, Draws, pushed_in, outcome_in, effect_in, statement_move, next}
 use Rattle.inform_moves.specs.Needs.{Nothing, AStep, need_in}
 use Rattle.inform_moves.specs.Heights.{Fits, calls_open}
 use Rattle.inform_moves.specs.Works.{work, works}
 use Rattle.inform_moves.specs.Laws.{RunsAdd, MovesMean, MovesOpen, RoomIsLeft, OpensAtMost, MovesFall, FallsBelow, MovesFit, FitsAfter, IsShallow, MovesNeed, MovesReady}
 use Rattle.inform_moves.specs.Readiness.{IsDry, AreDry, HasRoom, IsReady, effected_world, ReadyAfter}
 use Rattle.inform_frames.specs.declared.signals.Signal.TheVariants as g
-use Rattle.inform_frames.specs.declared.nexts.Effect.{Effect}
-use Rattle.inform_frames.specs.declared.nexts.Effect.TheVariants as e
+use Rattle.inform_frames.specs.declared.nexts.Said.{Said}
+use Rattle.inform_frames.specs.declared.nexts.Said.TheVariants as s
 use Rattle.inform_frames.specs.Frames.{signal_of}
 use Rattle.inform_frames.specs.Frames.{rest_of}
-use Rattle.inform_frames.specs.Nexts.{effect_of, Made, made, made_of}
+use Rattle.inform_frames.specs.Nexts.{Done, done, done_by, done_in, Made, made, made_of}
 use Rattle.inform_frames.proofs.Innermost.{calls-first}
-use Rattle.inform_run.specs.Points.{Point, makes_move, IsNext, world_after, said_by, MovesOn, Leads, Breaks}
+use Rattle.inform_run.specs.Points.{Point, first_need, next_need, makes_move, IsNext, said_of, MovesOn, StepsOn, Leads, Breaks}
 use Rattle.inform_run.specs.Machines.{LeadsOn, BreaksOn}
-use Rattle.inform_run.proofs.Moving.{asked, leads-still, leads-goes, leads-ticks, leads-draws, leads-reads, breaks-goes, breaks-silently, leads-then, breaks-then}
+use Rattle.inform_run.proofs.Moving.{needed, asked, leads-still, leads-goes, leads-ticks, leads-draws, leads-reads, breaks-goes, breaks-silently, leads-then, breaks-then}
 
 -- ---- room
 
@@ -61,50 +63,42 @@ falls-after (Draws k) most quiet falls = absurd cc
 
 -- the parts of what a move makes
 abbrev frames_made : Made → List f.Frame
-frames_made (made frames e effect) = frames
+frames_made (made frames e what) = frames
 
 abbrev outcome_made : Made → f.Outcome
-outcome_made (made frames e effect) = e
+outcome_made (made frames e what) = e
 
-abbrev effect_made : Made → m.Effect
-effect_made (made frames e effect) = effect
+abbrev done_made : Made → Done
+done_made (made frames e what) = what
 
-made-frames : (m : Move) (rest : List f.Frame) → frames_made (made_of m rest) ≡ pushed_in m ++ rest
-made-frames (Goes frames e effect) rest = refl
-made-frames (Ticks frames e effect) rest = refl
-made-frames (Reads name) rest = refl
-made-frames (Draws k) rest = refl
-
-made-outcome : (m : Move) (rest : List f.Frame) → outcome_made (made_of m rest) ≡ outcome_in m
-made-outcome (Goes frames e effect) rest = refl
-made-outcome (Ticks frames e effect) rest = refl
-made-outcome (Reads name) rest = refl
-made-outcome (Draws k) rest = refl
-
-made-effect : (m : Move) (rest : List f.Frame) → effect_made (made_of m rest) ≡ effect_in m
-made-effect (Goes frames e effect) rest = refl
-made-effect (Ticks frames e effect) rest = refl
-made-effect (Reads name) rest = refl
-made-effect (Draws k) rest = refl
+made-all : (w : World) (m : Move) (rest : List f.Frame)
+    → made_of w m rest ≡ made (pushed_in m ++ rest) (outcome_in m) (done_in w (effect_in m))
+made-all w (Goes frames e effect) rest = refl
+made-all w (Ticks frames e effect) rest = refl
+made-all w (Reads name) rest = refl
+made-all w (Draws k) rest = refl
 
 -- the innermost frame made its move
-pub moves-by : (p : Program) (at after : Point) (x : Effect) (top : f.Frame) (rest : List f.Frame) (room : ℕ)
+pub moves-by : (p : Program) (at after : Point) (x : Said) (top : f.Frame) (rest : List f.Frame) (room : ℕ)
     → at.frames ≡ top ∷ rest → room ≡ room_in CALL_LIMIT rest
-    → made after.frames (signal_of after.handed) (effect_of at.world x) ≡ made_of (next p room at.world top (signal_of at.handed)) rest
-    → after.world ≡ world_after at.world x
+    → made after.frames (signal_of after.handed) (done_by after.world x) ≡ made_of at.world (next p room at.world top (signal_of at.handed)) rest
     → MovesOn p at after x
-moves-by p at after x top rest room here left is world =
+moves-by p at after x top rest room here left is =
     let move = next p (room_in CALL_LIMIT rest) at.world top (signal_of at.handed) in
-    let all : made after.frames (signal_of after.handed) (effect_of at.world x) ≡ made_of move rest =
-    is ∙ ap (λ n. made_of (next p n at.world top (signal_of at.handed)) rest) left in
+    let all : made after.frames (signal_of after.handed) (done_by after.world x) ≡ made (pushed_in move ++ rest) (outcome_in move) (done_in at.world (effect_in move)) =
+    is ∙ ap (λ n. made_of at.world (next p n at.world top (signal_of at.handed)) rest) left ∙ made-all at.world move rest in
     record {
       move = move;
       next = record { top = top; rest = rest; frames = here; is = refl };
-      frames = ap frames_made all ∙ made-frames move rest;
-      handed = ap outcome_made all ∙ made-outcome move rest;
-      effect = ap effect_made all ∙ made-effect move rest;
-      world = world;
+      frames = ap frames_made all;
+      handed = ap outcome_made all;
+      done = ap done_made all;
     }
+
+-- all but the innermost frame are fewer
+pub rest-shorter : (fs : List f.Frame) → length (rest_of fs) ≤ length fs - 1
+rest-shorter [] = omega arith
+rest-shorter (x ∷ fs) = omega arith
 
 -- all but the innermost frame
 pub fits-rest : (fs : List f.Frame) → Fits fs → Fits (rest_of fs)
@@ -115,7 +109,7 @@ pub few-rest : (fs : List f.Frame) → calls_open fs ≤ CALL_LIMIT → calls_op
 few-rest [] few = few
 few-rest (x ∷ fs) few = omega (arith, few, calls-first x fs)
 
-module _ (p : Program) (at after : Point) (x : Effect) (m : MovesOn p at after x) where
+module _ (p : Program) (at after : Point) (x : Said) (m : MovesOn p at after x) where
   -- each routine keeps within its frames after a move
   pub fits-still : MovesFit → IsShallow p → Fits at.frames → Fits after.frames
   fits-still law shallow fits =
@@ -176,16 +170,21 @@ pub dry-rest : (w : World) (xs : List f.Frame) → IsReady w xs → AreDry (rest
 dry-rest w [] ready = tt
 dry-rest w (x ∷ xs) ready = ready.1
 
--- the effect of the program is that of the definitions
-world-is : (w : World) (x : Effect) → effected_world (effect_of w x) w ≡ world_after w x
-world-is w e.Keeps = refl
-world-is w (e.Writes name v) = refl
-world-is w (e.Stores name words i v) = refl
-world-is w (e.Opens scope) = refl
-world-is w (e.Closes scope) = refl
-world-is w (e.Says text) = refl
-world-is w (e.SaysNumber n) = refl
-world-is w (e.SaysByte byte) = refl
+-- the world after a move of the program is that of the definitions
+abbrev world_done : Done → World
+world_done (done w said number) = w
+
+world-in : (w : World) (x : m.Effect) → effected_world x w ≡ world_done (done_in w x)
+world-in w m.Keeps = refl
+world-in w (m.Becomes after) = refl
+world-in w (m.Says bytes) = refl
+world-in w (m.Enters after number) = refl
+
+world-by : (w : World) (x : Said) → world_done (done_by w x) ≡ w
+world-by w s.Nothing = refl
+world-by w (s.Text text) = refl
+world-by w (s.Number n) = refl
+world-by w (s.Byte byte) = refl
 
 -- the frames of a move are ready in the world after it
 ready-after : (w : World) (m : Move) → ReadyAfter w m → Makes m → IsReady (effected_world (effect_in m) w) (pushed_in m)
@@ -194,15 +193,29 @@ ready-after w (Ticks frames e effect) ready makes = ready
 ready-after w (Reads name) ready makes = tt
 ready-after w (Draws k) ready makes = tt
 
-pub ready-still : (p : Program) (at after : Point) (x : Effect) (m : MovesOn p at after x) → MovesReady → Makes m.move
+pub ready-still : (p : Program) (at after : Point) (x : Said) (m : MovesOn p at after x) → MovesReady → Makes m.move
     → IsReady at.world at.frames → IsReady after.world after.frames
 ready-still p at after x m law makes ready =
     let moved : IsReady (effected_world (effect_in m.move) at.world) (pushed_in m.move) =
     ready-after at.world m.move (subst (ReadyAfter at.world) (sym m.next.is) (law p (room_in CALL_LIMIT m.next.rest) at.world m.next.top (signal_of at.handed))) makes in
     let world : effected_world (effect_in m.move) at.world ≡ after.world =
-    ap (λ e. effected_world e at.world) (sym m.effect) ∙ world-is at.world x ∙ sym m.world in
+    world-in at.world (effect_in m.move) ∙ ap world_done (sym m.done) ∙ world-by after.world x in
     subst (IsReady after.world) (sym m.frames)
     (ready-append after.world (pushed_in m.move) m.next.rest (subst (λ w. IsReady w (pushed_in m.move)) world moved) (subst (IsReady at.world) m.next.frames ready).1)
+
+-- a machine is as fit after a move as before it
+abbrev pub FitAt : Point → Type 0
+FitAt at = Fits at.frames × ((calls_open at.frames ≤ CALL_LIMIT) × IsReady at.world at.frames)
+
+pub fit-still : (p : Program) (at after : Point) (x : Said) (m : MovesOn p at after x) → MovesFit → IsShallow p → MovesOpen → RoomIsLeft → MovesReady → Makes m.move
+    → FitAt at → FitAt after
+fit-still p at after x m fits shallow opens left ready makes fit = (
+  fits-still p at after x m fits shallow fit.0,
+  (
+    few-still p at after x m opens left fit.1.0,
+    ready-still p at after x m ready makes fit.1.1,
+  ),
+)
 
 module _ (p : Program) (at : Point) (ready : IsReady at.world at.frames) where
   -- a line that is read has room
@@ -230,13 +243,13 @@ same-lines (Some (x ∷ xs)) after line takes lines is = absurd takes
 -- ---- moves
 
 module _ (means : MovesMean) (p : Program) (at after : Point) where
-  pub goes-lead : {T E : Type 0} {y : T} (old new : ConsoleView) (x : Effect) (m : MovesOn p at after x) → need_in m.move ≡ Nothing
-      → Speaks {E = E} old new (Ok y) (says (said_by x))
+  pub goes-lead : {T E : Type 0} {y : T} (old new : ConsoleView) (x : Said) (m : MovesOn p at after x) → need_in m.move ≡ Nothing
+      → Speaks {E = E} old new (Ok y) (says (said_of x))
       → (draws : List ℕ) → LeadsOn p old new at after draws draws 0
   goes-lead old new x m quiet spoken draws = λ lines known. leads-goes means p at old new lines known draws after x m quiet spoken
 
-  pub ticks-lead : {T E : Type 0} {y : T} (old new : ConsoleView) (x : Effect) (m : MovesOn p at after x) → need_in m.move ≡ AStep
-      → Speaks {E = E} old new (Ok y) (says (said_by x))
+  pub ticks-lead : {T E : Type 0} {y : T} (old new : ConsoleView) (x : Said) (m : MovesOn p at after x) → need_in m.move ≡ AStep
+      → Speaks {E = E} old new (Ok y) (says (said_of x))
       → (draws : List ℕ) → LeadsOn p old new at after draws draws 1
   ticks-lead old new x m ticks spoken draws = λ lines known. leads-ticks means p at old new lines known draws after x m ticks spoken
 
@@ -295,8 +308,8 @@ takes-break means add p at old new before line fault takes draws = λ lines know
     breaks-silently means p at add old new lines draws steps past takes.taken
 
 -- bytes were to be said
-pub goes-break : MovesMean → RunsAdd → (p : Program) (at after : Point) (old new : ConsoleView) (x : Effect) (m : MovesOn p at after x) → need_in m.move ≡ Nothing
-    → GrewByPrefix old.history new.history (says (said_by x))
+pub goes-break : MovesMean → RunsAdd → (p : Program) (at after : Point) (old new : ConsoleView) (x : Said) (m : MovesOn p at after x) → need_in m.move ≡ Nothing
+    → GrewByPrefix old.history new.history (says (said_of x))
     → (draws : List ℕ) → BreaksOn p old new at draws
 goes-break means add p at after old new x m quiet part draws = λ lines known steps past.
     breaks-goes means p at add old new lines draws steps past after x m quiet part
@@ -319,3 +332,67 @@ module _ (p q : Program) (program : q ≡ p) where
       subst (λ n. Breaks p old new x n lines drawn past) (add-zero steps)
       (breaks-then p old mid new x y steps lines drawn left 0 past first
       (subst (λ q. Breaks q mid new y steps first.rest left (past ++ first.done)) program (b first.rest first.lines steps (past ++ first.done))))
+
+-- ---- a statement of a block: its own move right after the one that takes it from the block
+
+module _ (p : Program) (at : Point) (x : Statement) (xs : Statements) (rest : List f.Frame) where
+  abbrev pub begun : Point
+  begun = record { frames = f.Begins (f.Due x) ∷ f.Begins (f.Blocks xs) ∷ rest; handed = g.Normal; world = at.world }
+
+  taken-out : at.frames ≡ f.Begins (f.Blocks (MoreStatements x xs)) ∷ rest → at.handed ≡ g.Normal → MovesOn p at begun s.Nothing
+  taken-out block signal =
+      let room = room_in CALL_LIMIT rest in
+      let top = f.Begins (f.Blocks (MoreStatements x xs)) in
+      moves-by p at begun s.Nothing top rest room block refl
+      (ap (λ s. made_of at.world (next p room at.world top (signal_of s)) rest) (sym signal))
+
+  taken-needs : at.frames ≡ f.Begins (f.Blocks (MoreStatements x xs)) ∷ rest → at.handed ≡ g.Normal → next_need at ≡ Some Nothing
+  taken-needs block signal =
+      ap (λ fs. first_need fs (signal_of at.handed)) block
+      ∙ ap (λ s. first_need (f.Begins (f.Blocks (MoreStatements x xs)) ∷ rest) (signal_of s)) signal
+
+  done-then : (after : Point) (said : Said)
+      → made after.frames (signal_of after.handed) (done_by after.world said) ≡ made_of at.world (statement_move p at.world x) (f.Begins (f.Blocks xs) ∷ rest)
+      → MovesOn p begun after said
+  done-then after said is =
+      moves-by p begun after said (f.Begins (f.Due x)) (f.Begins (f.Blocks xs) ∷ rest) (room_in CALL_LIMIT (f.Begins (f.Blocks xs) ∷ rest)) refl refl is
+
+  pub statement-steps : MovesNeed → (after : Point) (said : Said)
+      → at.frames ≡ f.Begins (f.Blocks (MoreStatements x xs)) ∷ rest → at.handed ≡ g.Normal
+      → made after.frames (signal_of after.handed) (done_by after.world said) ≡ made_of at.world (statement_move p at.world x) (f.Begins (f.Blocks xs) ∷ rest)
+      → StepsOn p at after said
+  statement-steps law after said block signal is =
+      let first = taken-out block signal in
+      let second = done-then after said is in
+      record {
+        between = begun;
+        first = first;
+        quiet = needed law p at first.move first.next Nothing (taken-needs block signal);
+        second = second;
+        ticks = needed law p begun second.move second.next AStep refl;
+      }
+
+  -- the routine that runs has room for its frames
+  pub begun-fit : MovesFit → IsShallow p → MovesOpen → RoomIsLeft → MovesReady → MovesNeed
+      → at.frames ≡ f.Begins (f.Blocks (MoreStatements x xs)) ∷ rest → at.handed ≡ g.Normal
+      → FitAt at → FitAt begun
+  begun-fit fits shallow opens left ready law block signal fit =
+      let first = taken-out block signal in
+      let quiet = needed law p at first.move first.next Nothing (taken-needs block signal) in
+      fit-still p at begun s.Nothing first fits shallow opens left ready (ap (λ n. makes_move (Some n)) quiet) fit
+
+-- a machine is as fit after two moves as before them
+pub steps-fit : (p : Program) (at after : Point) (x : Said) (m : StepsOn p at after x) → MovesFit → IsShallow p → MovesOpen → RoomIsLeft → MovesReady
+    → FitAt at → FitAt after
+steps-fit p at after x m fits shallow opens left ready fit =
+    let mid = fit-still p at m.between s.Nothing m.first fits shallow opens left ready (ap (λ n. makes_move (Some n)) m.quiet) fit in
+    fit-still p m.between after x m.second fits shallow opens left ready (ap (λ n. makes_move (Some n)) m.ticks) mid
+
+-- what the two moves say
+pub steps-lead : MovesMean → (p : Program) (at after : Point) {T E : Type 0} {y : T} (old new : ConsoleView) (x : Said) (m : StepsOn p at after x)
+    → Speaks {E = E} old new (Ok y) (says (said_of x))
+    → (draws : List ℕ) → LeadsOn p old new at after draws draws 1
+steps-lead means p at after {T} {E} {y} old new x m spoken draws =
+    on-then p p refl old old new at m.between after draws draws draws 0 1
+    (goes-lead means p at m.between old old s.Nothing m.first m.quiet (nothing_said {E = E} old y) draws)
+    (ticks-lead means p m.between after old new x m.second m.ticks spoken draws)

@@ -14,17 +14,18 @@ use Rattle.inform_meaning.specs.Words.{draw_within}
 use Rattle.inform_meaning.specs.Frames as f
 use Rattle.inform_meaning.specs.Frames.{Outcome, LineDue, DrawDue, Begins, Waits, NeedsLine, NeedsDraw, Spent, Halts}
 use Rattle.inform_meaning.specs.Runs.{CALL_LIMIT, room_in, resume_at, stop_of, begun_of, Stop, Halted, Lacking}
+use Rattle.inform_moves.specs.Moves as m
 use Rattle.inform_moves.specs.Moves.{Move, Goes, Ticks, Reads, Draws, pushed_in, outcome_in, effect_in, next}
 use Rattle.inform_moves.specs.Needs.{Need, Nothing, AStep, ALine, ADraw, need, need_in}
 use Rattle.inform_moves.specs.Done.{effected, after_step, move_run}
 use Rattle.inform_moves.specs.Laws.{RunsAdd, IsSettled, MovesMean, MovesNeed}
 use Rattle.inform_frames.specs.declared.signals.Signal.{Signal}
 use Rattle.inform_frames.specs.declared.signals.Signal.TheVariants as g
-use Rattle.inform_frames.specs.declared.nexts.Effect.{Effect}
-use Rattle.inform_frames.specs.declared.nexts.Effect.TheVariants as e
+use Rattle.inform_frames.specs.declared.nexts.Said.{Said}
+use Rattle.inform_frames.specs.declared.nexts.Said.TheVariants as s
 use Rattle.inform_frames.specs.Frames.{signal_of, halt_of}
-use Rattle.inform_frames.specs.Nexts.{effect_of}
-use Rattle.inform_run.specs.Points.{Point, config_at, run_from, first_need, next_need, IsNext, world_after, said_by, MovesOn, Leads, Ends, Breaks}
+use Rattle.inform_frames.specs.Nexts.{Done, done, done_by, done_in}
+use Rattle.inform_run.specs.Points.{Point, config_at, run_from, first_need, next_need, IsNext, said_of, MovesOn, Leads, Ends, Breaks}
 
 settles : (s : Signal) → IsSettled (signal_of s)
 settles (g.Value a) = tt
@@ -35,21 +36,38 @@ settles g.Breaks = tt
 settles g.Continues = tt
 settles (g.Halts halt) = tt
 
--- what an effect of the program does
-effect-does : (x : Effect) (c : Config)
-    → effected (effect_of c.world x) c ≡ record c { past = c.past ++ said_steps (said_by x); world = world_after c.world x }
-effect-does e.Keeps c = ap (λ past. record c { past = past }) (sym (append-nil c.past))
-effect-does (e.Writes name v) c =
-    ap (λ past. record c { past = past; world = world_after c.world (e.Writes name v) }) (sym (append-nil c.past))
-effect-does (e.Stores name words i v) c =
-    ap (λ past. record c { past = past; world = world_after c.world (e.Stores name words i v) }) (sym (append-nil c.past))
-effect-does (e.Opens scope) c =
-    ap (λ past. record c { past = past; world = world_after c.world (e.Opens scope) }) (sym (append-nil c.past))
-effect-does (e.Closes scope) c =
-    ap (λ past. record c { past = past; world = world_after c.world (e.Closes scope) }) (sym (append-nil c.past))
-effect-does (e.Says text) c = refl
-effect-does (e.SaysNumber n) c = refl
-effect-does (e.SaysByte byte) c = refl
+-- the parts of what was done
+abbrev world_done : Done → World
+world_done (done w said number) = w
+
+abbrev said_done : Done → List ℕ
+said_done (done w said number) = said
+
+abbrev number_done : Done → Option ℕ
+number_done (done w said number) = number
+
+-- an effect that notes nothing
+effect-does : (x : m.Effect) (c : Config) → number_done (done_in c.world x) ≡ None
+    → effected x c ≡ record c { past = c.past ++ said_steps (said_done (done_in c.world x)); world = world_done (done_in c.world x) }
+effect-does m.Keeps c silent = ap (λ past. record c { past = past }) (sym (append-nil c.past))
+effect-does (m.Becomes w) c silent = ap (λ past. record c { past = past; world = w }) (sym (append-nil c.past))
+effect-does (m.Says bytes) c silent = refl
+effect-does (m.Enters w None) c silent = ap (λ past. record c { past = past; world = w }) (sym (append-nil c.past))
+effect-does (m.Enters w (Some number)) c silent = absurd cc
+
+-- what a move of the program does
+done-is : (w : World) (x : Said) → done_by w x ≡ done w (said_of x) None
+done-is w s.Nothing = refl
+done-is w (s.Text text) = refl
+done-is w (s.Number n) = refl
+done-is w (s.Byte byte) = refl
+
+does : (x : m.Effect) (c : Config) (after : World) (y : Said) → done_by after y ≡ done_in c.world x
+    → effected x c ≡ record c { past = c.past ++ said_steps (said_of y); world = after }
+does x c after y is =
+    let all : done after (said_of y) None ≡ done_in c.world x = sym (done-is after y) ∙ is in
+    effect-does x c (sym (ap number_done all))
+    ∙ ap (λ d. record c { past = c.past ++ said_steps (said_done d); world = world_done d }) (sym all)
 
 -- the line that was taken is the first of those that are left
 taken-from : (before after : Option (List (List ℕ))) (line : List ℕ) (lines : List (List ℕ)) → before ≡ Some lines → TakesFrom before after (Ok Got) line
@@ -229,50 +247,49 @@ module _ (means : MovesMean) (p : Program) (at : Point) where
       ∙ ap (λ m. move_run p n.top n.rest m (config_at at steps lines draws past)) (sym n.is)
 
   -- the run goes on from the point after a move
-  moved-on : (after : Point) (x : Effect) (m : MovesOn p at after x) (c : Config) → c.world ≡ at.world
+  moved-on : (after : Point) (x : Said) (m : MovesOn p at after x) (c : Config) → c.world ≡ at.world
       → resume_at p CALL_LIMIT (pushed_in m.move ++ m.next.rest) (outcome_in m.move) (effected (effect_in m.move) c)
-      ≡ resume_at p CALL_LIMIT after.frames (signal_of after.handed) (record c { past = c.past ++ said_steps (said_by x); world = after.world })
+      ≡ resume_at p CALL_LIMIT after.frames (signal_of after.handed) (record c { past = c.past ++ said_steps (said_of x); world = after.world })
   moved-on after x m c here =
-      ap (λ w. resume_at p CALL_LIMIT (pushed_in m.move ++ m.next.rest) (outcome_in m.move) (effected w c)) (sym m.effect ∙ ap (λ w. effect_of w x) (sym here))
-      ∙ ap (resume_at p CALL_LIMIT (pushed_in m.move ++ m.next.rest) (outcome_in m.move)) (effect-does x c)
-      ∙ ap (λ w. resume_at p CALL_LIMIT (pushed_in m.move ++ m.next.rest) (outcome_in m.move) (record c { past = c.past ++ said_steps (said_by x); world = w })) (ap (λ w. world_after w x) here ∙ sym m.world)
-      ∙ ap (λ e. resume_at p CALL_LIMIT (pushed_in m.move ++ m.next.rest) e (record c { past = c.past ++ said_steps (said_by x); world = after.world })) (sym m.handed)
-      ∙ ap (λ fs. resume_at p CALL_LIMIT fs (signal_of after.handed) (record c { past = c.past ++ said_steps (said_by x); world = after.world })) (sym m.frames)
+      ap (resume_at p CALL_LIMIT (pushed_in m.move ++ m.next.rest) (outcome_in m.move))
+      (does (effect_in m.move) c after.world x (m.done ∙ ap (λ w. done_in w (effect_in m.move)) (sym here)))
+      ∙ ap (λ e. resume_at p CALL_LIMIT (pushed_in m.move ++ m.next.rest) e (record c { past = c.past ++ said_steps (said_of x); world = after.world })) (sym m.handed)
+      ∙ ap (λ fs. resume_at p CALL_LIMIT fs (signal_of after.handed) (record c { past = c.past ++ said_steps (said_of x); world = after.world })) (sym m.frames)
 
   -- a move that needs nothing, and one that needs a step
-  goes-on : (after : Point) (x : Effect) (m : MovesOn p at after x) → need_in m.move ≡ Nothing → (steps : ℕ) (lines : List (List ℕ)) (draws : List ℕ) (past : List Step)
-      → run_from p at steps lines draws past ≡ run_from p after steps lines draws (past ++ said_steps (said_by x))
+  goes-on : (after : Point) (x : Said) (m : MovesOn p at after x) → need_in m.move ≡ Nothing → (steps : ℕ) (lines : List (List ℕ)) (draws : List ℕ) (past : List Step)
+      → run_from p at steps lines draws past ≡ run_from p after steps lines draws (past ++ said_steps (said_of x))
   goes-on after x m quiet steps lines draws past =
       run-moves m.move m.next steps lines draws past
       ∙ move-goes p m.next.top m.next.rest m.move quiet (config_at at steps lines draws past)
       ∙ moved-on after x m (config_at at steps lines draws past) refl
 
-  ticks-on : (after : Point) (x : Effect) (m : MovesOn p at after x) → need_in m.move ≡ AStep → (steps : ℕ) (lines : List (List ℕ)) (draws : List ℕ) (past : List Step)
-      → run_from p at (suc steps) lines draws past ≡ run_from p after steps lines draws (past ++ said_steps (said_by x))
+  ticks-on : (after : Point) (x : Said) (m : MovesOn p at after x) → need_in m.move ≡ AStep → (steps : ℕ) (lines : List (List ℕ)) (draws : List ℕ) (past : List Step)
+      → run_from p at (suc steps) lines draws past ≡ run_from p after steps lines draws (past ++ said_steps (said_of x))
   ticks-on after x m ticks steps lines draws past =
       run-moves m.move m.next (suc steps) lines draws past
       ∙ move-ticks p m.next.top m.next.rest m.move ticks steps (config_at at (suc steps) lines draws past) refl
       ∙ moved-on after x m (config_at at steps lines draws past) refl
 
   module _ (old new : ConsoleView) (lines : List (List ℕ)) (known : old.left ≡ Some lines) where
-    pub leads-goes : {T E : Type 0} {y : T} (draws : List ℕ) (after : Point) (x : Effect) (m : MovesOn p at after x) → need_in m.move ≡ Nothing
-        → Speaks {E = E} old new (Ok y) (says (said_by x))
+    pub leads-goes : {T E : Type 0} {y : T} (draws : List ℕ) (after : Point) (x : Said) (m : MovesOn p at after x) → need_in m.move ≡ Nothing
+        → Speaks {E = E} old new (Ok y) (says (said_of x))
         → Leads p old new at after lines draws draws 0
     leads-goes draws after x m quiet spoken = record {
-      done = said_steps (said_by x);
+      done = said_steps (said_of x);
       rest = lines;
-      grew = spoken.said ∙ ap (grown old.history) (sym (shown_of-said (said_by x)));
+      grew = spoken.said ∙ ap (grown old.history) (sym (shown_of-said (said_of x)));
       lines = spoken.lines_stay ∙ known;
       same = λ steps past. ap (λ n. run_from p at n lines draws past) (add-zero steps) ∙ goes-on after x m quiet steps lines draws past;
     }
 
-    pub leads-ticks : {T E : Type 0} {y : T} (draws : List ℕ) (after : Point) (x : Effect) (m : MovesOn p at after x) → need_in m.move ≡ AStep
-        → Speaks {E = E} old new (Ok y) (says (said_by x))
+    pub leads-ticks : {T E : Type 0} {y : T} (draws : List ℕ) (after : Point) (x : Said) (m : MovesOn p at after x) → need_in m.move ≡ AStep
+        → Speaks {E = E} old new (Ok y) (says (said_of x))
         → Leads p old new at after lines draws draws 1
     leads-ticks draws after x m ticks spoken = record {
-      done = said_steps (said_by x);
+      done = said_steps (said_of x);
       rest = lines;
-      grew = spoken.said ∙ ap (grown old.history) (sym (shown_of-said (said_by x)));
+      grew = spoken.said ∙ ap (grown old.history) (sym (shown_of-said (said_of x)));
       lines = spoken.lines_stay ∙ known;
       same = λ steps past. ap (λ n. run_from p at n lines draws past) (add-one steps) ∙ ticks-on after x m ticks steps lines draws past;
     }
@@ -405,17 +422,17 @@ module _ (means : MovesMean) (p : Program) (at : Point) where
               (part_of_more old.history new.history (says bytes) (shown_of g.events) part);
         }
 
-    pub breaks-goes : (steps : ℕ) (past : List Step) (after : Point) (x : Effect) (m : MovesOn p at after x) → need_in m.move ≡ Nothing
-        → GrewByPrefix old.history new.history (says (said_by x))
+    pub breaks-goes : (steps : ℕ) (past : List Step) (after : Point) (x : Said) (m : MovesOn p at after x) → need_in m.move ≡ Nothing
+        → GrewByPrefix old.history new.history (says (said_of x))
         → Breaks p old new at steps lines draws past
     breaks-goes steps past after x m quiet part =
-        breaks-says after steps past steps (said_by x) (goes-on after x m quiet steps lines draws past) part
+        breaks-says after steps past steps (said_of x) (goes-on after x m quiet steps lines draws past) part
 
-    pub breaks-ticks : (steps : ℕ) (past : List Step) (after : Point) (x : Effect) (m : MovesOn p at after x) → need_in m.move ≡ AStep
-        → GrewByPrefix old.history new.history (says (said_by x))
+    pub breaks-ticks : (steps : ℕ) (past : List Step) (after : Point) (x : Said) (m : MovesOn p at after x) → need_in m.move ≡ AStep
+        → GrewByPrefix old.history new.history (says (said_of x))
         → Breaks p old new at (suc steps) lines draws past
     breaks-ticks steps past after x m ticks part =
-        breaks-says after (suc steps) past steps (said_by x) (ticks-on after x m ticks steps lines draws past) part
+        breaks-says after (suc steps) past steps (said_of x) (ticks-on after x m ticks steps lines draws past) part
 
     -- nothing was shown
     pub breaks-silently : (steps : ℕ) (past : List Step) → new.history ≡ old.history

@@ -1,6 +1,6 @@
 -- Where a run stops, on a console whose lines are known.
 use Rattle.std.proofs.Common.{◌≡◌, ◌∙◌, ℕ, ℤ, zero, suc, ◌+◌, ◌-◌, ◌<◌, ◌≤◌, List, [], ◌∷◌, ◌++◌, Option, Some, None, Result, Ok, Err, OnErr, refl, sym, ap, subst, arith, add-zero, add-one}
-use Rattle.std.specs.Prelude.{IfNone, IfSome}
+use Rattle.std.specs.Prelude.{IfNone, IfSome, IfOk, OnOk}
 use Rattle.adv_io.specs.History.{says, GrewByPrefix}
 use Rattle.adv_io.specs.Console.{ConsoleView}
 use Rattle.inform_meaning.specs.Worlds.{Program, World}
@@ -8,11 +8,14 @@ use Rattle.inform_meaning.specs.Frames as f
 use Rattle.inform_meaning.specs.Runs.{Stop, Lacking, stop_of, begun_of}
 use Rattle.inform_moves.specs.Needs.{AStep, ALine, ADraw, need_in}
 use Rattle.inform_moves.specs.Laws.{RunsAdd, MovesMean, MovesNeed}
-use Rattle.inform_frames.specs.declared.nexts.Effect.{Effect}
+use Rattle.inform_frames.specs.declared.nexts.Said.{Said}
+use Rattle.inform_frames.specs.declared.nexts.Said.TheVariants as s
 use Rattle.inform_frames.specs.Frames.{signal_of}
-use Rattle.inform_run.specs.Points.{Point, next_need, said_by, MovesOn, Leads, Ends, Breaks}
+use Rattle.inform_run.specs.Points.{Point, next_need, said_of, MovesOn, StepsOn, Leads, Ends, Breaks}
 use Rattle.inform_run.specs.Machines.{LeadsOn, BreaksOn}
 use Rattle.inform_run.specs.Turns.{EndsOn, BreaksAfter}
+use Rattle.adv_io.proofs.Sayings.{nothing_said}
+use Rattle.inform_run.proofs.Advances.{goes-lead}
 use Rattle.inform_run.proofs.Moving.{line-next, draw-next, ends-then, breaks-then, ends-over, ends-spent, ends-line, ends-draw, breaks-ticks}
 
 -- ---- what holds of an answer, made weaker
@@ -28,6 +31,11 @@ some-weaker (Some x) f a = f x a
 pub err-weaker : {T E A B : Type 0} (r : Result T E) → (A → B) → OnErr r A → OnErr r B
 err-weaker (Ok x) f a = a
 err-weaker (Err e) f a = f a
+
+pub ok-none : {X E : Type 0} (A : Type 0) (r : Result (Option X) E) → OnOk r A → IfOk r (λ o. IfNone o A)
+ok-none A (Ok None) a = a
+ok-none A (Ok (Some x)) a = tt
+ok-none A (Err e) a = a
 
 -- ---- after what led there
 
@@ -91,9 +99,18 @@ module _ (means : MovesMean) (p : Program) (at : Point) where
       (λ lines known. ends-draw means p at seen seen lines known refl law steps m (draw-next p at m due))
 
   -- a step that says something, and the console fails
-  pub ticks-break : RunsAdd → (old new : ConsoleView) (steps : ℕ) (after : Point) (x : Effect) (m : MovesOn p at after x) → need_in m.move ≡ AStep → 0 < steps
-      → GrewByPrefix old.history new.history (says (said_by x))
+  pub ticks-break : RunsAdd → (old new : ConsoleView) (steps : ℕ) (after : Point) (x : Said) (m : MovesOn p at after x) → need_in m.move ≡ AStep → 0 < steps
+      → GrewByPrefix old.history new.history (says (said_of x))
       → (draws : List ℕ) → BreaksAfter p old new at steps draws
   ticks-break add old new zero after x m ticks some part draws = absurd (omega arith)
   ticks-break add old new (suc steps) after x m ticks some part draws = λ lines known past.
       breaks-ticks means p at add old new lines draws steps past after x m ticks part
+
+-- two moves of which the second says something, and the console fails
+pub steps-break : MovesMean → RunsAdd → (p : Program) (at after : Point) (old new : ConsoleView) (steps : ℕ) (x : Said) (m : StepsOn p at after x) → 0 < steps
+    → GrewByPrefix old.history new.history (says (said_of x))
+    → (draws : List ℕ) → BreaksAfter p old new at steps draws
+steps-break means add p at after old new steps x m some part draws =
+    breaks-next p p refl old old new at m.between draws draws steps
+    (goes-lead means p at m.between old old s.Nothing m.first m.quiet (nothing_said {T = ℕ} {E = ℕ} old 0) draws)
+    (ticks-break means p m.between add old new steps after x m.second m.ticks some part draws)

@@ -4,19 +4,18 @@ use Rattle.std.specs.Fmt.{signed_decimal}
 use Rattle.adv_io.specs.Steps.{Step, shown_of}
 use Rattle.adv_io.specs.History.{grown, GrewByPrefix}
 use Rattle.adv_io.specs.Console.{ConsoleView}
-use Rattle.inform_meaning.specs.Worlds.{Program, World, Config, assigned, stored}
+use Rattle.inform_meaning.specs.Worlds.{Program, World, Config}
 use Rattle.inform_meaning.specs.Frames as f
 use Rattle.inform_meaning.specs.Frames.{Outcome}
 use Rattle.inform_meaning.specs.Runs.{CALL_LIMIT, room_in, resume_at, stop_of, begun_of}
 use Rattle.inform_meaning.specs.Runs as m
 use Rattle.inform_moves.specs.Moves.{Move, pushed_in, outcome_in, effect_in, next}
-use Rattle.inform_moves.specs.Needs.{Need, Nothing, AStep, need}
-use Rattle.inform_worlds.specs.Scopes.{scope_of}
+use Rattle.inform_moves.specs.Needs.{Need, Nothing, AStep, need, need_in}
 use Rattle.inform_frames.specs.declared.signals.Signal.{Signal}
-use Rattle.inform_frames.specs.declared.nexts.Effect.{Effect}
-use Rattle.inform_frames.specs.declared.nexts.Effect.TheVariants as e
+use Rattle.inform_frames.specs.declared.nexts.Said.{Said}
+use Rattle.inform_frames.specs.declared.nexts.Said.TheVariants as s
 use Rattle.inform_frames.specs.Frames.{signal_of}
-use Rattle.inform_frames.specs.Nexts.{effect_of}
+use Rattle.inform_frames.specs.Nexts.{done_by, done_in}
 
 -- the frames, what is handed to the innermost of them, and the world
 pub record Point : Type 0 where
@@ -56,34 +55,28 @@ pub record IsNext (p : Program) (at : Point) (move : Move) : Type 0 where
 
 -- ---- what a move of the program does
 
-abbrev pub world_after : World → Effect → World
-world_after w e.Keeps = w
-world_after w (e.Writes name v) = assigned name.now v w
-world_after w (e.Stores name words i v) = stored name.now words i v w
-world_after w (e.Opens scope) = record w { scope = scope_of scope }
-world_after w (e.Closes scope) = record w { scope = scope_of scope }
-world_after w (e.Says text) = w
-world_after w (e.SaysNumber n) = w
-world_after w (e.SaysByte byte) = w
-
-abbrev pub said_by : Effect → List ℕ
-said_by e.Keeps = []
-said_by (e.Writes name v) = []
-said_by (e.Stores name words i v) = []
-said_by (e.Opens scope) = []
-said_by (e.Closes scope) = []
-said_by (e.Says text) = text.now
-said_by (e.SaysNumber n) = signed_decimal n
-said_by (e.SaysByte byte) = byte ∷ []
+abbrev pub said_of : Said → List ℕ
+said_of s.Nothing = []
+said_of (s.Text text) = text.now
+said_of (s.Number n) = signed_decimal n
+said_of (s.Byte byte) = byte ∷ []
 
 -- the next move was made, apart from what it says
-pub record MovesOn (p : Program) (before after : Point) (x : Effect) : Type 0 where
+pub record MovesOn (p : Program) (before after : Point) (x : Said) : Type 0 where
   pub move : Move
   pub next : IsNext p before move
   pub frames : after.frames ≡ pushed_in move ++ next.rest
   pub handed : signal_of after.handed ≡ outcome_in move
-  pub effect : effect_of before.world x ≡ effect_in move
-  pub world : after.world ≡ world_after before.world x
+  pub done : done_by after.world x ≡ done_in before.world (effect_in move)
+
+-- two moves were made, apart from what they say: the first says nothing, and the second takes a
+-- step
+pub record StepsOn (p : Program) (before after : Point) (x : Said) : Type 0 where
+  pub between : Point
+  pub first : MovesOn p before between s.Nothing
+  pub quiet : need_in first.move ≡ Nothing
+  pub second : MovesOn p between after x
+  pub ticks : need_in second.move ≡ AStep
 
 -- ---- on a console whose lines are known
 

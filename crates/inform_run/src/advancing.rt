@@ -162,8 +162,8 @@ impl<'a> Machine<'a> {
         moves_need();
         moves_fall();
         runs_add();
-        let effect = self.make();
-        match say(&effect, console) {
+        let said = self.make();
+        match say(&said, console) {
             Ok(()) => Ok(Due::Moved),
             Err(fault) => Err(fault),
         }

@@ -1,20 +1,28 @@
 //! A machine: where a run stands between two moves.
 ghost use Rattle.std.specs.Fmt.{signed_decimal};
-ghost use Rattle.std.specs.Prelude.{◌≡◌, true, option_map};
+ghost use Rattle.std.specs.Prelude.{◌≡◌, ◌∷◌, true, option_map, IfSome};
 ghost use Rattle.adv_io.specs.History.{says};
 ghost use Rattle.adv_io.specs.Console.{Speaks};
+ghost use Rattle.inform_tree.specs.Statements as s;
+ghost use Rattle.inform_tree.specs.Statements.{statement_of, statements_of};
+ghost use Rattle.inform_meaning.specs.Frames as f;
 ghost use Rattle.inform_moves.specs.Laws.{IsShallow};
 ghost use Rattle.inform_worlds.specs.Views.{world_of, program_seen};
 ghost use Rattle.inform_frames.specs.Nexts.{need_seen};
-ghost use Rattle.inform_run.specs.Points.{world_after, said_by, next_need, makes_move, MovesOn};
+ghost use Rattle.inform_frames.specs.Frames.{rest_of};
+ghost use Rattle.inform_frames.specs.Stacks.{stack_of};
+ghost use Rattle.inform_run.specs.Points.{said_of, next_need, makes_move, MovesOn, StepsOn};
 ghost use Rattle.inform_run.specs.Machines.{point_of, IsFit};
 
 use adv_io::{Console, ConsoleFault};
-use inform_frames::{Effect, Need, Signal, Stack, need_of, next};
+use inform_frames::{
+    Begin, Frame, Need, Said, Signal, Stack, common_next, need_of, next, statement_next,
+};
 use inform_moves::laws::{
     frames_are_few, moves_fit, moves_need, moves_open, moves_ready, room_is_left,
 };
 use inform_names::laws::routines_are_shallow;
+use inform_tree::Stmt;
 use inform_worlds::World;
 use itoa::Buffer;
 
@@ -36,23 +44,6 @@ fn routines_fit(world: &World)
     routines_are_shallow();
 }
 
-// What an effect changes.
-fn change<'a>(world: &mut World<'a>, effect: &Effect<'a>)
-    ensures names { world.new.names ≡ world.old.names }
-    ensures world { world_of world.new ≡ world_after (world_of world.old) effect.now }
-{
-    match effect {
-        Effect::Keeps => {}
-        Effect::Writes(name, value) => world.assign(name, *value),
-        Effect::Stores(name, words, index, value) => world.store(name, *words, *index, *value),
-        Effect::Opens(scope) => world.enter(*scope),
-        Effect::Closes(scope) => world.enter(*scope),
-        Effect::Says(_) => {}
-        Effect::SaysNumber(_) => {}
-        Effect::SaysByte(_) => {}
-    }
-}
-
 // Says a number in decimal.
 fn say_number<C: Console>(n: i32, console: &mut C) -> Result<(), ConsoleFault>
     ensures { Speaks (C.seen console.old) (C.seen console.new) result (says (signed_decimal n)) }
@@ -61,21 +52,18 @@ fn say_number<C: Console>(n: i32, console: &mut C) -> Result<(), ConsoleFault>
     console.say(buffer.format(n).as_bytes())
 }
 
-/// What an effect says.
+/// Says what a move says.
+#[inline(always)]
 #[tactic(auto, using(adv_io::proofs::Sayings::nothing_said))]
-pub fn say<'a, C: Console>(effect: &Effect<'a>, console: &mut C) -> Result<(), ConsoleFault>
+pub fn say<'a, C: Console>(said: &Said<'a>, console: &mut C) -> Result<(), ConsoleFault>
     ensures { Speaks (C.seen console.old) (C.seen console.new) result
-        (says (said_by effect.now)) }
+        (says (said_of said.now)) }
 {
-    match effect {
-        Effect::Keeps => Ok(()),
-        Effect::Writes(_, _) => Ok(()),
-        Effect::Stores(_, _, _, _) => Ok(()),
-        Effect::Opens(_) => Ok(()),
-        Effect::Closes(_) => Ok(()),
-        Effect::Says(text) => console.say(text.bytes()),
-        Effect::SaysNumber(n) => say_number(*n, console),
-        Effect::SaysByte(byte) => console.say(&[*byte]),
+    match said {
+        Said::Nothing => Ok(()),
+        Said::Text(text) => console.say(text.bytes()),
+        Said::Number(n) => say_number(*n, console),
+        Said::Byte(byte) => console.say(&[*byte]),
     }
 }
 
@@ -90,9 +78,9 @@ impl<'a> Machine<'a> {
         }
     }
 
-    /// The innermost frame makes its move, which needs nothing, or whose step was taken. What it
-    /// says is answered.
-    pub fn make(&mut self) -> Effect<'a>
+    // The innermost frame makes its move, which needs nothing, or whose step was taken. What it
+    // says is answered.
+    fn make_any(&mut self) -> Said<'a>
         requires fit { IsFit self.old }
         requires able { makes_move (next_need (point_of self.old)) ≡ true }
         ensures names { self.new.world.names ≡ self.old.world.names }
@@ -111,11 +99,75 @@ impl<'a> Machine<'a> {
             None => unreachable!(),
             Some(frame) => {
                 let room = CALLS - self.stack.calls();
-                let made = next(&self.world, &mut self.stack, room, &frame, self.signal);
+                let made = next(&mut self.world, &mut self.stack, room, &frame, self.signal);
                 self.signal = made.signal;
-                change(&mut self.world, &made.effect);
-                made.effect
+                made.said
             }
         }
+    }
+
+    /// The same; a common frame is read where it stands.
+    pub fn make(&mut self) -> Said<'a>
+        requires fit { IsFit self.old }
+        requires able { makes_move (next_need (point_of self.old)) ≡ true }
+        ensures names { self.new.world.names ≡ self.old.world.names }
+        ensures fit { IsFit self.new }
+        ensures moves { MovesOn (program_seen self.old.world) (point_of self.old)
+            (point_of self.new) result }
+    {
+        routines_fit(&self.world);
+        frames_are_few();
+        moves_need();
+        moves_fit();
+        moves_open();
+        moves_ready();
+        room_is_left();
+        match common_next(&mut self.world, &mut self.stack, self.signal) {
+            None => self.make_any(),
+            Some(made) => {
+                self.signal = made.signal;
+                made.said
+            }
+        }
+    }
+
+    /// The next statement of the block that is the innermost frame, and the others, where that
+    /// begins and has one.
+    pub fn next_statement(&self) -> Option<(&'a Stmt, &'a [Stmt])>
+        ensures signal { IfSome result (λ x. self.now.signal ≡ Signal.Normal) }
+        ensures block { IfSome result (λ x. stack_of self.now.stack ≡ f.Begins (f.Blocks
+            (s.MoreStatements (statement_of x.0.now) (statements_of x.1.now)))
+            ∷ rest_of (stack_of self.now.stack)) }
+    {
+        match self.signal {
+            Signal::Normal => self.stack.statement(),
+            _ => None,
+        }
+    }
+
+    /// The next statement of the block that is the innermost frame makes its move, and the others
+    /// stay in its place: two moves at once. What it says is answered.
+    pub fn make_statement(&mut self, x: &'a Stmt, others: &'a [Stmt]) -> Said<'a>
+        requires fit { IsFit self.old }
+        requires signal { self.old.signal ≡ Signal.Normal }
+        requires block { stack_of self.old.stack ≡ f.Begins (f.Blocks (s.MoreStatements
+            (statement_of x.now) (statements_of others.now))) ∷ rest_of (stack_of self.old.stack) }
+        ensures names { self.new.world.names ≡ self.old.world.names }
+        ensures fit { IsFit self.new }
+        ensures steps { StepsOn (program_seen self.old.world) (point_of self.old)
+            (point_of self.new) result }
+    {
+        routines_fit(&self.world);
+        frames_are_few();
+        moves_need();
+        moves_fit();
+        moves_open();
+        moves_ready();
+        room_is_left();
+        let _ = self.stack.pop();
+        self.stack.push(Frame::Begins(Begin::Blocks(others)));
+        let made = statement_next(&mut self.world, &mut self.stack, x);
+        self.signal = made.signal;
+        made.said
     }
 }

@@ -45,7 +45,7 @@ impl<'a> Machine<'a> {
         let mut line = Line::of(&[]);
         let mut left = steps;
         'turns: loop {
-            let stopped = self.turn(left, draws, &mut line, console)?;
+            let stopped = self.stride(left, draws, &mut line, console)?;
             match stopped {
                 Some(stop) => return Ok(Ran { stop, left }),
                 None => left -= 1,

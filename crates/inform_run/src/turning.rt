@@ -1,12 +1,15 @@
 //! A turn: moves up to a step, and that step; or where the run stops.
-ghost use Rattle.std.specs.Prelude.{◌≡◌, ◌≤◌, ◌<◌, List, ℕ, [], Some, IfOk, OnErr, IfSome, IfNone};
+ghost use Rattle.std.specs.Prelude.{◌≡◌, ◌≤◌, ◌<◌, ◌∷◌, List, ℕ, [], Some, None, IfOk, OnOk, OnErr, IfSome, IfNone};
 ghost use Rattle.adv_draws.specs.Supply.{supplied};
 ghost use Rattle.adv_io.specs.Faults.{HasCause};
 ghost use Rattle.inform_meaning.specs.Frames as f;
 ghost use Rattle.inform_meaning.specs.Runs.{begun_of, stop_of};
 ghost use Rattle.inform_worlds.specs.Views.{world_of, program_seen};
-ghost use Rattle.inform_frames.specs.Frames.{signal_of};
+ghost use Rattle.inform_tree.specs.Statements as s;
+ghost use Rattle.inform_tree.specs.Statements.{statement_of, statements_of};
+ghost use Rattle.inform_frames.specs.Frames.{signal_of, rest_of};
 ghost use Rattle.inform_moves.specs.Needs.{AStep};
+ghost use Rattle.inform_frames.specs.declared.signals.Signal.TheVariants as g;
 ghost use Rattle.inform_frames.specs.Stacks.{stack_of};
 ghost use Rattle.inform_run.specs.Points.{next_need};
 ghost use Rattle.inform_run.specs.Machines.{point_of, IsFit, is_still, IsDue, LeadsOn};
@@ -19,6 +22,7 @@ use adv_draws::Draws;
 use adv_io::{Console, ConsoleFault, Line};
 use inform_frames::{Frame, Halt, halt_of};
 use inform_moves::laws::{moves_mean, moves_need, runs_add};
+use inform_tree::Stmt;
 
 // Why a run stopped that is over.
 fn stop_by(halt: Halt) -> Stop
@@ -71,15 +75,49 @@ impl<'a> Machine<'a> {
         if left == 0 {
             return Ok(Some(Stop::Spent));
         }
-        let effect = self.make();
-        match say(&effect, console) {
+        let said = self.make();
+        match say(&said, console) {
             Ok(()) => Ok(None),
             Err(fault) => Err(fault),
         }
     }
 
-    /// Moves are made up to a step, and that step, if it is left; or the run stops.
-    pub fn turn<C: Console>(
+    // The next statement of a block is made, whose step is left.
+    fn step_statement<C: Console>(
+        &mut self,
+        x: &'a Stmt,
+        others: &'a [Stmt],
+        left: u64,
+        console: &mut C,
+    ) -> Result<Option<Stop>, ConsoleFault>
+        requires sound { IsFit self.old }
+        requires signal { self.old.signal ≡ g.Normal }
+        requires block { stack_of self.old.stack ≡ f.Begins (f.Blocks (s.MoreStatements
+            (statement_of x.now) (statements_of others.now))) ∷ rest_of (stack_of self.old.stack) }
+        requires some { 0 < left }
+        ensures names { self.new.world.names ≡ self.old.world.names }
+        ensures sound { IsFit self.new }
+        ensures bounded { (C.seen console.new).bound ≤ (C.seen console.old).bound }
+        ensures cause { HasCause (C.seen console.old).faults (C.seen console.new).faults result }
+        ensures none { IfOk result (λ stop. stop ≡ None) }
+        ensures leads { (draws : List ℕ) → OnOk result
+            (LeadsOn (program_seen self.old.world) (C.seen console.old) (C.seen console.new)
+            (point_of self.old) (point_of self.new) draws draws 1) }
+        ensures breaks { (draws : List ℕ) → OnErr result
+            (BreaksAfter (program_seen self.old.world) (C.seen console.old)
+            (C.seen console.new) (point_of self.old) left draws) }
+    {
+        moves_mean();
+        runs_add();
+        let said = self.make_statement(x, others);
+        match say(&said, console) {
+            Ok(()) => Ok(None),
+            Err(fault) => Err(fault),
+        }
+    }
+
+    // Moves are made up to a step, and that step, if it is left; or the run stops.
+    fn turn<C: Console>(
         &mut self,
         left: u64,
         draws: &mut Draws,
@@ -113,5 +151,40 @@ impl<'a> Machine<'a> {
             Due::Draw => Ok(Some(Stop::NeedsDraw)),
             Due::Over => Ok(Some(self.end())),
         }
+    }
+
+    /// A turn, or the next statement of a block at once, if that is what is next.
+    pub fn stride<C: Console>(
+        &mut self,
+        left: u64,
+        draws: &mut Draws,
+        line: &mut Line,
+        console: &mut C,
+    ) -> Result<Option<Stop>, ConsoleFault>
+        requires { IsFit self.old }
+        ensures names { self.new.world.names ≡ self.old.world.names }
+        ensures sound { IsFit self.new }
+        ensures bounded { (C.seen console.new).bound ≤ (C.seen console.old).bound }
+        ensures cause { HasCause (C.seen console.old).faults (C.seen console.new).faults result }
+        ensures supply { supplied draws.new ≡ supplied draws.old }
+        ensures steps { IfOk result (λ stop. IfNone stop (0 < left)) }
+        ensures leads { IfOk result (λ stop. IfNone stop
+            (LeadsOn (program_seen self.old.world) (C.seen console.old) (C.seen console.new)
+            (point_of self.old) (point_of self.new) draws.old.left draws.new.left 1)) }
+        ensures ends { IfOk result (λ stop. IfSome stop (λ stop.
+            EndsOn (program_seen self.old.world) (C.seen console.old) (C.seen console.new)
+            (point_of self.old) left draws.old.left draws.new.left (stop_seen stop)
+            (stack_of self.new.stack) (world_of self.new.world) left)) }
+        ensures breaks { OnErr result
+            (BreaksAfter (program_seen self.old.world) (C.seen console.old)
+            (C.seen console.new) (point_of self.old) left draws.old.left) }
+    {
+        if left > 0 {
+            match self.next_statement() {
+                None => {}
+                Some((x, others)) => return self.step_statement(x, others, left, console),
+            }
+        }
+        self.turn(left, draws, line, console)
     }
 }

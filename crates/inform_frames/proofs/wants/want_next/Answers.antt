@@ -6,4 +6,4 @@ pub returns-in-IndexOf : goal.returns-in-IndexOf
 returns-in-IndexOf c = search (rules, c.entry_next.ensures (stack_of c.args.stack.now))
 
 pub returns-in-Stores : goal.returns-in-Stores
-returns-in-Stores c = search (rules, c.store_next.ensures (stack_of c.args.stack.now))
+returns-in-Stores c = search (rules, c.store_next.ensures.next (stack_of c.args.stack.now))

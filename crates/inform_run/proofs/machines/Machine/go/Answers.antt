@@ -11,22 +11,22 @@ returns-in-Ok-clause-leads g c =
     let seen = g.C.Console.seen in
     let p = program_seen c.args.self.now.world in
     let at = point_of c.args.self.now in
-    let m = c.make-effect.ensures.moves in
-    goes-lead c.moves_mean.ensures p at (point_of c.make-effect.new.self) (seen c.args.console.now) (seen c.say.new.console) c.make-effect.result
+    let m = c.make-said.ensures.moves in
+    goes-lead c.moves_mean.ensures p at (point_of c.make-said.new.self) (seen c.args.console.now) (seen c.say.new.console) c.make-said.result
     m (needed c.moves_need.ensures p at m.move m.next Nothing c.requires.needs) c.in-Ok.ensures
 
 pub returns-in-Ok-clause-falls : goal.returns-in-Ok-clause-falls
 returns-in-Ok-clause-falls g c =
     let p = program_seen c.args.self.now.world in
     let at = point_of c.args.self.now in
-    let m = c.make-effect.ensures.moves in
-    goes-falls p at (point_of c.make-effect.new.self) c.make-effect.result m c.moves_fall.ensures (needed c.moves_need.ensures p at m.move m.next Nothing c.requires.needs)
+    let m = c.make-said.ensures.moves in
+    goes-falls p at (point_of c.make-said.new.self) c.make-said.result m c.moves_fall.ensures (needed c.moves_need.ensures p at m.move m.next Nothing c.requires.needs)
 
 pub returns-in-Err-clause-breaks : goal.returns-in-Err-clause-breaks
 returns-in-Err-clause-breaks g c =
     let seen = g.C.Console.seen in
     let p = program_seen c.args.self.now.world in
     let at = point_of c.args.self.now in
-    let m = c.make-effect.ensures.moves in
-    goes-break c.moves_mean.ensures c.runs_add.ensures p at (point_of c.make-effect.new.self) (seen c.args.console.now) (seen c.say.new.console) c.make-effect.result
+    let m = c.make-said.ensures.moves in
+    goes-break c.moves_mean.ensures c.runs_add.ensures p at (point_of c.make-said.new.self) (seen c.args.console.now) (seen c.say.new.console) c.make-said.result
     m (needed c.moves_need.ensures p at m.move m.next Nothing c.requires.needs) c.in-Err.ensures.part

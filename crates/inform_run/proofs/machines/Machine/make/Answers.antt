@@ -1,36 +1,37 @@
-use Rattle.std.proofs.Common.{◌≡◌, ◌∙◌, ◌-◌, Some, true, sym, ap, arith}
-use Rattle.inform_meaning.specs.Runs.{CALL_LIMIT}
+use Rattle.std.proofs.Common.{◌≡◌, ◌∙◌, ◌∷◌, ◌*◌, ◌+◌, length, Some, true, refl, sym, ap, arith}
+use Rattle.inform_meaning.specs.Runs.{CALL_LIMIT, room_in}
+use Rattle.inform_moves.specs.Heights.{calls_open}
 use Rattle.inform_moves.specs.Needs.{need_in}
-use Rattle.inform_frames.specs.Frames.{frame_of}
+use Rattle.inform_frames.specs.Frames.{top_of, rest_of}
 use Rattle.inform_frames.specs.Stacks.{stack_of}
 use Rattle.inform_worlds.specs.Views.{world_of, program_seen}
 use Rattle.inform_run.specs.Points.{Point, makes_move, MovesOn}
 use Rattle.inform_run.specs.Machines.{point_of}
 use Rattle.inform_run.proofs.Moving.{needs}
-use Rattle.inform_run.proofs.Advances.{Makes, moves-by, fits-still, few-still, ready-still}
+use Rattle.inform_run.proofs.Advances.{Makes, moves-by, fit-still, rest-shorter}
 use Rattle.inform_run.proofs.machines.Machine.make.Goals as goal
 
-pub returns-clause-moves : goal.returns-clause-moves
-returns-clause-moves c =
-    let p = program_seen c.args.self.now.world in
-    let rest = stack_of c.pop.new.self in
-    let after : Point = record { frames = stack_of c.next-made.new.stack; handed = c.next-made.result.signal; world = world_of c.change.new.world } in
-    moves-by p (point_of c.args.self.now) after c.next-made.result.effect (frame_of c.in-Some.frame) rest (200 - c.calls-room.result)
-    c.in-Some.ensures.top (omega (arith, c.room_is_left.ensures CALL_LIMIT rest, c.calls-room.ensures)) c.next-made.ensures c.change.ensures.world
+pub common_next-requires : goal.common_next-requires
+common_next-requires c =
+    let fs = stack_of c.args.self.now.stack in
+    omega (arith, rest-shorter fs, c.frames_are_few.ensures fs c.requires.fit.0, c.requires.fit.1.0)
 
-pub returns-clause-fit : goal.returns-clause-fit
-returns-clause-fit c =
+pub returns-in-Some-clause-moves : goal.returns-in-Some-clause-moves
+returns-in-Some-clause-moves c =
+    let p = program_seen c.args.self.now.world in
+    let fs = stack_of c.args.self.now.stack in
+    let after : Point = record { frames = stack_of c.common_next.new.stack; handed = c.in-Some.made.signal; world = world_of c.common_next.new.world } in
+    moves-by p (point_of c.args.self.now) after c.in-Some.made.said (top_of fs) (rest_of fs) (room_in CALL_LIMIT (rest_of fs))
+    c.in-Some.ensures.some refl (c.in-Some.ensures.next (room_in CALL_LIMIT (rest_of fs)))
+
+pub returns-in-Some-clause-fit : goal.returns-in-Some-clause-fit
+returns-in-Some-clause-fit c =
     let p = program_seen c.args.self.now.world in
     let at = point_of c.args.self.now in
-    let rest = stack_of c.pop.new.self in
-    let after : Point = record { frames = stack_of c.next-made.new.stack; handed = c.next-made.result.signal; world = world_of c.change.new.world } in
-    let m : MovesOn p at after c.next-made.result.effect =
-    moves-by p at after c.next-made.result.effect (frame_of c.in-Some.frame) rest (200 - c.calls-room.result)
-    c.in-Some.ensures.top (omega (arith, c.room_is_left.ensures CALL_LIMIT rest, c.calls-room.ensures)) c.next-made.ensures c.change.ensures.world in
-    let makes : Makes m.move = ap makes_move (sym (needs c.moves_need.ensures p at m.move m.next)) ∙ c.requires.able in (
-      fits-still p at after c.next-made.result.effect m c.moves_fit.ensures c.routines_fit.ensures c.requires.fit.0,
-      (
-        few-still p at after c.next-made.result.effect m c.moves_open.ensures c.room_is_left.ensures c.requires.fit.1.0,
-        ready-still p at after c.next-made.result.effect m c.moves_ready.ensures makes c.requires.fit.1.1,
-      ),
-    )
+    let fs = stack_of c.args.self.now.stack in
+    let after : Point = record { frames = stack_of c.common_next.new.stack; handed = c.in-Some.made.signal; world = world_of c.common_next.new.world } in
+    let m : MovesOn p at after c.in-Some.made.said =
+    moves-by p at after c.in-Some.made.said (top_of fs) (rest_of fs) (room_in CALL_LIMIT (rest_of fs))
+    c.in-Some.ensures.some refl (c.in-Some.ensures.next (room_in CALL_LIMIT (rest_of fs))) in
+    let makes : Makes m.move = ap makes_move (sym (needs c.moves_need.ensures p at m.move m.next)) ∙ c.requires.able in
+    fit-still p at after c.in-Some.made.said m c.moves_fit.ensures c.routines_fit.ensures c.moves_open.ensures c.room_is_left.ensures c.moves_ready.ensures makes c.requires.fit

@@ -16,8 +16,8 @@ returns-in-Ok-clause-leads g c =
     let seen = g.C.Console.seen in
     let p = program_seen c.args.self.now.world in
     let at = point_of c.args.self.now in
-    let m = c.make-effect.ensures.moves in
-    ticks-lead c.moves_mean.ensures p at (point_of c.make-effect.new.self) (seen c.args.console.now) (seen c.say.new.console) c.make-effect.result
+    let m = c.make-said.ensures.moves in
+    ticks-lead c.moves_mean.ensures p at (point_of c.make-said.new.self) (seen c.args.console.now) (seen c.say.new.console) c.make-said.result
     m (needed c.moves_need.ensures p at m.move m.next AStep c.requires.needs) c.in-Ok.ensures
 
 pub returns-in-Err-clause-breaks : goal.returns-in-Err-clause-breaks
@@ -25,6 +25,6 @@ returns-in-Err-clause-breaks g c =
     let seen = g.C.Console.seen in
     let p = program_seen c.args.self.now.world in
     let at = point_of c.args.self.now in
-    let m = c.make-effect.ensures.moves in
-    ticks-break c.moves_mean.ensures p at c.runs_add.ensures (seen c.args.console.now) (seen c.say.new.console) c.args.left (point_of c.make-effect.new.self) c.make-effect.result
+    let m = c.make-said.ensures.moves in
+    ticks-break c.moves_mean.ensures p at c.runs_add.ensures (seen c.args.console.now) (seen c.say.new.console) c.args.left (point_of c.make-said.new.self) c.make-said.result
     m (needed c.moves_need.ensures p at m.move m.next AStep c.requires.needs) (omega arith) c.in-Err.ensures.part

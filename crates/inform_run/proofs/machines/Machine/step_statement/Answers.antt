@@ -1,0 +1,17 @@
+use Rattle.inform_worlds.specs.Views.{program_seen}
+use Rattle.inform_run.specs.Machines.{point_of}
+use Rattle.inform_run.proofs.Advances.{steps-lead}
+use Rattle.inform_run.proofs.Stopping.{steps-break}
+use Rattle.inform_run.proofs.machines.Machine.step_statement.Goals as goal
+
+pub returns-in-Ok-clause-leads : goal.returns-in-Ok-clause-leads
+returns-in-Ok-clause-leads g c =
+    let seen = g.C.Console.seen in
+    steps-lead c.moves_mean.ensures (program_seen c.args.self.now.world) (point_of c.args.self.now) (point_of c.make_statement-said.new.self) (seen c.args.console.now) (seen c.say.new.console) c.make_statement-said.result
+    c.make_statement-said.ensures.steps c.in-Ok.ensures
+
+pub returns-in-Err-clause-breaks : goal.returns-in-Err-clause-breaks
+returns-in-Err-clause-breaks g c =
+    let seen = g.C.Console.seen in
+    steps-break c.moves_mean.ensures c.runs_add.ensures (program_seen c.args.self.now.world) (point_of c.args.self.now) (point_of c.make_statement-said.new.self) (seen c.args.console.now) (seen c.say.new.console) c.args.left c.make_statement-said.result
+    c.make_statement-said.ensures.steps c.requires.some c.in-Err.ensures.part
