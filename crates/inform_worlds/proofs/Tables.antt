@@ -1,6 +1,6 @@
 -- Tables of names and values, by the places of names.
 use Rattle.std.proofs.Common.{◌≡◌, ◌∙◌, arith, ℕ, zero, suc, ◌+◌, ◌≤◌, ℤ, pos, Bool, true, false, cond, List, [], ◌∷◌, ◌++◌, length, Option, Some, None, refl, sym, ap}
-use Rattle.std.specs.Prelude.{map, option_map, option_and_then, slice_get, if◌then◌else◌, replicate}
+use Rattle.std.specs.Prelude.{map, option_map, option_and_then, slice_get, if◌then◌else◌, replicate, is_some, nat_eq, ◌&&◌}
 use Rattle.std.specs.List.{position_from}
 use Rattle.std.proofs.lemmas.Option.{slice_get-get_or}
 use Rattle.std.specs.Prelude.{slice_index_or, slice_set, ◌<◌}
@@ -121,6 +121,26 @@ module _ (name : List ℕ) (names : List (List ℕ)) (vs : List ℤ) where
       → table_of names vs ≡ updated name x (table_of names vs)
   put_none x is =
       ap (λ o. table_of names (set_if_any o x vs)) (sym is) ∙ updated_place name x names vs
+
+  pub is_there : (place : ℕ) → place_in name names ≡ Some place → place < length vs
+      → true ≡ is_some (found name (table_of names vs))
+  is_there place is within = ap is_some (got place is within)
+
+  pub is_not_there : place_in name names ≡ None → false ≡ is_some (found name (table_of names vs))
+  is_not_there is = ap is_some (got_none is)
+
+-- ---- names of one length
+
+-- names that differ in length are not the same
+pub longer : (a b : List ℕ) → (length a ≡ length b → ⊥) → false ≡ same_name a b
+longer [] [] differ = absurd (differ refl)
+longer [] (y ∷ ys) differ = refl
+longer (x ∷ xs) [] differ = refl
+longer (x ∷ xs) (y ∷ ys) differ =
+    by (nat_eq x y) (longer xs ys (λ same. differ (omega (arith, same)))) where
+      by : (b : Bool) → false ≡ same_name xs ys → false ≡ (b && same_name xs ys)
+      by true h = h
+      by false h = refl
 
 -- ---- a list that is mapped
 

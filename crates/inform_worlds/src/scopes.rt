@@ -1,5 +1,6 @@
 //! The locals of the routine that runs.
-ghost use Rattle.std.specs.Prelude.{◌≤◌, length};
+ghost use Rattle.std.specs.Prelude.{◌≡◌, ◌≤◌, length};
+ghost use Rattle.inform_meaning.specs.Tables.{same_name};
 
 use crate::arguments::Arguments;
 use inform_tree::{Name, Routine};
@@ -16,10 +17,24 @@ pub struct Scope<'a> {
     pub ghost few: { length names.now ≤ 15 },
 }
 
+// Whether two names are the same. Most differ in their lengths.
+#[inline(always)]
+#[tactic(auto, using(crate::proofs::Tables::longer))]
+fn same(name: &Name, other: &Name) -> bool
+    ensures { result ≡ same_name name.now other.now }
+{
+    let name = name.bytes();
+    let other = other.bytes();
+    if name.len() != other.len() {
+        return false;
+    }
+    name == other
+}
+
 impl<'a> Scope<'a> {
-    ghost use Rattle.std.specs.Prelude.{◌≡◌, ◌<◌, ℕ, [], Some, None, IfSome, IfNone, option_map};
+    ghost use Rattle.std.specs.Prelude.{◌<◌, ℕ, true, false, is_some, [], Some, None, IfSome, IfNone, option_map};
     ghost use Rattle.std.specs.List.{position_from};
-    ghost use Rattle.inform_meaning.specs.Tables.{same_name, found, updated};
+    ghost use Rattle.inform_meaning.specs.Tables.{found, updated};
     ghost use Rattle.inform_meaning.specs.Worlds as w;
     ghost use Rattle.inform_tree.specs.Statements.{statements_of};
     ghost use Rattle.inform_worlds.specs.Scopes.{scope_of, table_of, values_of, place_in};
@@ -54,12 +69,13 @@ impl<'a> Scope<'a> {
     }
 
     // The first place of a name among the locals.
+    #[inline(always)]
     fn search(&self, name: &Name) -> Option<usize>
         ensures place { result ≡ position_from (same_name name.now) 0 self.now.names.now }
         ensures within { IfSome result (λ place. place < 15) }
     {
         for (place, local) in self.names.iter().enumerate() {
-            if name.bytes() == local.bytes() {
+            if same(name, local) {
                 return Some(place);
             }
         }
@@ -67,6 +83,7 @@ impl<'a> Scope<'a> {
     }
 
     // The place of a local.
+    #[inline(always)]
     #[tactic(auto, using(crate::proofs::Tables::place_is))]
     fn place(&self, name: &Name) -> Option<usize>
         ensures place { result ≡ place_in name.now self.now.names.now }
@@ -76,6 +93,7 @@ impl<'a> Scope<'a> {
     }
 
     /// The value of a local, if there is one of this name.
+    #[inline(always)]
     #[tactic(auto, using(crate::proofs::Tables::got, crate::proofs::Tables::got_none))]
     pub fn get(&self, name: &Name) -> Option<i32>
         ensures { result ≡ found name.now (scope_of self.now).locals }
@@ -86,16 +104,21 @@ impl<'a> Scope<'a> {
         }
     }
 
-    /// Another value of a local, if there is one of this name.
-    #[tactic(auto, using(crate::proofs::Tables::put_at, crate::proofs::Tables::put_none))]
-    pub fn set(&mut self, name: &Name, value: i32)
+    /// Another value of a local, if there is one of this name, and whether there is.
+    #[tactic(auto, using(crate::proofs::Tables::put_at, crate::proofs::Tables::put_none, crate::proofs::Tables::is_there, crate::proofs::Tables::is_not_there))]
+    pub fn set(&mut self, name: &Name, value: i32) -> bool
+        ensures found { result ≡ is_some (found name.now (scope_of self.old).locals) }
+        ensures same { result ≡ false → self.new ≡ self.old }
         ensures directive { self.new.directive ≡ self.old.directive }
         ensures locals { (scope_of self.new).locals
             ≡ updated name.now value (scope_of self.old).locals }
     {
         match self.place(name) {
-            Some(place) => self.locals[place] = value,
-            None => {}
+            Some(place) => {
+                self.locals[place] = value;
+                true
+            }
+            None => false,
         }
     }
 }

@@ -143,9 +143,8 @@ impl<'a> World<'a> {
         ensures names { self.new.names ≡ self.old.names }
         ensures world { world_of self.new ≡ assigned name.now value (world_of self.old) }
     {
-        match self.scope.get(name) {
-            Some(_) => self.scope.set(name, value),
-            None => self.assign_global(name, value),
+        if !self.scope.set(name, value) {
+            self.assign_global(name, value);
         }
     }
 
