@@ -1,6 +1,7 @@
 -- The moves of the program, as the meaning has them.
-use Rattle.std.specs.Prelude.{ℕ, ◌≡◌, ◌+◌, ◌≤◌, List, [], ◌∷◌, ◌++◌, length, Option, None}
+use Rattle.std.specs.Prelude.{ℕ, ◌≡◌, ◌+◌, ◌≤◌, List, [], ◌∷◌, ◌++◌, length, Option, Some, None}
 use Rattle.std.specs.Fmt.{signed_decimal}
+use Rattle.inform_tree.specs.Statements.{Assignment}
 use Rattle.inform_meaning.specs.Worlds as w
 use Rattle.inform_meaning.specs.Frames as f
 use Rattle.inform_moves.specs.Moves as m
@@ -60,6 +61,11 @@ Makes world move old new next = Changes world world move old new next
 abbrev pub Hands : w.World → w.World → m.Move → Next → Type 0
 Hands before after move next =
     (rest : List f.Frame) → MakesOf before after move rest rest next
+
+-- what a change, if there is one, makes of a world where it is made at once
+abbrev pub Altered : w.Program → w.World → Option Assignment → w.World → Type 0
+Altered p before None after = after ≡ before
+Altered p before (Some x) after = m.alter_move p before x ≡ m.alters after
 
 abbrev pub need_seen : Need → n.Need
 need_seen d.Nothing = n.Nothing

@@ -1,5 +1,5 @@
 //! The moves of changes.
-ghost use Rattle.std.specs.Prelude.{◌≡◌};
+ghost use Rattle.std.specs.Prelude.{◌≡◌, true, false, option_map};
 ghost use Rattle.inform_tree.specs.Values.{expression_of};
 ghost use Rattle.inform_tree.specs.Statements.{assignment_of};
 ghost use Rattle.inform_meaning.specs.Words.{word_sum};
@@ -7,7 +7,7 @@ ghost use Rattle.inform_meaning.specs.Worlds.{assigned, value_of, entry_at, entr
 ghost use Rattle.inform_moves.specs.Moves.{alter_move, entry_move, store_move, place_move};
 ghost use Rattle.inform_worlds.specs.Views.{world_of, program_seen};
 ghost use Rattle.inform_frames.specs.Stacks.{HasRoom};
-ghost use Rattle.inform_frames.specs.Nexts.{Hands, Changes};
+ghost use Rattle.inform_frames.specs.Nexts.{Hands, Changes, Altered};
 
 use crate::frames::Want;
 use crate::immediate::immediate_value;
@@ -41,6 +41,28 @@ fn counts<'a>(world: &mut World<'a>, name: &Name, by: i32) -> Next<'a>
     let width = world.names().accepted().width();
     let sum = add(width, world.value(name), by);
     assigns(world, name, sum)
+}
+
+/// A change, if there is one, where it is made at once; whether it was.
+pub fn change_at_once<'a>(world: &mut World<'a>, change: Option<&'a Change>) -> bool
+    ensures names { world.new.names ≡ world.old.names }
+    ensures made { result ≡ true → Altered (program_seen world.old) (world_of world.old)
+        (option_map (λ x. assignment_of x.now) change.entry) (world_of world.new) }
+    ensures same { result ≡ false → world.new ≡ world.old }
+{
+    match change {
+        None => true,
+        Some(Change::Inc(name)) => {
+            counts(world, name, 1);
+            true
+        }
+        Some(Change::Dec(name)) => {
+            counts(world, name, -1);
+            true
+        }
+        Some(Change::Set(_, _)) => false,
+        Some(Change::SetEntry(_, _, _, _)) => false,
+    }
 }
 
 /// The entry of an array at an index.

@@ -29,8 +29,10 @@ mod statements;
 mod values;
 mod wants;
 
+pub use changes::change_at_once;
 pub use commons::common_next;
 pub use frames::{Begin, Decide, Frame, Loop, Want};
+pub use loops::goes_on_at_once;
 pub use moves::{halt_of, next};
 pub use needs::{Need, need_of};
 pub use nexts::{Next, Said};

@@ -1,11 +1,11 @@
 //! The moves of loops.
-ghost use Rattle.std.specs.Prelude.{◌≡◌, option_map, Some, None};
+ghost use Rattle.std.specs.Prelude.{◌≡◌, option_map, Some, None, IfSome};
 ghost use Rattle.inform_tree.specs.Conditions.{condition_of};
 ghost use Rattle.inform_tree.specs.Statements.{assignment_of, assignment_if_any, condition_if_any, statements_of};
 ghost use Rattle.inform_meaning.specs.Worlds as w;
 ghost use Rattle.inform_meaning.specs.Frames.{Normal};
 ghost use Rattle.inform_meaning.specs.Statements.{while_loop, do_loop, for_loop, loop_goes_on};
-ghost use Rattle.inform_moves.specs.Moves.{Goes, Keeps, turn_test, turn_move, change_frames, body_move, tested_move};
+ghost use Rattle.inform_moves.specs.Moves.{Goes, Keeps, turn_test, turn_move, change_frames, body_move, tested_move, ticked};
 ghost use Rattle.inform_worlds.specs.Views.{world_of, program_seen};
 ghost use Rattle.inform_frames.specs.Frames.{loop_of, signal_of};
 ghost use Rattle.inform_frames.specs.Stacks.{HasRoom};
@@ -109,14 +109,20 @@ pub fn for_next<'a>(stack: &mut Stack<'a>, head: &'a Head, body: &'a Vec<Stmt>) 
     change_before_turn(stack, for_loop(head, body), change_if_any(&head.first))
 }
 
+// Whether a loop goes on where its test has this truth value.
+fn goes_on(l: &Loop, holds: bool) -> bool
+    ensures { result ≡ loop_goes_on (loop_of l.now) holds }
+{
+    if holds { l.goes_on } else { !l.goes_on }
+}
+
 /// What follows the test of a turn: the body, or the end of the loop.
 pub fn tested_next<'a>(stack: &mut Stack<'a>, l: Loop<'a>, holds: bool) -> Next<'a>
     requires { HasRoom stack.old }
     ensures { (world : w.World) → Makes world (tested_move (loop_of l.entry)
         (loop_goes_on (loop_of l.entry) holds)) stack.old stack.new result }
 {
-    let goes_on = if holds { l.goes_on } else { !l.goes_on };
-    if goes_on {
+    if goes_on(&l, holds) {
         return goes_with(
             stack,
             Frame::Begins(Begin::Blocks(l.body)),
@@ -154,6 +160,20 @@ pub fn turn_next<'a>(world: &World<'a>, stack: &mut Stack<'a>, l: Loop<'a>) -> N
             Next::hands(Signal::Truth(true))
         }
         Some(test) => turn_test(world, stack, l, test),
+    }
+}
+
+/// Whether a loop goes on whose turn is due, if its test is there at once.
+pub fn goes_on_at_once(world: &World, l: &Loop) -> Option<bool>
+    ensures { IfSome result (λ b. turn_move (program_seen world.now) (world_of world.now)
+        (loop_of l.now) (loop_of l.now).test ≡ ticked (tested_move (loop_of l.now) b)) }
+{
+    match l.test {
+        None => None,
+        Some(test) => match immediate_truth(world, test) {
+            None => None,
+            Some(b) => Some(goes_on(l, b)),
+        },
     }
 }
 

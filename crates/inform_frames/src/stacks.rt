@@ -1,13 +1,13 @@
 //! The stack: what has begun and isn't finished.
-ghost use Rattle.std.specs.Prelude.{◌≡◌, ◌≤◌, ◌∷◌, [], vec_capacity, IfSome};
+ghost use Rattle.std.specs.Prelude.{◌≡◌, ◌≤◌, ◌∷◌, [], true, vec_capacity, IfSome};
 ghost use Rattle.inform_tree.specs.Statements as s;
 ghost use Rattle.inform_tree.specs.Statements.{statement_of, statements_of};
 ghost use Rattle.inform_meaning.specs.Frames as f;
 ghost use Rattle.inform_moves.specs.Heights.{calls_open};
-ghost use Rattle.inform_frames.specs.Frames.{frame_of, frames_of, rest_of};
+ghost use Rattle.inform_frames.specs.Frames.{frame_of, frames_of, loop_of, rest_of};
 ghost use Rattle.inform_frames.specs.declared.stacks.TheConstants.{ROOM};
 
-use crate::frames::{Begin, Frame};
+use crate::frames::{Begin, Frame, Loop};
 use adv_io::Memory;
 use inform_tree::Stmt;
 use std::alloc::Global;
@@ -99,6 +99,30 @@ impl<'a> Stack<'a> {
                 Frame::Begins(Begin::Blocks(xs)) => first_of(xs),
                 _ => None,
             },
+        }
+    }
+
+    /// Whether the innermost frame is a block of which no statement is left.
+    #[inline(always)]
+    pub fn is_done(&self) -> bool
+        ensures { result ≡ true → stack_of self.now
+            ≡ f.Begins (f.Blocks s.NoStatements) ∷ rest_of (stack_of self.now) }
+    {
+        match self.top() {
+            Some(Frame::Begins(Begin::Blocks([]))) => true,
+            _ => false,
+        }
+    }
+
+    /// The loop whose body runs in the innermost frame, if that is one.
+    #[inline(always)]
+    pub fn looping(&self) -> Option<Loop<'a>>
+        ensures { IfSome result (λ l. stack_of self.now
+            ≡ f.Looping (loop_of l) ∷ rest_of (stack_of self.now)) }
+    {
+        match self.top() {
+            Some(Frame::Looping(l)) => Some(*l),
+            _ => None,
         }
     }
 

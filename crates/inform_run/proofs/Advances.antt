@@ -1,5 +1,5 @@
 -- A move of a machine, by what its calls promise.
-use Rattle.std.proofs.Common.{◌≡◌, ◌∙◌, ℕ, ℤ, ◌+◌, ◌-◌, ◌<◌, ◌≤◌, true, List, [], ◌∷◌, ◌++◌, length, Option, Some, None, Result, Ok, Err, refl, sym, ap, subst, arith, add-zero}
+use Rattle.std.proofs.Common.{◌≡◌, ◌∙◌, ℕ, ℤ, ◌+◌, ◌-◌, ◌<◌, ◌≤◌, true, List, [], ◌∷◌, ◌++◌, length, Option, Some, None, Ok, Err, refl, sym, ap, subst, arith, add-zero}
 use Rattle.adv_io.specs.History.{says, GrewByPrefix}
 use Rattle.adv_io.specs.Console.{ConsoleView, Speaks, Takes, TakesFrom}
 use Rattle.adv_io.specs.declared.consoles.Taken.TheVariants.{Got, End}

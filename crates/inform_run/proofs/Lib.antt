@@ -3,3 +3,4 @@ pub mod Advances
 pub mod Stopping
 pub mod Beginning
 pub mod Found
+pub mod Quiet

@@ -1,19 +1,18 @@
 -- What a move of the program does is what the meaning says.
-use Rattle.std.proofs.Common.{◌≡◌, ◌∙◌, ℕ, ℤ, zero, suc, ◌+◌, List, [], ◌∷◌, ◌++◌, Option, Some, None, Result, Ok, Err, refl, sym, ap, subst, arith, append_assoc, add-zero, add-one, add_assoc}
+use Rattle.std.proofs.Common.{◌≡◌, ◌∙◌, ℕ, ℤ, suc, ◌+◌, List, [], ◌∷◌, ◌++◌, Option, Some, None, Ok, refl, sym, ap, subst, arith, append_assoc, add-zero, add-one}
 use Rattle.std.specs.Prelude.{⊤}
 use Rattle.std.proofs.lemmas.List.{append-nil}
 use Rattle.adv_io.specs.Steps.{Step, Took, Drew, said_steps, shown_of}
 use Rattle.adv_io.specs.History.{says, grown, GrewByPrefix}
 use Rattle.adv_io.specs.Console.{ConsoleView, Speaks, Takes, TakesFrom}
-use Rattle.adv_io.specs.declared.consoles.Taken.TheVariants.{Got, End}
-use Rattle.adv_io.specs.declared.faults.ConsoleFault.{ConsoleFault}
+use Rattle.adv_io.specs.declared.consoles.Taken.TheVariants.{Got}
 use Rattle.adv_io.proofs.Sayings.{grown-nil, grown_on, part_on, part_of_more, part_none}
 use Rattle.adv_io.proofs.Showing.{shown_of-append, shown_of-said}
 use Rattle.inform_meaning.specs.Worlds.{Program, World, Config, with_line}
 use Rattle.inform_meaning.specs.Words.{draw_within}
 use Rattle.inform_meaning.specs.Frames as f
 use Rattle.inform_meaning.specs.Frames.{Outcome, LineDue, DrawDue, Begins, Waits, NeedsLine, NeedsDraw, Spent, Halts}
-use Rattle.inform_meaning.specs.Runs.{CALL_LIMIT, room_in, resume_at, stop_of, begun_of, Stop, Halted, Lacking}
+use Rattle.inform_meaning.specs.Runs.{CALL_LIMIT, room_in, resume_at, stop_of, begun_of, Stop, Lacking}
 use Rattle.inform_moves.specs.Moves as m
 use Rattle.inform_moves.specs.Moves.{Move, Goes, Ticks, Reads, Draws, pushed_in, outcome_in, effect_in, next}
 use Rattle.inform_moves.specs.Needs.{Need, Nothing, AStep, ALine, ADraw, need, need_in}
@@ -23,7 +22,7 @@ use Rattle.inform_frames.specs.declared.signals.Signal.{Signal}
 use Rattle.inform_frames.specs.declared.signals.Signal.TheVariants as g
 use Rattle.inform_frames.specs.declared.nexts.Said.{Said}
 use Rattle.inform_frames.specs.declared.nexts.Said.TheVariants as s
-use Rattle.inform_frames.specs.Frames.{signal_of, halt_of}
+use Rattle.inform_frames.specs.Frames.{signal_of}
 use Rattle.inform_frames.specs.Nexts.{Done, done, done_by, done_in}
 use Rattle.inform_run.specs.Points.{Point, config_at, run_from, first_need, next_need, IsNext, said_of, MovesOn, Leads, Ends, Breaks}
 

@@ -1,5 +1,5 @@
 -- Where a run stops, on a console whose lines are known.
-use Rattle.std.proofs.Common.{◌≡◌, ◌∙◌, ℕ, ℤ, zero, suc, ◌+◌, ◌-◌, ◌<◌, ◌≤◌, List, [], ◌∷◌, ◌++◌, Option, Some, None, Result, Ok, Err, OnErr, refl, sym, ap, subst, arith, add-zero, add-one}
+use Rattle.std.proofs.Common.{◌≡◌, ℕ, ℤ, zero, suc, ◌+◌, ◌<◌, List, [], ◌++◌, Option, Some, None, Result, Ok, Err, OnErr, refl, sym, subst, arith, add-zero}
 use Rattle.std.specs.Prelude.{IfNone, IfSome, IfOk, OnOk}
 use Rattle.adv_io.specs.History.{says, GrewByPrefix}
 use Rattle.adv_io.specs.Console.{ConsoleView}
@@ -11,8 +11,8 @@ use Rattle.inform_moves.specs.Laws.{RunsAdd, MovesMean, MovesNeed}
 use Rattle.inform_frames.specs.declared.nexts.Said.{Said}
 use Rattle.inform_frames.specs.declared.nexts.Said.TheVariants as s
 use Rattle.inform_frames.specs.Frames.{signal_of}
-use Rattle.inform_run.specs.Points.{Point, next_need, said_of, MovesOn, StepsOn, Leads, Ends, Breaks}
-use Rattle.inform_run.specs.Machines.{LeadsOn, BreaksOn}
+use Rattle.inform_run.specs.Points.{Point, next_need, said_of, MovesOn, StepsOn, Ends, Breaks}
+use Rattle.inform_run.specs.Machines.{LeadsOn}
 use Rattle.inform_run.specs.Turns.{EndsOn, BreaksAfter}
 use Rattle.adv_io.proofs.Sayings.{nothing_said}
 use Rattle.inform_run.proofs.Advances.{goes-lead}

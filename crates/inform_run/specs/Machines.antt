@@ -40,6 +40,11 @@ LeadsOn p old new before after drawn left used =
     (lines : List (List ℕ)) → old.left ≡ Some lines
     → Leads p old new before after lines drawn left used
 
+-- nothing is said, taken or drawn
+abbrev pub LeadsSilently : Program → Point → Point → ℕ → Type 0
+LeadsSilently p before after used =
+    (seen : ConsoleView) (draws : List ℕ) → LeadsOn p seen seen before after draws draws used
+
 -- with any number of steps, and whatever happened before
 abbrev pub BreaksOn : Program → ConsoleView → ConsoleView → Point → List ℕ → Type 0
 BreaksOn p old new before drawn = (lines : List (List ℕ)) → old.left ≡ Some lines

@@ -8,6 +8,7 @@ mod stops;
 
 // A move; those up to the next step; a turn with that step; turns.
 mod advancing;
+mod rounds;
 mod running;
 mod settling;
 mod turning;

@@ -153,8 +153,9 @@ impl<'a> Machine<'a> {
         }
     }
 
-    /// A turn, or the next statement of a block at once, if that is what is next.
-    pub fn stride<C: Console>(
+    // A turn, or the next statement of a block at once, if that is what is next.
+    #[inline(always)]
+    fn walk<C: Console>(
         &mut self,
         left: u64,
         draws: &mut Draws,
@@ -186,5 +187,38 @@ impl<'a> Machine<'a> {
             }
         }
         self.turn(left, draws, line, console)
+    }
+
+    /// A turn, or at once the next turn of a loop or the next statement of a block, if that is what is
+    /// next.
+    pub fn stride<C: Console>(
+        &mut self,
+        left: u64,
+        draws: &mut Draws,
+        line: &mut Line,
+        console: &mut C,
+    ) -> Result<Option<Stop>, ConsoleFault>
+        requires { IsFit self.old }
+        ensures names { self.new.world.names ≡ self.old.world.names }
+        ensures sound { IsFit self.new }
+        ensures bounded { (C.seen console.new).bound ≤ (C.seen console.old).bound }
+        ensures cause { HasCause (C.seen console.old).faults (C.seen console.new).faults result }
+        ensures supply { supplied draws.new ≡ supplied draws.old }
+        ensures steps { IfOk result (λ stop. IfNone stop (0 < left)) }
+        ensures leads { IfOk result (λ stop. IfNone stop
+            (LeadsOn (program_seen self.old.world) (C.seen console.old) (C.seen console.new)
+            (point_of self.old) (point_of self.new) draws.old.left draws.new.left 1)) }
+        ensures ends { IfOk result (λ stop. IfSome stop (λ stop.
+            EndsOn (program_seen self.old.world) (C.seen console.old) (C.seen console.new)
+            (point_of self.old) left draws.old.left draws.new.left (stop_seen stop)
+            (stack_of self.new.stack) (world_of self.new.world) left)) }
+        ensures breaks { OnErr result
+            (BreaksAfter (program_seen self.old.world) (C.seen console.old)
+            (C.seen console.new) (point_of self.old) left draws.old.left) }
+    {
+        if self.hasten(left) {
+            return Ok(None);
+        }
+        self.walk(left, draws, line, console)
     }
 }

@@ -1,4 +1,4 @@
-use Rattle.std.proofs.Common.{◌≡◌, ◌≤◌, sym, ap, subst}
+use Rattle.std.proofs.Common.{◌≤◌, sym, subst}
 use Rattle.inform_meaning.specs.Runs.{CALL_LIMIT}
 use Rattle.inform_moves.specs.Heights.{Fits, calls_open}
 use Rattle.inform_moves.specs.Readiness.{AreDry, IsReady}

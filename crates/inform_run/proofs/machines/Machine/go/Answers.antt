@@ -1,5 +1,4 @@
-use Rattle.std.proofs.Common.{◌≡◌, Some, refl}
-use Rattle.inform_moves.specs.Needs.{Nothing, need_in}
+use Rattle.inform_moves.specs.Needs.{Nothing}
 use Rattle.inform_worlds.specs.Views.{program_seen}
 use Rattle.inform_run.specs.Machines.{point_of}
 use Rattle.inform_run.proofs.Moving.{needed}

@@ -1,7 +1,5 @@
-use Rattle.std.proofs.Common.{◌≡◌, ◌∙◌, ◌∷◌, ◌*◌, ◌+◌, length, Some, true, refl, sym, ap, arith}
+use Rattle.std.proofs.Common.{◌∙◌, refl, sym, ap, arith}
 use Rattle.inform_meaning.specs.Runs.{CALL_LIMIT, room_in}
-use Rattle.inform_moves.specs.Heights.{calls_open}
-use Rattle.inform_moves.specs.Needs.{need_in}
 use Rattle.inform_frames.specs.Frames.{top_of, rest_of}
 use Rattle.inform_frames.specs.Stacks.{stack_of}
 use Rattle.inform_worlds.specs.Views.{world_of, program_seen}

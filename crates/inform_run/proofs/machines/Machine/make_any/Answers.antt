@@ -1,6 +1,5 @@
-use Rattle.std.proofs.Common.{◌≡◌, ◌∙◌, ◌-◌, Some, true, sym, ap, arith}
+use Rattle.std.proofs.Common.{◌∙◌, ◌-◌, sym, ap, arith}
 use Rattle.inform_meaning.specs.Runs.{CALL_LIMIT}
-use Rattle.inform_moves.specs.Needs.{need_in}
 use Rattle.inform_frames.specs.Frames.{frame_of}
 use Rattle.inform_frames.specs.Stacks.{stack_of}
 use Rattle.inform_worlds.specs.Views.{world_of, program_seen}

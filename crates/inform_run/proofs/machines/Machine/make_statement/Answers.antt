@@ -1,9 +1,8 @@
-use Rattle.std.proofs.Common.{◌≡◌, ◌∙◌, ◌∷◌, ◌*◌, ◌+◌, length, refl, sym, ap, arith}
-use Rattle.inform_tree.specs.Statements.{Statement, Statements, MoreStatements, statement_of, statements_of}
+use Rattle.std.proofs.Common.{◌∙◌, ◌∷◌, length, ap, arith}
+use Rattle.inform_tree.specs.Statements.{statement_of, statements_of}
 use Rattle.inform_meaning.specs.Frames as f
-use Rattle.inform_moves.specs.Heights.{calls_open}
 use Rattle.inform_moves.specs.Moves.{statement_move}
-use Rattle.inform_frames.specs.Frames.{rest_of, signal_of}
+use Rattle.inform_frames.specs.Frames.{rest_of}
 use Rattle.inform_frames.specs.Stacks.{stack_of}
 use Rattle.inform_frames.specs.Nexts.{made_of}
 use Rattle.inform_worlds.specs.Views.{world_of, program_seen}

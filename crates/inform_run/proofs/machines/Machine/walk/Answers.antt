@@ -1,0 +1,9 @@
+use Rattle.inform_run.proofs.Stopping.{ok-none}
+use Rattle.inform_run.proofs.machines.Machine.walk.Goals as goal
+
+pub returns-in-Some-clause-leads : goal.returns-in-Some-clause-leads
+returns-in-Some-clause-leads g c =
+    ok-none _ c.step_statement.result (c.step_statement.ensures.leads c.args.draws.now.left)
+
+pub returns-in-Some-clause-breaks : goal.returns-in-Some-clause-breaks
+returns-in-Some-clause-breaks g c = c.step_statement.ensures.breaks c.args.draws.now.left

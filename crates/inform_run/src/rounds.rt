@@ -1,0 +1,137 @@
+//! The next turn of a loop at once: the moves up to it, which need nothing and say nothing, and its
+//! step.
+ghost use Rattle.std.specs.Prelude.{◌≡◌, ◌<◌, ◌∷◌, true, false};
+ghost use Rattle.inform_tree.specs.Statements as s;
+ghost use Rattle.inform_meaning.specs.Frames as f;
+ghost use Rattle.inform_worlds.specs.Views.{program_seen};
+ghost use Rattle.inform_frames.specs.Frames.{loop_of, rest_of};
+ghost use Rattle.inform_frames.specs.declared.signals.Signal.TheVariants as g;
+ghost use Rattle.inform_frames.specs.Stacks.{stack_of};
+ghost use Rattle.inform_run.specs.Machines.{point_of, IsFit, LeadsSilently};
+
+use crate::machines::Machine;
+use inform_frames::{Begin, Frame, Loop, Signal, change_at_once, goes_on_at_once};
+use inform_moves::laws::{frames_are_few, moves_mean, moves_need};
+
+impl<'a> Machine<'a> {
+    // The loop's change is made and its next turn begins, or the loop ends, if both can be at once.
+    // Whether the step of the turn was taken.
+    fn turn_loop(&mut self, l: Loop<'a>) -> bool
+        requires sound { IsFit self.old }
+        requires signal { self.old.signal ≡ g.Normal }
+        requires looping { stack_of self.old.stack
+            ≡ f.Looping (loop_of l) ∷ rest_of (stack_of self.old.stack) }
+        ensures names { self.new.world.names ≡ self.old.world.names }
+        ensures sound { IsFit self.new }
+        ensures turned { result ≡ true → LeadsSilently (program_seen self.old.world)
+            (point_of self.old) (point_of self.new) 1 }
+        ensures quiet { result ≡ false → LeadsSilently (program_seen self.old.world)
+            (point_of self.old) (point_of self.new) 0 }
+    {
+        frames_are_few();
+        moves_mean();
+        moves_need();
+        if !change_at_once(&mut self.world, l.change) {
+            return false;
+        }
+        match goes_on_at_once(&self.world, &l) {
+            None => {
+                let _ = self.stack.pop();
+                self.stack.push(Frame::Begins(Begin::TurnDue(l)));
+                false
+            }
+            Some(true) => {
+                self.stack.push(Frame::Begins(Begin::Blocks(l.body)));
+                true
+            }
+            Some(false) => {
+                let _ = self.stack.pop();
+                true
+            }
+        }
+    }
+
+    // A block that is done is taken away.
+    fn close_block(&mut self)
+        requires sound { IsFit self.old }
+        requires signal { self.old.signal ≡ g.Normal }
+        requires block { stack_of self.old.stack
+            ≡ f.Begins (f.Blocks s.NoStatements) ∷ rest_of (stack_of self.old.stack) }
+        ensures names { self.new.world.names ≡ self.old.world.names }
+        ensures sound { IsFit self.new }
+        ensures signal { self.new.signal ≡ g.Normal }
+        ensures rest { stack_of self.new.stack ≡ rest_of (stack_of self.old.stack) }
+        ensures quiet { LeadsSilently (program_seen self.old.world) (point_of self.old)
+            (point_of self.new) 0 }
+    {
+        moves_mean();
+        moves_need();
+        let _ = self.stack.pop();
+    }
+
+    // The blocks that are done are taken away.
+    fn close_blocks(&mut self)
+        requires sound { IsFit self.old }
+        requires signal { self.old.signal ≡ g.Normal }
+        ensures names { self.new.world.names ≡ self.old.world.names }
+        ensures sound { IsFit self.new }
+        ensures signal { self.new.signal ≡ g.Normal }
+        ensures quiet { LeadsSilently (program_seen self.old.world) (point_of self.old)
+            (point_of self.new) 0 }
+    {
+        'closing: loop {
+            if !self.stack.is_done() {
+                return;
+            }
+            self.close_block();
+        }
+    }
+
+    // The blocks that are done are taken away, and then the next turn of a loop begins, if that is
+    // what comes next and can be at once. Whether the step of the turn was taken.
+    #[inline(never)]
+    fn close(&mut self) -> bool
+        requires sound { IsFit self.old }
+        requires signal { self.old.signal ≡ g.Normal }
+        ensures names { self.new.world.names ≡ self.old.world.names }
+        ensures sound { IsFit self.new }
+        ensures turned { result ≡ true → LeadsSilently (program_seen self.old.world)
+            (point_of self.old) (point_of self.new) 1 }
+        ensures quiet { result ≡ false → LeadsSilently (program_seen self.old.world)
+            (point_of self.old) (point_of self.new) 0 }
+    {
+        self.close_blocks();
+        match self.stack.looping() {
+            None => false,
+            Some(l) => self.turn_loop(l),
+        }
+    }
+
+    /// Where a step is left, the blocks that are done are taken away, and then the next turn of a
+    /// loop begins, if that is what comes next and can be at once. Whether the step of the turn was
+    /// taken.
+    #[inline(always)]
+    pub fn hasten(&mut self, left: u64) -> bool
+        requires { IsFit self.old }
+        ensures names { self.new.world.names ≡ self.old.world.names }
+        ensures sound { IsFit self.new }
+        ensures some { result ≡ true → 0 < left }
+        ensures turned { result ≡ true → LeadsSilently (program_seen self.old.world)
+            (point_of self.old) (point_of self.new) 1 }
+        ensures quiet { result ≡ false → LeadsSilently (program_seen self.old.world)
+            (point_of self.old) (point_of self.new) 0 }
+    {
+        if left == 0 {
+            return false;
+        }
+        match self.signal {
+            Signal::Normal => {
+                if self.stack.is_done() {
+                    return self.close();
+                }
+                false
+            }
+            _ => false,
+        }
+    }
+}
