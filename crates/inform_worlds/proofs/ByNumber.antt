@@ -12,26 +12,21 @@ use Rattle.inform_names.specs.declared.meanings.Kind.TheVariants as k
 use Rattle.inform_names.specs.declared.meanings.Meaning.{Meaning}
 use Rattle.inform_tree.specs.declared.widths.Width.{Width}
 use Rattle.inform_tree.specs.Programs.{DirectiveTree}
-use Rattle.inform_names.specs.Meanings.{Known, word_of_meaning, meanings, name_of}
+use Rattle.inform_names.specs.Meanings.{Known, meanings, name_of}
 use Rattle.inform_names.specs.Laws.{MeaningsAreOfDirectives, IsMeaningOf}
 use Rattle.inform_meaning.specs.Tables.{first_of_two, same_name, put_by, renewed}
 use Rattle.inform_meaning.specs.Worlds.{has_room, filled}
 use Rattle.inform_worlds.proofs.Tables.{map_get}
-use Rattle.inform_worlds.specs.Worlds.{kept_by, globals_of, outer_value, is_any_array, arrays_of}
+use Rattle.inform_worlds.specs.Worlds.{kept_by, globals_of, meant_value, is_any_array, arrays_of}
 use Rattle.inform_names.specs.Places.{is_global}
 
-module _ (known : Known) (values : List ℤ) (name : List ℕ) where
-  pub outer_global : (at : ℕ) → known name ≡ Some (record { at = at; kind = k.Global })
-      → unwrap_or (slice_get values at) (pos 0) ≡ outer_value known values name
-  outer_global at is =
-      by (slice_get values at) ∙ sym (ap (λ o. unwrap_or (first_of_two (kept_by is_global values o) (word_of_meaning o)) (pos 0)) is) where
-        by : (o : Option ℤ) → unwrap_or o (pos 0) ≡ unwrap_or (first_of_two o None) (pos 0)
-        by None = refl
-        by (Some v) = refl
-
-  pub outer_nothing : known name ≡ None → pos 0 ≡ outer_value known values name
-  outer_nothing is =
-      sym (ap (λ o. unwrap_or (first_of_two (kept_by is_global values o) (word_of_meaning o)) (pos 0)) is)
+-- the value that a meaning gives
+pub meant_global : (values : List ℤ) (at : ℕ)
+    → unwrap_or (slice_get values at) (pos 0) ≡ meant_value values (Some (record { at = at; kind = k.Global }))
+meant_global values at = by (slice_get values at) where
+  by : (o : Option ℤ) → unwrap_or o (pos 0) ≡ unwrap_or (first_of_two o None) (pos 0)
+  by None = refl
+  by (Some v) = refl
 
 -- ---- another value of a name
 

@@ -25,10 +25,14 @@ kept_by test xs (Some m) = if test m.kind then slice_get xs m.at else None
 abbrev pub globals_of : Known → List ℤ → List ℕ → Option ℤ
 globals_of known values name = kept_by is_global values (known name)
 
+-- the value that a meaning gives a name that is no local
+abbrev pub meant_value : List ℤ → Option Meaning → ℤ
+meant_value values o =
+    unwrap_or (first_of_two (kept_by is_global values o) (word_of_meaning o)) (pos 0)
+
 -- the value of a name that is no local
 abbrev pub outer_value : Known → List ℤ → List ℕ → ℤ
-outer_value known values name =
-    unwrap_or (first_of_two (globals_of known values name) (word_of_meaning (known name))) (pos 0)
+outer_value known values name = meant_value values (known name)
 
 abbrev pub is_any_array : Kind → Bool
 is_any_array (k.Constant value) = false

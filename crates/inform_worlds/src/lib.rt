@@ -4,8 +4,10 @@
 
 mod arguments;
 mod entries;
+mod names;
 mod openings;
 mod scopes;
+mod slots;
 mod worlds;
 
 pub use arguments::Arguments;

@@ -3,6 +3,7 @@ ghost use Rattle.std.specs.Prelude.{◌≡◌, ◌≤◌, length};
 ghost use Rattle.inform_meaning.specs.Tables.{same_name};
 
 use crate::arguments::Arguments;
+use crate::names::same;
 use inform_tree::{Name, Routine};
 
 /// How many locals a routine has at most.
@@ -15,20 +16,6 @@ pub struct Scope<'a> {
     pub names: &'a [Name],
     pub locals: [i32; LOCALS],
     pub ghost few: { length names.now ≤ 15 },
-}
-
-// Whether two names are the same. Most differ in their lengths.
-#[inline(always)]
-#[tactic(auto, using(crate::proofs::Tables::longer))]
-fn same(name: &Name, other: &Name) -> bool
-    ensures { result ≡ same_name name.now other.now }
-{
-    let name = name.bytes();
-    let other = other.bytes();
-    if name.len() != other.len() {
-        return false;
-    }
-    name == other
 }
 
 impl<'a> Scope<'a> {
@@ -70,12 +57,12 @@ impl<'a> Scope<'a> {
 
     // The first place of a name among the locals.
     #[inline(always)]
-    fn search(&self, name: &Name) -> Option<usize>
+    fn search(&self, name: &[u8]) -> Option<usize>
         ensures place { result ≡ position_from (same_name name.now) 0 self.now.names.now }
         ensures within { IfSome result (λ place. place < 15) }
     {
         for (place, local) in self.names.iter().enumerate() {
-            if same(name, local) {
+            if same(name, local.bytes()) {
                 return Some(place);
             }
         }
@@ -85,7 +72,7 @@ impl<'a> Scope<'a> {
     // The place of a local.
     #[inline(always)]
     #[tactic(auto, using(crate::proofs::Tables::place_is))]
-    fn place(&self, name: &Name) -> Option<usize>
+    fn place(&self, name: &[u8]) -> Option<usize>
         ensures place { result ≡ place_in name.now self.now.names.now }
         ensures within { IfSome result (λ place. place < 15) }
     {
@@ -95,7 +82,7 @@ impl<'a> Scope<'a> {
     /// The value of a local, if there is one of this name.
     #[inline(always)]
     #[tactic(auto, using(crate::proofs::Tables::got, crate::proofs::Tables::got_none))]
-    pub fn get(&self, name: &Name) -> Option<i32>
+    pub fn get(&self, name: &[u8]) -> Option<i32>
         ensures { result ≡ found name.now (scope_of self.now).locals }
     {
         match self.place(name) {
@@ -106,7 +93,7 @@ impl<'a> Scope<'a> {
 
     /// Another value of a local, if there is one of this name, and whether there is.
     #[tactic(auto, using(crate::proofs::Tables::put_at, crate::proofs::Tables::put_none, crate::proofs::Tables::is_there, crate::proofs::Tables::is_not_there))]
-    pub fn set(&mut self, name: &Name, value: i32) -> bool
+    pub fn set(&mut self, name: &[u8], value: i32) -> bool
         ensures found { result ≡ is_some (found name.now (scope_of self.old).locals) }
         ensures same { result ≡ false → self.new ≡ self.old }
         ensures directive { self.new.directive ≡ self.old.directive }

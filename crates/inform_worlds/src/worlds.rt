@@ -1,10 +1,14 @@
 //! The globals, the arrays and the locals of a run.
+ghost use Rattle.std.specs.Prelude.{◌≡◌, ℕ, List};
+ghost use Rattle.inform_names.specs.Views.{names_of};
+
 use crate::entries::{entry, fill, has_room, kept, put};
 use crate::openings::{first_arrays, first_globals};
 use crate::scopes::Scope;
+use crate::slots::Slots;
 use adv_io::Memory;
 use inform_names::laws::meanings_are_of_directives;
-use inform_names::{Accepted, Kind, Names};
+use inform_names::{Accepted, Kind, Meaning, Names};
 use inform_tree::Name;
 use std::alloc::Global;
 
@@ -13,9 +17,12 @@ use std::alloc::Global;
 #[derive(Drop)]
 pub struct World<'a> {
     names: Names<'a>,
+    slots: Slots<'a>,
     globals: Vec<i32>,
     arrays: Vec<Vec<i32>>,
     scope: Scope<'a>,
+    pub ghost same: { (name : List ℕ) → names_of slots.accepted.now name
+        ≡ names_of names.accepted.now name },
 }
 
 impl<'a> World<'a> {
@@ -23,11 +30,11 @@ impl<'a> World<'a> {
     ghost use Rattle.adv_io.specs.declared.lines.TheConstants.{LINE_LIMIT};
     ghost use Rattle.inform_names.specs.declared.meanings.Kind.TheVariants as k;
     ghost use Rattle.inform_meaning.specs.Tables.{renewed};
-    ghost use Rattle.inform_names.specs.Views.{names_of, directives_of};
+    ghost use Rattle.inform_names.specs.Views.{directives_of};
     ghost use Rattle.inform_names.specs.Acceptance.{main};
     ghost use Rattle.inform_meaning.specs.Worlds.{value_of, assigned, entries_of, entry_at, stored, has_room, with_line};
     ghost use Rattle.inform_meaning.specs.Programs.{opening_world, routine_named};
-    ghost use Rattle.inform_worlds.specs.Worlds.{outer_value, globals_of, arrays_of};
+    ghost use Rattle.inform_worlds.specs.Worlds.{meant_value, outer_value, globals_of, arrays_of};
     ghost use Rattle.inform_worlds.specs.Scopes.{scope_of};
     ghost use Rattle.inform_worlds.specs.Views.{world_of, program_seen};
 
@@ -41,11 +48,13 @@ impl<'a> World<'a> {
     {
         meanings_are_of_directives();
         let names = Names::of(alloc, accepted)?;
+        let slots = Slots::of(alloc, &names)?;
         let globals = first_globals(alloc, &names)?;
         let arrays = first_arrays(alloc, &names)?;
         let scope = Scope::bare(names.main().0);
         Ok(World {
             names,
+            slots,
             globals,
             arrays,
             scope,
@@ -59,6 +68,17 @@ impl<'a> World<'a> {
         &self.names
     }
 
+    /// What the name with these bytes means, if anything.
+    #[inline(always)]
+    pub fn find(&self, name: &[u8]) -> Option<Meaning>
+        ensures { result ≡ names_of self.now.names.accepted.now name.now }
+    {
+        match self.slots.find(name) {
+            Some(meaning) => Some(meaning),
+            None => self.names.find(name),
+        }
+    }
+
     // The value of the global that is the directive of this number.
     fn global_value(&self, at: usize) -> i32
         ensures { result ≡ unwrap_or (slice_get self.now.globals.items at) (pos 0) }
@@ -69,13 +89,13 @@ impl<'a> World<'a> {
         0
     }
 
-    // The value of what has no name among the locals.
-    #[tactic(auto, using(crate::proofs::ByNumber::outer_global, crate::proofs::ByNumber::outer_nothing))]
-    fn outer(&self, name: &Name) -> i32
-        ensures { result ≡ outer_value (names_of self.now.names.accepted.now)
-            self.now.globals.items name.now }
+    // The value that a meaning gives a name that is no local.
+    #[inline(always)]
+    #[tactic(auto, using(crate::proofs::ByNumber::meant_global))]
+    fn meant(&self, meaning: Option<Meaning>) -> i32
+        ensures { result ≡ meant_value self.now.globals.items meaning }
     {
-        match self.names.find(name.bytes()) {
+        match meaning {
             None => 0,
             Some(meaning) => match meaning.kind {
                 Kind::Constant(Some(word)) => word,
@@ -87,10 +107,32 @@ impl<'a> World<'a> {
         }
     }
 
+    // The value of a name that is no local and not in its slot.
+    #[inline(never)]
+    fn outer_elsewhere(&self, name: &[u8]) -> i32
+        ensures { result ≡ outer_value (names_of self.now.names.accepted.now)
+            self.now.globals.items name.now }
+    {
+        self.meant(self.names.find(name))
+    }
+
+    // The value of a name that is no local.
+    #[inline(always)]
+    fn outer(&self, name: &[u8]) -> i32
+        ensures { result ≡ outer_value (names_of self.now.names.accepted.now)
+            self.now.globals.items name.now }
+    {
+        match self.slots.find(name) {
+            Some(meaning) => self.meant(Some(meaning)),
+            None => self.outer_elsewhere(name),
+        }
+    }
+
     /// The value of a name.
     pub fn value(&self, name: &Name) -> i32
         ensures { result ≡ value_of (program_seen self.now) name.now (world_of self.now) }
     {
+        let name = name.bytes();
         match self.scope.get(name) {
             Some(value) => value,
             None => self.outer(name),
@@ -105,7 +147,7 @@ impl<'a> World<'a> {
         ensures none { IfNone result (globals_of (names_of self.now.names.accepted.now)
             self.now.globals.items name.now ≡ None) }
     {
-        match self.names.find(name) {
+        match self.find(name) {
             None => None,
             Some(meaning) => match meaning.kind {
                 Kind::Constant(_) => None,
@@ -123,7 +165,7 @@ impl<'a> World<'a> {
 
     // Another value of a global, if there is one of this name.
     #[tactic(auto, using(crate::proofs::ByNumber::put_global, crate::proofs::ByNumber::keep_globals))]
-    fn assign_global(&mut self, name: &Name, value: i32)
+    fn assign_global(&mut self, name: &[u8], value: i32)
         ensures names { self.new.names ≡ self.old.names }
         ensures arrays { self.new.arrays ≡ self.old.arrays }
         ensures scope { self.new.scope ≡ self.old.scope }
@@ -132,7 +174,7 @@ impl<'a> World<'a> {
             name.now value }
     {
         meanings_are_of_directives();
-        match self.global_at(name.bytes()) {
+        match self.global_at(name) {
             Some(at) => self.globals[at] = value,
             None => {}
         }
@@ -143,6 +185,7 @@ impl<'a> World<'a> {
         ensures names { self.new.names ≡ self.old.names }
         ensures world { world_of self.new ≡ assigned name.now value (world_of self.old) }
     {
+        let name = name.bytes();
         if !self.scope.set(name, value) {
             self.assign_global(name, value);
         }
@@ -157,7 +200,7 @@ impl<'a> World<'a> {
         ensures none { IfNone result (arrays_of (names_of self.now.names.accepted.now)
             (map (λ entries. entries.items) self.now.arrays.items) name.now ≡ None) }
     {
-        match self.names.find(name) {
+        match self.find(name) {
             None => None,
             Some(meaning) => match meaning.kind {
                 Kind::Constant(_) => None,
