@@ -55,16 +55,21 @@ impl<'a> Scope<'a> {
         }
     }
 
-    // The first place of a name among the locals.
+    // The first place of a name among the locals. It goes along what is left of them, which is less
+    // work than to find each by its index.
     #[inline(always)]
     fn search(&self, name: &[u8]) -> Option<usize>
         ensures place { result ≡ position_from (same_name name.now) 0 self.now.names.now }
         ensures within { IfSome result (λ place. place < 15) }
     {
-        for (place, local) in self.names.iter().enumerate() {
+        let mut rest = self.names;
+        let mut place = 0;
+        while let [local, after @ ..] = rest {
             if same(name, local.bytes()) {
                 return Some(place);
             }
+            rest = after;
+            place += 1;
         }
         None
     }

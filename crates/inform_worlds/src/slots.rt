@@ -13,9 +13,9 @@ use std::alloc::Global;
 /// How many slots there are.
 const SLOTS: usize = 256;
 
-/// A name and what it means.
+// A name and what it means.
 #[derive(Clone, Copy)]
-pub struct Slot<'a> {
+struct Slot<'a> {
     name: &'a [u8],
     meaning: Meaning,
 }
@@ -99,7 +99,7 @@ impl<'a> Slots<'a> {
         ensures { IfSome result (λ meaning. names_of self.now.accepted.now name.now
             ≡ Some meaning) }
     {
-        match self.slots[number(name)] {
+        match &self.slots[number(name)] {
             Some(slot) if same(slot.name, name) => Some(slot.meaning),
             _ => None,
         }
