@@ -2,6 +2,8 @@
 ghost use Rattle.std.specs.Prelude.{◌≡◌, ◌<◌, length, IfOk, IfSome, Some};
 ghost use Rattle.std.specs.List.{All};
 ghost use Rattle.std.specs.Option.{ForSome};
+ghost use Rattle.inform_tree.specs.Programs.{directive_of};
+ghost use Rattle.inform_names.specs.Meanings.{name_of};
 ghost use Rattle.inform_names.specs.Views.{names_of};
 
 use crate::names::same;
@@ -48,7 +50,9 @@ fn number(name: &[u8]) -> usize
 }
 
 // The name of a directive.
-fn name_of(directive: &Directive) -> &Name {
+fn name_of(directive: &Directive) -> &Name
+    ensures { result.now ≡ name_of (directive_of directive.now) }
+{
     match directive {
         Directive::Constant(name, _) => name,
         Directive::Global(name, _) => name,
