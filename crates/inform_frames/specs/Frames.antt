@@ -1,5 +1,5 @@
 -- The frames of the program, as the meaning has them.
-use Rattle.std.specs.Prelude.{List, [], ◌∷◌, ◌++◌, Option, Some, None, option_map, map}
+use Rattle.std.specs.Prelude.{ℕ, ◌+◌, List, [], ◌∷◌, ◌++◌, Option, Some, None, option_map, map, ⊤}
 use Rattle.inform_tree.specs.Values.{expression_of, arguments_of, terms_of, factors_of}
 use Rattle.inform_tree.specs.Conditions.{condition_of, conditions_of}
 use Rattle.inform_tree.specs.Statements.{assignment_of, print_item_of, statement_of, statements_of, cases_of}
@@ -7,7 +7,9 @@ use Rattle.inform_tree.specs.Statements as s
 use Rattle.inform_tree.specs.declared.statements.Stmt.{Stmt}
 use denote.Ref.{Bor}
 use Rattle.std.specs.Global.{Vec}
+use Rattle.inform_meaning.specs.Worlds as m
 use Rattle.inform_meaning.specs.Frames as f
+use Rattle.inform_worlds.specs.declared.scopes.Scope.{Scope}
 use Rattle.inform_worlds.specs.Scopes.{scope_of, values_of}
 use Rattle.inform_frames.specs.declared.signals.Halt.{Halt}
 use Rattle.inform_frames.specs.declared.signals.Halt.TheVariants as h
@@ -46,7 +48,6 @@ loop_of l = record {
 
 abbrev pub begin_of : Begin → f.Begin
 begin_of (b.Evals x) = f.Evals (expression_of x.now)
-begin_of (b.CallDue name xs) = f.CallDue name.now (values_of xs)
 begin_of (b.DrawDue n) = f.DrawDue n
 begin_of (b.Tests x) = f.Tests (condition_of x.now)
 begin_of (b.Alters x) = f.Alters (assignment_of x.now)
@@ -54,7 +55,6 @@ begin_of (b.Due x) = f.Due (statement_of x.now)
 begin_of (b.Blocks xs) = f.Blocks (statements_of xs.now)
 begin_of (b.Prints xs) = f.Prints (map print_item_of xs.now)
 begin_of (b.LineDue name) = f.LineDue name.now
-begin_of (b.TurnDue l) = f.TurnDue (loop_of l)
 
 -- what a `switch` does where no case fits
 abbrev pub default_of : Option (Bor (Vec Stmt)) → s.Default
@@ -68,7 +68,6 @@ default_tree (Some body) = s.SomeDefault (statements_of body.items)
 
 abbrev pub want_of : Want → f.Want
 want_of (w.IndexOf name) = f.IndexOf name.now
-want_of (w.Args name values xs) = f.Args name.now (values_of values) (arguments_of xs.now)
 want_of w.RangeOf = f.RangeOf
 want_of w.Negates = f.Negates
 want_of (w.SumFrom xs) = f.SumFrom (terms_of xs.now)
@@ -93,22 +92,70 @@ decide_of (d.AnyOf xs) = f.AnyOf (conditions_of xs.now)
 decide_of d.Flips = f.Flips
 decide_of (d.Branches body other) =
     f.Branches (statements_of body.now.items) (statements_of other.now.items)
-decide_of (d.Testing l) = f.Testing (loop_of l)
 
+-- a frame that is no caller's; one of those is given its scope in `frame_in`
 abbrev pub frame_of : Frame → f.Frame
 frame_of (x.Begins y) = f.Begins (begin_of y)
+frame_of (x.CallDue name values) = f.Begins (f.CallDue name.now (values_of values))
 frame_of (x.Wants y) = f.Wants (want_of y)
+frame_of (x.Args name values xs) =
+    f.Wants (f.Args name.now (values_of values) (arguments_of xs.now))
 frame_of (x.Decides y) = f.Decides (decide_of y)
+frame_of (x.TurnDue l) = f.Begins (f.TurnDue (loop_of l))
+frame_of (x.Testing l) = f.Decides (f.Testing (loop_of l))
 frame_of (x.Looping l) = f.Looping (loop_of l)
-frame_of (x.Calling scope) = f.Calling (scope_of scope)
+frame_of x.Calling = f.Main
 frame_of x.Main = f.Main
 frame_of (x.Over halt) = f.Over (halt_of halt)
 
+-- no caller waits in this frame
+abbrev pub IsPlain : Frame → Type 0
+IsPlain x.Calling = ⊥
+IsPlain x = ⊤
+
+-- any frame: where a caller waits in it, this is its scope
+abbrev pub frame_in : m.Scope → Frame → f.Frame
+frame_in scope x.Calling = f.Calling scope
+frame_in scope x = frame_of x
+
+-- a caller waits in this frame
+abbrev pub IsCaller : f.Frame → Type 0
+IsCaller (f.Calling scope) = ⊤
+IsCaller x = ⊥
+
+-- the scope of no routine
+abbrev pub no_scope : m.Scope
+no_scope = record { directive = 0; locals = [] }
+
+-- the scope of the caller that waits in a frame
+abbrev pub caller_of : f.Frame → m.Scope
+caller_of (f.Calling scope) = scope
+caller_of x = no_scope
+
 -- ---- the frames of a stack, innermost first
 
-abbrev pub frames_of : List Frame → List f.Frame
-frames_of [] = []
-frames_of (x ∷ xs) = frames_of xs ++ frame_of x ∷ []
+-- how many callers wait in frames
+abbrev pub callers_in : List Frame → ℕ
+callers_in [] = 0
+callers_in (x.Calling ∷ xs) = callers_in xs + 1
+callers_in (x ∷ xs) = callers_in xs
+
+-- the scope of the first of these callers
+abbrev pub scope_in : List Scope → m.Scope
+scope_in [] = no_scope
+scope_in (scope ∷ scopes) = scope_of scope
+
+-- the scopes of the callers in the frames after one
+abbrev pub scopes_after : Frame → List Scope → List Scope
+scopes_after x.Calling [] = []
+scopes_after x.Calling (scope ∷ scopes) = scopes
+scopes_after x scopes = scopes
+
+-- those of the outermost frames, and of the callers in them, from the outermost one on
+abbrev pub frames_of : List Frame → List Scope → List f.Frame
+frames_of [] scopes = []
+frames_of (x ∷ xs) scopes =
+    frames_of xs (scopes_after x scopes) ++ frame_in (scope_in scopes) x ∷ []
 
 -- the innermost; `Main` where there is none
 abbrev pub top_of : List f.Frame → f.Frame

@@ -6,7 +6,7 @@ use Rattle.inform_frames.specs.declared.stacks.Stack.{Stack}
 use Rattle.inform_frames.specs.declared.stacks.TheConstants.{ROOM}
 
 abbrev pub stack_of : Stack → List f.Frame
-stack_of s = frames_of s.frames.items
+stack_of s = frames_of s.frames.items s.callers.items
 
 -- there is room for the frames of a move
 abbrev pub HasRoom : Stack → Type 0

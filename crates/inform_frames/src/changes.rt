@@ -10,7 +10,7 @@ ghost use Rattle.inform_frames.specs.Stacks.{HasRoom};
 ghost use Rattle.inform_frames.specs.Nexts.{Hands, Changes, Altered};
 
 use crate::frames::Want;
-use crate::immediate::immediate_value;
+use crate::immediate::value_at_once;
 use crate::nexts::{Next, Said};
 use crate::signals::Signal;
 use crate::stacks::Stack;
@@ -112,7 +112,7 @@ pub fn place_next<'a>(
         (place_move (program_seen world.old) (world_of world.old) name.now words index
         (expression_of value.now)) stack.old stack.new result }
 {
-    match immediate_value(world, value) {
+    match value_at_once(world, value) {
         Some(a) => store_next(world, name, words, index, a),
         None => evals(stack, value, Want::Stores(name, words, index)),
     }
@@ -127,11 +127,11 @@ pub fn alter_next<'a>(world: &mut World<'a>, stack: &mut Stack<'a>, x: &'a Chang
         stack.old stack.new result }
 {
     match x {
-        Change::Set(name, x) => match immediate_value(world, x) {
+        Change::Set(name, x) => match value_at_once(world, x) {
             Some(a) => assigns(world, name, a),
             None => evals(stack, x, Want::Sets(name)),
         },
-        Change::SetEntry(name, words, index, x) => match immediate_value(world, index) {
+        Change::SetEntry(name, words, index, x) => match value_at_once(world, index) {
             Some(i) => place_next(world, stack, name, *words, i, x),
             None => evals(stack, index, Want::PlaceOf(name, *words, x)),
         },

@@ -11,7 +11,7 @@ ghost use Rattle.inform_frames.specs.Stacks.{HasRoom};
 ghost use Rattle.inform_frames.specs.Nexts.{Makes};
 
 use crate::frames::{Begin, Decide, Frame, Want};
-use crate::immediate::{immediate_truth, immediate_value};
+use crate::immediate::{immediate_truth, value_at_once};
 use crate::nexts::Next;
 use crate::signals::Signal;
 use crate::stacks::Stack;
@@ -59,6 +59,7 @@ pub fn any_next<'a>(stack: &mut Stack<'a>, xs: &'a [Cond]) -> Next<'a>
 }
 
 // A condition that hasn't begun, part by part.
+#[inline(always)]
 fn truth_parts<'a>(stack: &mut Stack<'a>, x: &'a Cond) -> Next<'a>
     requires { HasRoom stack.old }
     ensures { (world : w.World) → Makes world (truth_parts (condition_of x.now))
@@ -76,6 +77,7 @@ fn truth_parts<'a>(stack: &mut Stack<'a>, x: &'a Cond) -> Next<'a>
 }
 
 /// A condition that hasn't begun.
+#[inline(always)]
 pub fn test_next<'a>(world: &World<'a>, stack: &mut Stack<'a>, x: &'a Cond) -> Next<'a>
     requires { HasRoom stack.old }
     ensures { Makes (world_of world.now) (test_move (program_seen world.now) (world_of world.now)
@@ -99,7 +101,7 @@ pub fn right_next<'a>(
     ensures { Makes (world_of world.now) (right_move (program_seen world.now) (world_of world.now)
         relation left (expression_of right.now)) stack.old stack.new result }
 {
-    match immediate_value(world, right) {
+    match value_at_once(world, right) {
         Some(b) => Next::hands(Signal::Truth(compares(relation, left, b))),
         None => evals(stack, right, Want::RightOf(relation, left)),
     }

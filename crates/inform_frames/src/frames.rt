@@ -1,7 +1,7 @@
 //! What has begun and isn't finished.
 use crate::signals::Halt;
 use inform_tree::{Case, Change, Cond, Expr, Item, Name, ProdOp, Relation, Stmt, SumOp};
-use inform_worlds::{Arguments, Scope};
+use inform_worlds::Arguments;
 
 /// A loop: it goes on where its test, if it has one, has this truth value.
 #[derive(Clone, Copy)]
@@ -16,8 +16,6 @@ pub struct Loop<'a> {
 #[derive(Clone, Copy)]
 pub enum Begin<'a> {
     Evals(&'a Expr),
-    /// A call of the routine of this name, whose arguments are known.
-    CallDue(&'a Name, Arguments),
     /// A draw for a number up to this one.
     DrawDue(i32),
     Tests(&'a Cond),
@@ -27,14 +25,12 @@ pub enum Begin<'a> {
     Prints(&'a [Item]),
     /// A line for this buffer.
     LineDue(&'a Name),
-    TurnDue(Loop<'a>),
 }
 
 /// What waits for the value of a part.
 #[derive(Clone, Copy)]
 pub enum Want<'a> {
     IndexOf(&'a Name),
-    Args(&'a Name, Arguments, &'a [Expr]),
     RangeOf,
     Negates,
     SumFrom(&'a [(SumOp, Expr)]),
@@ -61,19 +57,27 @@ pub enum Decide<'a> {
     AnyOf(&'a [Cond]),
     Flips,
     Branches(&'a Vec<Stmt>, &'a Vec<Stmt>),
-    Testing(Loop<'a>),
 }
 
-/// What has begun and isn't finished.
+/// What has begun and isn't finished. What needs much room stands here, and not among the others of
+/// its kind, so that those are small.
 #[derive(Clone, Copy)]
 pub enum Frame<'a> {
     Begins(Begin<'a>),
+    /// A call of the routine of this name, whose arguments are known.
+    CallDue(&'a Name, Arguments),
     Wants(Want<'a>),
+    /// The next argument of a call of the routine of this name, of which these are known.
+    Args(&'a Name, Arguments, &'a [Expr]),
     Decides(Decide<'a>),
+    /// A turn of a loop hasn't begun.
+    TurnDue(Loop<'a>),
+    /// The test of a loop runs.
+    Testing(Loop<'a>),
     /// The body of a loop runs.
     Looping(Loop<'a>),
-    /// The body of a routine runs; the scope is the caller's.
-    Calling(Scope<'a>),
+    /// The body of a routine runs; the scope of the caller stands on its own.
+    Calling,
     /// The routine runs with which the run began.
     Main,
     /// The run is over.

@@ -79,6 +79,19 @@ pub fn immediate_product(world: &World, first: i32, factors: &[(ProdOp, Expr)]) 
     Some(product)
 }
 
+/// The same as `immediate_value`, and quick for a number and a name, which are the commonest.
+#[inline(always)]
+pub fn value_at_once(world: &World, x: &Expr) -> Option<i32>
+    ensures { result ≡ immediate_value (program_seen world.now) (world_of world.now)
+        (expression_of x.now) }
+{
+    match x {
+        Expr::Number(n) => Some(number(world.names(), *n)),
+        Expr::Name(name) => Some(world.value(name)),
+        other => immediate_value(world, other),
+    }
+}
+
 /// All arguments of a call of which these are known.
 pub fn immediate_arguments(world: &World, known: Arguments, rest: &[Expr]) -> Option<Arguments>
     ensures { option_map values_of result ≡ immediate_arguments (program_seen world.now)
@@ -86,7 +99,7 @@ pub fn immediate_arguments(world: &World, known: Arguments, rest: &[Expr]) -> Op
 {
     let mut all = known;
     for x in rest {
-        match immediate_value(world, x) {
+        match value_at_once(world, x) {
             None => return None,
             Some(a) => all = all.with(a),
         }
@@ -102,10 +115,10 @@ pub fn immediate_truth(world: &World, x: &Cond) -> Option<bool>
 {
     match x {
         Cond::Compare(relation, left, right) => {
-            let left = immediate_value(world, left)?;
-            Some(compares(*relation, left, immediate_value(world, right)?))
+            let left = value_at_once(world, left)?;
+            Some(compares(*relation, left, value_at_once(world, right)?))
         }
-        Cond::Nonzero(x) => Some(immediate_value(world, x)? != 0),
+        Cond::Nonzero(x) => Some(value_at_once(world, x)? != 0),
         Cond::All(members) => immediate_all(world, members),
         Cond::Any(members) => immediate_any(world, members),
         Cond::Not(operand) => Some(!immediate_truth(world, operand)?),

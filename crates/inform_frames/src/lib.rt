@@ -20,7 +20,6 @@ mod begins;
 mod calls;
 mod changes;
 mod choices;
-mod commons;
 mod conditions;
 mod loops;
 mod moves;
@@ -30,7 +29,6 @@ mod values;
 mod wants;
 
 pub use changes::change_at_once;
-pub use commons::common_next;
 pub use frames::{Begin, Decide, Frame, Loop, Want};
 pub use loops::goes_on_at_once;
 pub use moves::{halt_of, next};

@@ -11,7 +11,7 @@ ghost use Rattle.inform_frames.specs.Frames.{loop_of, signal_of};
 ghost use Rattle.inform_frames.specs.Stacks.{HasRoom};
 ghost use Rattle.inform_frames.specs.Nexts.{Makes};
 
-use crate::frames::{Begin, Decide, Frame, Loop};
+use crate::frames::{Begin, Frame, Loop};
 use crate::immediate::immediate_truth;
 use crate::nexts::Next;
 use crate::signals::Signal;
@@ -78,6 +78,7 @@ fn for_loop<'a>(head: &'a Head, body: &'a Vec<Stmt>) -> Loop<'a>
 }
 
 // A change, if there is one, and a turn after it.
+#[inline(always)]
 fn change_before_turn<'a>(
     stack: &mut Stack<'a>,
     l: Loop<'a>,
@@ -89,12 +90,8 @@ fn change_before_turn<'a>(
         stack.old stack.new result }
 {
     match change {
-        None => goes_to(stack, Frame::Begins(Begin::TurnDue(l))),
-        Some(x) => goes_with(
-            stack,
-            Frame::Begins(Begin::Alters(x)),
-            Frame::Begins(Begin::TurnDue(l)),
-        ),
+        None => goes_to(stack, Frame::TurnDue(l)),
+        Some(x) => goes_with(stack, Frame::Begins(Begin::Alters(x)), Frame::TurnDue(l)),
     }
 }
 
@@ -117,6 +114,7 @@ fn goes_on(l: &Loop, holds: bool) -> bool
 }
 
 /// What follows the test of a turn: the body, or the end of the loop.
+#[inline(always)]
 pub fn tested_next<'a>(stack: &mut Stack<'a>, l: Loop<'a>, holds: bool) -> Next<'a>
     requires { HasRoom stack.old }
     ensures { (world : w.World) → Makes world (tested_move (loop_of l.entry)
@@ -133,6 +131,7 @@ pub fn tested_next<'a>(stack: &mut Stack<'a>, l: Loop<'a>, holds: bool) -> Next<
 }
 
 // The test of a turn.
+#[inline(always)]
 fn turn_test<'a>(world: &World<'a>, stack: &mut Stack<'a>, l: Loop<'a>, test: &'a Cond) -> Next<'a>
     requires { HasRoom stack.old }
     ensures { Makes (world_of world.now) (turn_test (program_seen world.now) (world_of world.now)
@@ -140,15 +139,12 @@ fn turn_test<'a>(world: &World<'a>, stack: &mut Stack<'a>, l: Loop<'a>, test: &'
 {
     match immediate_truth(world, test) {
         Some(b) => tested_next(stack, l, b),
-        None => goes_with(
-            stack,
-            Frame::Begins(Begin::Tests(test)),
-            Frame::Decides(Decide::Testing(l)),
-        ),
+        None => goes_with(stack, Frame::Begins(Begin::Tests(test)), Frame::Testing(l)),
     }
 }
 
 /// A turn that is due.
+#[inline(always)]
 pub fn turn_next<'a>(world: &World<'a>, stack: &mut Stack<'a>, l: Loop<'a>) -> Next<'a>
     requires { HasRoom stack.old }
     ensures { Makes (world_of world.now) (turn_move (program_seen world.now) (world_of world.now)
@@ -156,7 +152,7 @@ pub fn turn_next<'a>(world: &World<'a>, stack: &mut Stack<'a>, l: Loop<'a>) -> N
 {
     match l.test {
         None => {
-            stack.push(Frame::Decides(Decide::Testing(l)));
+            stack.push(Frame::Testing(l));
             Next::hands(Signal::Truth(true))
         }
         Some(test) => turn_test(world, stack, l, test),
@@ -178,6 +174,7 @@ pub fn goes_on_at_once(world: &World, l: &Loop) -> Option<bool>
 }
 
 /// What follows the body of a turn: the change and the next turn, or the end of the loop.
+#[inline(always)]
 pub fn body_next<'a>(stack: &mut Stack<'a>, l: Loop<'a>, signal: Signal) -> Next<'a>
     requires { HasRoom stack.old }
     ensures { (world : w.World) → Makes world (body_move (loop_of l.entry) (signal_of signal))

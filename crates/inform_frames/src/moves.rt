@@ -1,26 +1,35 @@
 //! The move of any frame.
-ghost use Rattle.std.specs.Prelude.{◌≡◌};
+ghost use Rattle.std.specs.Prelude.{◌≡◌, ◌+◌, ◌-◌, ◌≤◌, ◌∷◌, ℕ, length};
 ghost use Rattle.inform_meaning.specs.Frames.{halt_of, returned};
+ghost use Rattle.inform_meaning.specs.Frames as f;
+ghost use Rattle.inform_meaning.specs.Runs.{CALL_LIMIT};
 ghost use Rattle.inform_meaning.specs.Worlds as w;
+ghost use Rattle.inform_tree.specs.Values.{arguments_of};
+ghost use Rattle.inform_moves.specs.Heights.{calls_open};
 ghost use Rattle.inform_moves.specs.Moves.{begun_move, wanted_move, decided_move, truth_move, next};
+ghost use Rattle.inform_worlds.specs.Scopes.{values_of};
 ghost use Rattle.inform_worlds.specs.Views.{world_of, program_seen};
+ghost use Rattle.inform_frames.specs.declared.stacks.TheConstants.{ROOM};
 ghost use Rattle.inform_frames.specs.Frames as v;
-ghost use Rattle.inform_frames.specs.Frames.{begin_of, want_of, decide_of, frame_of, signal_of};
-ghost use Rattle.inform_frames.specs.Stacks.{HasRoom};
-ghost use Rattle.inform_frames.specs.Nexts.{Makes, Changes};
+ghost use Rattle.inform_frames.specs.Frames.{loop_of, begin_of, want_of, decide_of, signal_of, IsCaller, top_of, rest_of};
+ghost use Rattle.inform_frames.specs.Stacks.{stack_of, HasRoom};
+ghost use Rattle.inform_frames.specs.Nexts.{MakesOf, Makes, Changes};
 
 use crate::begins::begin_next;
+use crate::calls::call_next;
 use crate::conditions::{all_next, any_next};
-use crate::frames::{Begin, Decide, Frame, Want};
-use crate::loops::{body_next, tested_next};
+use crate::frames::{Begin, Decide, Frame, Loop, Want};
+use crate::loops::{body_next, tested_next, turn_next};
 use crate::nexts::Next;
 use crate::signals::{Halt, Signal};
-use crate::stacks::Stack;
-use crate::values::goes_to;
+use crate::stacks::{CALLS, Stack};
+use crate::values::{arguments_next, goes_to};
 use crate::wants::want_next;
-use inform_worlds::World;
+use inform_tree::{Expr, Name};
+use inform_worlds::{Arguments, World};
 
 // The move of what waited for a truth value.
+#[inline(always)]
 fn truth_next<'a>(stack: &mut Stack<'a>, decide: &Decide<'a>, b: bool) -> Next<'a>
     requires { HasRoom stack.old }
     ensures { (world : w.World) → Makes world (truth_move (decide_of decide.now) b)
@@ -46,7 +55,6 @@ fn truth_next<'a>(stack: &mut Stack<'a>, decide: &Decide<'a>, b: bool) -> Next<'
             }
             goes_to(stack, Frame::Begins(Begin::Blocks(other)))
         }
-        Decide::Testing(l) => tested_next(stack, *l, b),
     }
 }
 
@@ -71,25 +79,26 @@ pub fn halt_of(signal: Signal) -> Halt
     }
 }
 
+#[inline(always)]
 fn begun_next<'a>(
     world: &mut World<'a>,
     stack: &mut Stack<'a>,
-    room: usize,
     begin: &Begin<'a>,
     signal: Signal,
 ) -> Next<'a>
     requires { HasRoom stack.old }
     ensures names { world.new.names ≡ world.old.names }
-    ensures next { Changes (world_of world.old) (world_of world.new)
+    ensures next { (room : ℕ) → Changes (world_of world.old) (world_of world.new)
         (begun_move (program_seen world.old) room (world_of world.old) (begin_of begin.now)
         (signal_of signal)) stack.old stack.new result }
 {
     match signal {
-        Signal::Normal => begin_next(world, stack, room, begin),
+        Signal::Normal => begin_next(world, stack, begin),
         other => Next::hands(other),
     }
 }
 
+#[inline(always)]
 fn wanted_next<'a>(
     world: &mut World<'a>,
     stack: &mut Stack<'a>,
@@ -108,6 +117,7 @@ fn wanted_next<'a>(
     }
 }
 
+#[inline(always)]
 fn decided_next<'a>(stack: &mut Stack<'a>, decide: &Decide<'a>, signal: Signal) -> Next<'a>
     requires { HasRoom stack.old }
     ensures { (world : w.World) → Makes world (decided_move (decide_of decide.now)
@@ -119,31 +129,153 @@ fn decided_next<'a>(stack: &mut Stack<'a>, decide: &Decide<'a>, signal: Signal) 
     }
 }
 
-/// The move of a frame to which this is handed, where so many more calls may be open. The frame was
-/// taken from the stack.
-pub fn next<'a>(
+// The move of a call whose arguments are known.
+#[inline(always)]
+fn due_next<'a>(
     world: &mut World<'a>,
     stack: &mut Stack<'a>,
-    room: usize,
-    frame: &Frame<'a>,
+    name: &'a Name,
+    values: &Arguments,
     signal: Signal,
 ) -> Next<'a>
     requires { HasRoom stack.old }
     ensures names { world.new.names ≡ world.old.names }
     ensures next { Changes (world_of world.old) (world_of world.new)
-        (next (program_seen world.old) room (world_of world.old) (frame_of frame.now)
+        (begun_move (program_seen world.old) (CALL_LIMIT - calls_open (stack_of stack.old))
+        (world_of world.old) (f.CallDue name.now (values_of values.now)) (signal_of signal))
+        stack.old stack.new result }
+{
+    match signal {
+        Signal::Normal => {
+            let room = CALLS - stack.calls();
+            call_next(world, stack, room, name, values)
+        }
+        other => Next::hands(other),
+    }
+}
+
+// The move of a call that waited for its next argument.
+#[inline(always)]
+fn argument_next<'a>(
+    world: &World<'a>,
+    stack: &mut Stack<'a>,
+    name: &'a Name,
+    values: &Arguments,
+    xs: &'a [Expr],
+    signal: Signal,
+) -> Next<'a>
+    requires { HasRoom stack.old }
+    ensures { Makes (world_of world.now) (wanted_move (program_seen world.now) (world_of world.now)
+        (f.Args name.now (values_of values.now) (arguments_of xs.now)) (signal_of signal))
+        stack.old stack.new result }
+{
+    match signal {
+        Signal::Value(a) => arguments_next(world, stack, name, values.with(a), xs),
+        other => Next::hands(other),
+    }
+}
+
+// The move of a turn that is due.
+#[inline(always)]
+fn due_turn_next<'a>(
+    world: &World<'a>,
+    stack: &mut Stack<'a>,
+    l: Loop<'a>,
+    signal: Signal,
+) -> Next<'a>
+    requires { HasRoom stack.old }
+    ensures { (room : ℕ) → Makes (world_of world.now) (begun_move (program_seen world.now) room
+        (world_of world.now) (f.TurnDue (loop_of l.entry)) (signal_of signal))
+        stack.old stack.new result }
+{
+    match signal {
+        Signal::Normal => turn_next(world, stack, l),
+        other => Next::hands(other),
+    }
+}
+
+// The move of a loop that waited for its test.
+#[inline(always)]
+fn testing_next<'a>(stack: &mut Stack<'a>, l: Loop<'a>, signal: Signal) -> Next<'a>
+    requires { HasRoom stack.old }
+    ensures { (world : w.World) → Makes world (decided_move (f.Testing (loop_of l.entry))
         (signal_of signal)) stack.old stack.new result }
 {
-    match frame {
-        Frame::Begins(begin) => begun_next(world, stack, room, begin, signal),
-        Frame::Wants(want) => wanted_next(world, stack, want, signal),
-        Frame::Decides(decide) => decided_next(stack, decide, signal),
-        Frame::Looping(l) => body_next(stack, *l, signal),
-        Frame::Calling(scope) => {
-            world.enter(*scope);
-            Next::hands(returned(signal))
-        }
-        Frame::Main => Next::hands(Signal::Halts(halt_of(signal))),
-        Frame::Over(halt) => Next::hands(Signal::Halts(*halt)),
+    match signal {
+        Signal::Truth(b) => tested_next(stack, l, b),
+        other => Next::hands(other),
+    }
+}
+
+// The move of a frame in which a caller waits.
+#[inline(always)]
+fn caller_next<'a>(world: &mut World<'a>, stack: &mut Stack<'a>, signal: Signal) -> Next<'a>
+    requires { IsCaller (top_of (stack_of stack.old)) }
+    ensures names { world.new.names ≡ world.old.names }
+    ensures next { (room : ℕ) → MakesOf (world_of world.old) (world_of world.new)
+        (next (program_seen world.old) room (world_of world.old) (top_of (stack_of stack.old))
+        (signal_of signal)) (rest_of (stack_of stack.old)) (stack_of stack.new) result }
+{
+    world.enter(*stack.caller());
+    stack.pop();
+    Next::hands(returned(signal))
+}
+
+/// The move of the innermost frame, to which this is handed.
+#[tactic(auto, using(crate::proofs::Innermost::innermost_makes))]
+pub fn next<'a>(world: &mut World<'a>, stack: &mut Stack<'a>, signal: Signal) -> Next<'a>
+    requires some { let frames = stack_of stack.old in frames ≡ top_of frames ∷ rest_of frames }
+    requires room { length (rest_of (stack_of stack.old)) + 3 ≤ ROOM }
+    ensures names { world.new.names ≡ world.old.names }
+    ensures next { MakesOf (world_of world.old) (world_of world.new) (next (program_seen world.old)
+        (CALL_LIMIT - calls_open (rest_of (stack_of stack.old))) (world_of world.old)
+        (top_of (stack_of stack.old)) (signal_of signal)) (rest_of (stack_of stack.old))
+        (stack_of stack.new) result }
+{
+    match stack.top() {
+        None => unreachable!(),
+        Some(frame) => match *frame {
+            Frame::Begins(begin) => {
+                stack.pop();
+                begun_next(world, stack, &begin, signal)
+            }
+            Frame::CallDue(name, values) => {
+                stack.pop();
+                due_next(world, stack, name, &values, signal)
+            }
+            Frame::Wants(want) => {
+                stack.pop();
+                wanted_next(world, stack, &want, signal)
+            }
+            Frame::Args(name, values, xs) => {
+                stack.pop();
+                argument_next(world, stack, name, &values, xs, signal)
+            }
+            Frame::Decides(decide) => {
+                stack.pop();
+                decided_next(stack, &decide, signal)
+            }
+            Frame::TurnDue(l) => {
+                stack.pop();
+                due_turn_next(world, stack, l, signal)
+            }
+            Frame::Testing(l) => {
+                stack.pop();
+                testing_next(stack, l, signal)
+            }
+            Frame::Looping(l) => {
+                stack.pop();
+                body_next(stack, l, signal)
+            }
+            Frame::Calling => caller_next(world, stack, signal),
+            Frame::Main => {
+                stack.pop();
+                Next::hands(Signal::Halts(halt_of(signal)))
+            }
+            Frame::Over(halt) => {
+                stack.pop();
+                Next::hands(Signal::Halts(halt))
+            }
+        },
     }
 }

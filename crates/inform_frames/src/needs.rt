@@ -1,7 +1,8 @@
 //! What a move needs.
 ghost use Rattle.std.specs.Prelude.{◌≡◌};
 ghost use Rattle.inform_moves.specs.Needs.{need};
-ghost use Rattle.inform_frames.specs.Frames.{frame_of, signal_of};
+ghost use Rattle.inform_meaning.specs.Worlds.{Scope};
+ghost use Rattle.inform_frames.specs.Frames.{frame_in, signal_of};
 ghost use Rattle.inform_frames.specs.Nexts.{need_seen};
 
 use crate::frames::{Begin, Frame};
@@ -20,15 +21,16 @@ pub enum Need<'a> {
 
 /// What the move of a frame needs to which this is handed.
 pub fn need_of<'a>(frame: &Frame<'a>, signal: Signal) -> Need<'a>
-    ensures { need_seen result ≡ need (frame_of frame.now) (signal_of signal) }
+    ensures { (caller : Scope) → need_seen result
+        ≡ need (frame_in caller frame.now) (signal_of signal) }
 {
     match signal {
         Signal::Normal => match frame {
-            Frame::Begins(Begin::CallDue(_, _)) => Need::Step,
+            Frame::CallDue(_, _) => Need::Step,
             Frame::Begins(Begin::DrawDue(n)) => Need::Draw(*n),
             Frame::Begins(Begin::Due(_)) => Need::Step,
             Frame::Begins(Begin::LineDue(name)) => Need::Line(name),
-            Frame::Begins(Begin::TurnDue(_)) => Need::Step,
+            Frame::TurnDue(_) => Need::Step,
             _ => Need::Nothing,
         },
         _ => Need::Nothing,

@@ -10,7 +10,7 @@ ghost use Rattle.inform_frames.specs.Stacks.{HasRoom};
 ghost use Rattle.inform_frames.specs.Nexts.{Makes};
 
 use crate::frames::{Begin, Frame, Want};
-use crate::immediate::immediate_value;
+use crate::immediate::value_at_once;
 use crate::nexts::{Next, Said};
 use crate::signals::Signal;
 use crate::stacks::Stack;
@@ -62,11 +62,11 @@ fn item_next<'a>(
 {
     match item {
         Item::Text(text) => says_text(stack, text, xs),
-        Item::Value(x) => match immediate_value(world, x) {
+        Item::Value(x) => match value_at_once(world, x) {
             Some(n) => says_number(stack, n, xs),
             None => evals(stack, x, Want::SaysNumber(xs)),
         },
-        Item::Char(x) => match immediate_value(world, x) {
+        Item::Char(x) => match value_at_once(world, x) {
             Some(n) => says_char(stack, n, xs),
             None => evals(stack, x, Want::SaysChar(xs)),
         },

@@ -1,29 +1,36 @@
 //! The stack: what has begun and isn't finished.
-ghost use Rattle.std.specs.Prelude.{◌≡◌, ◌≤◌, ◌∷◌, [], true, vec_capacity, IfSome};
+ghost use Rattle.std.specs.Prelude.{◌≡◌, ◌≤◌, ◌∷◌, [], true, length, vec_capacity, IfSome};
 ghost use Rattle.inform_tree.specs.Statements as s;
 ghost use Rattle.inform_tree.specs.Statements.{statement_of, statements_of};
 ghost use Rattle.inform_meaning.specs.Frames as f;
 ghost use Rattle.inform_moves.specs.Heights.{calls_open};
-ghost use Rattle.inform_frames.specs.Frames.{frame_of, frames_of, loop_of, rest_of};
-ghost use Rattle.inform_frames.specs.declared.stacks.TheConstants.{ROOM};
+ghost use Rattle.inform_worlds.specs.Scopes.{scope_of};
+ghost use Rattle.inform_frames.specs.Frames.{IsPlain, IsCaller, frame_of, frame_in, callers_in, caller_of, loop_of, top_of, rest_of};
+ghost use Rattle.inform_frames.specs.declared.stacks.TheConstants.{ROOM, CALLS};
 
 use crate::frames::{Begin, Frame, Loop};
 use adv_io::Memory;
 use inform_tree::Stmt;
+use inform_worlds::Scope;
 use std::alloc::Global;
+
+/// How many calls may be open.
+pub const CALLS: usize = 200;
 
 /// How many frames there is room for: 130 of `Main` and of each of 200 calls, and two more, since a
 /// move may put three in the place of one.
 pub const ROOM: usize = 26_132;
 
-/// The frames, the innermost one last, and how many calls are open among them. It has all its
-/// memory.
+/// The frames, and the scopes of the callers that wait in them: both from the outermost one on. It
+/// has all its memory.
 #[derive(Drop)]
 pub struct Stack<'a> {
     frames: Vec<Frame<'a>>,
-    calls: usize,
-    pub ghost counted: { calls ≡ calls_open (frames_of frames.items) },
-    pub ghost room: { ROOM ≤ vec_capacity frames },
+    callers: Vec<Scope<'a>>,
+    pub ghost paired: { callers_in frames.items ≡ length callers.items },
+    pub ghost few: { length callers.items ≤ CALLS },
+    pub ghost frame_room: { ROOM ≤ vec_capacity frames },
+    pub ghost caller_room: { CALLS ≤ vec_capacity callers },
 }
 
 // The first of these statements, and the others, if there is one.
@@ -37,24 +44,8 @@ fn first_of<'a>(xs: &'a [Stmt]) -> Option<(&'a Stmt, &'a [Stmt])>
     }
 }
 
-// How many calls a frame opens: one where a caller waits in it.
-fn calls_in(frame: &Frame) -> usize
-    ensures value { result ≡ calls_open (frame_of frame.now ∷ []) }
-    ensures few { result ≤ 1 }
-{
-    match frame {
-        Frame::Begins(_) => 0,
-        Frame::Wants(_) => 0,
-        Frame::Decides(_) => 0,
-        Frame::Looping(_) => 0,
-        Frame::Calling(_) => 1,
-        Frame::Main => 0,
-        Frame::Over(_) => 0,
-    }
-}
-
 impl<'a> Stack<'a> {
-    ghost use Rattle.std.specs.Prelude.{◌<◌, length, IfOk, IfNone};
+    ghost use Rattle.std.specs.Prelude.{◌<◌, IfOk, IfNone};
     ghost use Rattle.inform_frames.specs.Stacks.{stack_of};
 
     /// No frame, and all the memory that is ever taken.
@@ -62,14 +53,16 @@ impl<'a> Stack<'a> {
         ensures { IfOk result (λ stack. stack_of stack ≡ []) }
     {
         let frames = Vec::with_capacity(alloc, ROOM)?;
-        Ok(Stack { frames, calls: 0 })
+        let callers = Vec::with_capacity(alloc, CALLS)?;
+        Ok(Stack { frames, callers })
     }
 
     /// How many calls are open.
     pub fn calls(&self) -> usize
-        ensures { result ≡ calls_open (stack_of self.now) }
+        ensures value { result ≡ calls_open (stack_of self.now) }
+        ensures few { result ≤ CALLS }
     {
-        self.calls
+        self.callers.len()
     }
 
     /// The innermost frame, if there is one.
@@ -77,7 +70,8 @@ impl<'a> Stack<'a> {
     pub fn top(&self) -> Option<&Frame<'a>>
         ensures none { IfNone result (stack_of self.now ≡ []) }
         ensures top { IfSome result (λ frame. stack_of self.now
-            ≡ frame_of frame.now ∷ rest_of (stack_of self.now)) }
+            ≡ frame_in (caller_of (top_of (stack_of self.now))) frame.now
+            ∷ rest_of (stack_of self.now)) }
     {
         let size = self.frames.len();
         if size == 0 {
@@ -86,8 +80,17 @@ impl<'a> Stack<'a> {
         Some(&self.frames[size - 1])
     }
 
-    /// The next statement of the block that is the innermost frame, and the others, if it is a block
-    /// that has one.
+    /// The scope of the caller that waits in the innermost frame.
+    #[inline(always)]
+    pub fn caller(&self) -> &Scope<'a>
+        requires { IsCaller (top_of (stack_of self.now)) }
+        ensures { top_of (stack_of self.now) ≡ f.Calling (scope_of result.now) }
+    {
+        &self.callers[self.callers.len() - 1]
+    }
+
+    /// The next statement of the block that is the innermost frame, and the others, if it is a
+    /// block that has one.
     #[inline(always)]
     pub fn statement(&self) -> Option<(&'a Stmt, &'a [Stmt])>
         ensures { IfSome result (λ x. stack_of self.now ≡ f.Begins (f.Blocks (s.MoreStatements
@@ -126,30 +129,43 @@ impl<'a> Stack<'a> {
         }
     }
 
-    /// One more frame, which is the innermost one.
+    /// One more frame, which is the innermost one. No caller waits in it.
     #[inline(always)]
     pub fn push(&mut self, frame: Frame<'a>)
-        requires { length (stack_of self.old) < ROOM }
+        requires room { length (stack_of self.old) < ROOM }
+        requires plain { IsPlain frame }
         ensures { stack_of self.new ≡ frame_of frame.entry ∷ stack_of self.old }
     {
-        self.calls += calls_in(&frame);
         self.frames.push_reserved(frame);
+    }
+
+    /// One more frame, which is the innermost one: a caller waits in it, and this is its scope.
+    #[inline(always)]
+    pub fn push_caller(&mut self, scope: Scope<'a>)
+        requires room { length (stack_of self.old) < ROOM }
+        requires few { calls_open (stack_of self.old) < CALLS }
+        ensures { stack_of self.new ≡ f.Calling (scope_of scope.entry) ∷ stack_of self.old }
+    {
+        self.callers.push_reserved(scope);
+        self.frames.push_reserved(Frame::Calling);
     }
 
     /// The innermost frame is taken away, if there is one.
     #[inline(always)]
-    pub fn pop(&mut self) -> Option<Frame<'a>>
-        ensures none { IfNone result (stack_of self.old ≡ []) }
-        ensures top { IfSome result (λ frame. stack_of self.old
-            ≡ frame_of frame ∷ stack_of self.new) }
+    pub fn pop(&mut self)
         ensures rest { stack_of self.new ≡ rest_of (stack_of self.old) }
     {
-        match self.frames.pop() {
-            None => None,
-            Some(frame) => {
-                self.calls -= calls_in(&frame);
-                Some(frame)
-            }
+        match self.top() {
+            None => {}
+            Some(frame) => match frame {
+                Frame::Calling => {
+                    let _ = self.callers.pop();
+                    let _ = self.frames.pop();
+                }
+                _ => {
+                    let _ = self.frames.pop();
+                }
+            },
         }
     }
 }

@@ -15,7 +15,7 @@ ghost use Rattle.inform_frames.specs.Nexts.{Makes, Changes};
 use crate::changes::alter_next;
 use crate::choices::cases_next;
 use crate::frames::{Begin, Decide, Frame, Want};
-use crate::immediate::{immediate_arguments, immediate_truth, immediate_value};
+use crate::immediate::{immediate_arguments, immediate_truth, value_at_once};
 use crate::loops::{do_loop, for_next, while_loop};
 use crate::nexts::{Next, Said};
 use crate::signals::{Halt, Signal};
@@ -34,12 +34,12 @@ fn call_parts<'a>(stack: &mut Stack<'a>, name: &'a Name, xs: &'a [Expr]) -> Next
     match xs {
         [] => goes_with(
             stack,
-            Frame::Begins(Begin::CallDue(name, Arguments::none())),
+            Frame::CallDue(name, Arguments::none()),
             Frame::Wants(Want::Forgets),
         ),
         [x, rest @ ..] => {
             stack.push(Frame::Wants(Want::Forgets));
-            stack.push(Frame::Wants(Want::Args(name, Arguments::none(), rest)));
+            stack.push(Frame::Args(name, Arguments::none(), rest));
             stack.push(Frame::Begins(Begin::Evals(x)));
             Next::hands(Signal::Normal)
         }
@@ -60,7 +60,7 @@ fn call_alone<'a>(
     match immediate_arguments(world, Arguments::none(), xs) {
         Some(all) => goes_with(
             stack,
-            Frame::Begins(Begin::CallDue(name, all)),
+            Frame::CallDue(name, all),
             Frame::Wants(Want::Forgets),
         ),
         None => call_parts(stack, name, xs),
@@ -127,7 +127,7 @@ fn switch_next<'a>(
         stack.old stack.new result }
 {
     let rest = default_if_any(rest);
-    match immediate_value(world, value) {
+    match value_at_once(world, value) {
         Some(a) => cases_next(world.names(), stack, a, cases, rest),
         None => evals(stack, value, Want::Picks(cases, rest)),
     }
@@ -142,7 +142,7 @@ fn return_next<'a>(world: &World<'a>, stack: &mut Stack<'a>, value: &'a Option<E
 {
     match value {
         None => Next::hands(Signal::Returns(1)),
-        Some(value) => match immediate_value(world, value) {
+        Some(value) => match value_at_once(world, value) {
             Some(a) => Next::hands(Signal::Returns(a)),
             None => evals(stack, value, Want::Gives),
         },
@@ -163,10 +163,7 @@ pub fn statement_next<'a>(world: &mut World<'a>, stack: &mut Stack<'a>, x: &'a S
         Stmt::Change(change) => alter_next(world, stack, change),
         Stmt::Call(name, xs) => call_alone(world, stack, name, xs),
         Stmt::If(test, body, other) => branch_next(world, stack, test, body, other),
-        Stmt::While(test, body) => goes_to(
-            stack,
-            Frame::Begins(Begin::TurnDue(while_loop(test, body))),
-        ),
+        Stmt::While(test, body) => goes_to(stack, Frame::TurnDue(while_loop(test, body))),
         Stmt::Do(body, test) => goes_with(
             stack,
             Frame::Begins(Begin::Blocks(body)),
@@ -187,6 +184,7 @@ pub fn statement_next<'a>(world: &mut World<'a>, stack: &mut Stack<'a>, x: &'a S
 }
 
 /// The statements that are still to be done.
+#[inline(always)]
 pub fn block_next<'a>(stack: &mut Stack<'a>, xs: &'a [Stmt]) -> Next<'a>
     requires { HasRoom stack.old }
     ensures { (world : w.World) → Makes world (block_move (statements_of xs.now))

@@ -6,12 +6,12 @@ ghost use Rattle.inform_meaning.specs.Frames as f;
 ghost use Rattle.inform_moves.specs.Moves.{goes_to, goes_with, evals, argument_parts, arguments_move, sum_parts, sum_move, product_parts, product_move, factor_move, value_parts, eval_move};
 ghost use Rattle.inform_worlds.specs.Scopes.{values_of};
 ghost use Rattle.inform_worlds.specs.Views.{world_of, program_seen};
-ghost use Rattle.inform_frames.specs.Frames.{frame_of, signal_of, want_of};
+ghost use Rattle.inform_frames.specs.Frames.{IsPlain, frame_of, signal_of, want_of};
 ghost use Rattle.inform_frames.specs.Stacks.{HasRoom};
 ghost use Rattle.inform_frames.specs.Nexts.{Makes};
 
 use crate::frames::{Begin, Frame, Want};
-use crate::immediate::{immediate_arguments, immediate_product, immediate_sum, immediate_value};
+use crate::immediate::{immediate_arguments, immediate_product, immediate_sum, value_at_once};
 use crate::nexts::{Next, Said};
 use crate::signals::{Halt, Signal};
 use crate::stacks::Stack;
@@ -31,10 +31,11 @@ pub fn trapped<'a>(world: &World<'a>, kind: Trap) -> Next<'a>
     Next::hands(Signal::Halts(Halt::Trapped(kind, directive)))
 }
 
-/// One frame takes the place.
+/// One frame takes the place. No caller waits in it.
 #[inline(always)]
 pub fn goes_to<'a>(stack: &mut Stack<'a>, frame: Frame<'a>) -> Next<'a>
-    requires { HasRoom stack.old }
+    requires room { HasRoom stack.old }
+    requires plain { IsPlain frame }
     ensures { (world : w.World) → Makes world (goes_to (frame_of frame.entry)) stack.old stack.new
         result }
 {
@@ -42,10 +43,12 @@ pub fn goes_to<'a>(stack: &mut Stack<'a>, frame: Frame<'a>) -> Next<'a>
     Next::hands(Signal::Normal)
 }
 
-/// Two frames take the place, the innermost first.
+/// Two frames take the place, the innermost first. No caller waits in them.
 #[inline(always)]
 pub fn goes_with<'a>(stack: &mut Stack<'a>, first: Frame<'a>, second: Frame<'a>) -> Next<'a>
-    requires { HasRoom stack.old }
+    requires room { HasRoom stack.old }
+    requires first { IsPlain first }
+    requires second { IsPlain second }
     ensures { (world : w.World) → Makes world (goes_with (frame_of first.entry)
         (frame_of second.entry)) stack.old stack.new result }
 {
@@ -76,8 +79,12 @@ fn argument_parts<'a>(
         (arguments_of xs.now)) stack.old stack.new result }
 {
     match xs {
-        [] => goes_to(stack, Frame::Begins(Begin::CallDue(name, values))),
-        [x, rest @ ..] => evals(stack, x, Want::Args(name, values, rest)),
+        [] => goes_to(stack, Frame::CallDue(name, values)),
+        [x, rest @ ..] => goes_with(
+            stack,
+            Frame::Begins(Begin::Evals(x)),
+            Frame::Args(name, values, rest),
+        ),
     }
 }
 
@@ -95,7 +102,7 @@ pub fn arguments_next<'a>(
         stack.old stack.new result }
 {
     match immediate_arguments(world, values, xs) {
-        Some(all) => goes_to(stack, Frame::Begins(Begin::CallDue(name, all))),
+        Some(all) => goes_to(stack, Frame::CallDue(name, all)),
         None => argument_parts(stack, name, values, xs),
     }
 }
@@ -176,6 +183,7 @@ pub fn factor_next<'a>(
 }
 
 // A value that hasn't begun, part by part.
+#[inline(always)]
 fn value_parts<'a>(world: &World<'a>, stack: &mut Stack<'a>, x: &'a Expr) -> Next<'a>
     requires { HasRoom stack.old }
     ensures { Makes (world_of world.now) (value_parts (program_seen world.now) (world_of world.now)
@@ -195,12 +203,13 @@ fn value_parts<'a>(world: &World<'a>, stack: &mut Stack<'a>, x: &'a Expr) -> Nex
 }
 
 /// A value that hasn't begun.
+#[inline(always)]
 pub fn eval_next<'a>(world: &World<'a>, stack: &mut Stack<'a>, x: &'a Expr) -> Next<'a>
     requires { HasRoom stack.old }
     ensures { Makes (world_of world.now) (eval_move (program_seen world.now) (world_of world.now)
         (expression_of x.now)) stack.old stack.new result }
 {
-    match immediate_value(world, x) {
+    match value_at_once(world, x) {
         Some(a) => Next::hands(Signal::Value(a)),
         None => value_parts(world, stack, x),
     }

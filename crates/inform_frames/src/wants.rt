@@ -32,6 +32,7 @@ fn range_next<'a>(world: &World<'a>, stack: &mut Stack<'a>, a: i32) -> Next<'a>
 }
 
 /// The move of what waited for a value.
+#[inline(always)]
 pub fn want_next<'a>(
     world: &mut World<'a>,
     stack: &mut Stack<'a>,
@@ -47,7 +48,6 @@ pub fn want_next<'a>(
     let width = world.names().accepted().width();
     match want {
         Want::IndexOf(name) => entry_next(world, name, a),
-        Want::Args(name, values, xs) => arguments_next(world, stack, name, values.with(a), xs),
         Want::RangeOf => range_next(world, stack, a),
         Want::Negates => Next::hands(Signal::Value(neg(width, a))),
         Want::SumFrom(xs) => sum_next(world, stack, a, xs),

@@ -21,19 +21,14 @@ use Rattle.inform_frames.specs.declared.signals.Signal.TheVariants as g
 use Rattle.inform_frames.specs.declared.nexts.Said.{Said}
 use Rattle.inform_frames.specs.declared.nexts.Said.TheVariants as s
 use Rattle.inform_frames.specs.Frames.{signal_of}
-use Rattle.inform_frames.specs.Frames.{rest_of}
+use Rattle.inform_frames.specs.Frames.{top_of, rest_of}
 use Rattle.inform_frames.specs.Nexts.{Done, done, done_by, done_in, Made, made, made_of}
-use Rattle.inform_frames.proofs.Innermost.{calls-first}
+use Rattle.inform_frames.proofs.Innermost.{calls-first, calls-append}
 use Rattle.inform_run.specs.Points.{Point, first_need, next_need, makes_move, IsNext, said_of, MovesOn, StepsOn, Leads, Breaks}
 use Rattle.inform_run.specs.Machines.{LeadsOn, BreaksOn}
 use Rattle.inform_run.proofs.Moving.{needed, asked, leads-still, leads-goes, leads-ticks, leads-draws, leads-reads, breaks-goes, breaks-silently, leads-then, breaks-then}
 
 -- ---- room
-
-pub calls-append : (xs ys : List f.Frame) → calls_open (xs ++ ys) ≡ calls_open xs + calls_open ys
-calls-append [] ys = omega arith
-calls-append (x ∷ xs) ys =
-    omega (arith, calls-first x (xs ++ ys), calls-first x xs, calls-append xs ys)
 
 pub works-append : (xs ys : List f.Frame) → works (xs ++ ys) ≡ works xs + works ys
 works-append [] ys = omega arith
@@ -94,6 +89,11 @@ moves-by p at after x top rest room here left is =
       handed = ap outcome_made all;
       done = ap done_made all;
     }
+
+-- where a move is made there is a frame
+pub some-frame : (fs : List f.Frame) (e : f.Outcome) → makes_move (first_need fs e) ≡ true → fs ≡ top_of fs ∷ rest_of fs
+some-frame [] e able = absurd cc
+some-frame (x ∷ fs) e able = refl
 
 -- all but the innermost frame are fewer
 pub rest-shorter : (fs : List f.Frame) → length (rest_of fs) ≤ length fs - 1

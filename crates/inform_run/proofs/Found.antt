@@ -10,7 +10,6 @@ use Rattle.inform_meaning.specs.Frames.{Outcome}
 use Rattle.inform_meaning.specs.Runs.{Stop, resume, stop_of, begun_of}
 use Rattle.inform_meaning.specs.Laws.{RunsGo}
 use Rattle.inform_frames.specs.declared.signals.Signal.TheVariants as g
-use Rattle.inform_run.specs.Points.{Ends, Breaks}
 use Rattle.inform_run.specs.Turns.{EndsOn, BreaksAfter}
 
 -- where something is known, what holds of each such thing

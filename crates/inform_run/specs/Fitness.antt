@@ -1,9 +1,9 @@
 -- That a machine is fit can be shown in one way alone.
-use Rattle.std.specs.Prelude.{ℕ, ◌≡◌, Bool, List, [], ◌∷◌}
-use Rattle.std.specs.Coded.{×_prop, Unit-prop, le_prop, coded_ℕ, coded_bool, Coded-set}
+use Rattle.std.specs.Prelude.{List, [], ◌∷◌}
+use Rattle.std.specs.Coded.{×_prop, Unit-prop, le_prop, coded_bool, Coded-set}
 use Rattle.inform_meaning.specs.Worlds.{World}
 use Rattle.inform_meaning.specs.Frames as f
-use Rattle.inform_moves.specs.Heights.{Fits, calls_open}
+use Rattle.inform_moves.specs.Heights.{Fits}
 use Rattle.inform_moves.specs.Readiness.{IsDry, AreDry, HasRoom, IsReady}
 use Rattle.inform_worlds.specs.Views.{world_of}
 use Rattle.inform_run.specs.declared.machines.Machine.{Machine}

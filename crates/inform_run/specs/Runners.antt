@@ -1,5 +1,5 @@
 -- A runner, and what a run of it does.
-use Rattle.std.specs.Prelude.{ℕ, ◌≡◌, ◌+◌, List, [], length, Option, Some, Result, OnOk, OnErr, IfOk}
+use Rattle.std.specs.Prelude.{ℕ, ◌≡◌, ◌+◌, List, [], length, Some, Result, OnOk, OnErr, IfOk}
 use Rattle.adv_draws.specs.Supply.{Supply}
 use Rattle.adv_io.specs.History.{grown, GrewByPrefix, shown, draws_taken}
 use Rattle.adv_io.specs.Steps.{trace_of}

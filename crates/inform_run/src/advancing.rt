@@ -73,7 +73,7 @@ impl<'a> Machine<'a> {
         } }
         ensures dry { AreDry (stack_of self.new.stack) }
     {
-        let _ = self.stack.pop();
+        self.stack.pop();
         self.signal = signal;
     }
 

@@ -15,9 +15,7 @@ ghost use Rattle.inform_run.specs.Points.{said_of, next_need, makes_move, MovesO
 ghost use Rattle.inform_run.specs.Machines.{point_of, IsFit};
 
 use adv_io::{Console, ConsoleFault};
-use inform_frames::{
-    Begin, Frame, Need, Said, Signal, Stack, common_next, need_of, next, statement_next,
-};
+use inform_frames::{Begin, Frame, Need, Said, Signal, Stack, need_of, next, statement_next};
 use inform_moves::laws::{
     frames_are_few, moves_fit, moves_need, moves_open, moves_ready, room_is_left,
 };
@@ -25,9 +23,6 @@ use inform_names::laws::routines_are_shallow;
 use inform_tree::Stmt;
 use inform_worlds::World;
 use itoa::Buffer;
-
-/// How many calls may be open.
-pub const CALLS: usize = 200;
 
 /// The world, what has begun, and what is handed to the innermost frame.
 #[derive(Drop)]
@@ -78,35 +73,8 @@ impl<'a> Machine<'a> {
         }
     }
 
-    // The innermost frame makes its move, which needs nothing, or whose step was taken. What it
-    // says is answered.
-    fn make_any(&mut self) -> Said<'a>
-        requires fit { IsFit self.old }
-        requires able { makes_move (next_need (point_of self.old)) ≡ true }
-        ensures names { self.new.world.names ≡ self.old.world.names }
-        ensures fit { IsFit self.new }
-        ensures moves { MovesOn (program_seen self.old.world) (point_of self.old)
-            (point_of self.new) result }
-    {
-        routines_fit(&self.world);
-        frames_are_few();
-        room_is_left();
-        moves_need();
-        moves_fit();
-        moves_open();
-        moves_ready();
-        match self.stack.pop() {
-            None => unreachable!(),
-            Some(frame) => {
-                let room = CALLS - self.stack.calls();
-                let made = next(&mut self.world, &mut self.stack, room, &frame, self.signal);
-                self.signal = made.signal;
-                made.said
-            }
-        }
-    }
-
-    /// The same; a common frame is read where it stands.
+    /// The innermost frame makes its move, which needs nothing, or whose step was taken. What it
+    /// says is answered.
     pub fn make(&mut self) -> Said<'a>
         requires fit { IsFit self.old }
         requires able { makes_move (next_need (point_of self.old)) ≡ true }
@@ -122,13 +90,9 @@ impl<'a> Machine<'a> {
         moves_open();
         moves_ready();
         room_is_left();
-        match common_next(&mut self.world, &mut self.stack, self.signal) {
-            None => self.make_any(),
-            Some(made) => {
-                self.signal = made.signal;
-                made.said
-            }
-        }
+        let made = next(&mut self.world, &mut self.stack, self.signal);
+        self.signal = made.signal;
+        made.said
     }
 
     /// The next statement of the block that is the innermost frame, and the others, where that
@@ -164,7 +128,7 @@ impl<'a> Machine<'a> {
         moves_open();
         moves_ready();
         room_is_left();
-        let _ = self.stack.pop();
+        self.stack.pop();
         self.stack.push(Frame::Begins(Begin::Blocks(others)));
         let made = statement_next(&mut self.world, &mut self.stack, x);
         self.signal = made.signal;

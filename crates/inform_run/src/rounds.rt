@@ -36,8 +36,8 @@ impl<'a> Machine<'a> {
         }
         match goes_on_at_once(&self.world, &l) {
             None => {
-                let _ = self.stack.pop();
-                self.stack.push(Frame::Begins(Begin::TurnDue(l)));
+                self.stack.pop();
+                self.stack.push(Frame::TurnDue(l));
                 false
             }
             Some(true) => {
@@ -45,7 +45,7 @@ impl<'a> Machine<'a> {
                 true
             }
             Some(false) => {
-                let _ = self.stack.pop();
+                self.stack.pop();
                 true
             }
         }
@@ -66,7 +66,7 @@ impl<'a> Machine<'a> {
     {
         moves_mean();
         moves_need();
-        let _ = self.stack.pop();
+        self.stack.pop();
     }
 
     // The blocks that are done are taken away.

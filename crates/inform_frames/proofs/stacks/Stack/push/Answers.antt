@@ -1,26 +1,20 @@
-use Rattle.std.proofs.Common.{◌≡◌, ◌∙◌, ◌∷◌, [], ◌++◌, length, sym, ap, arith}
-use Rattle.inform_moves.specs.Heights.{calls_open}
-use Rattle.inform_frames.specs.Frames.{frame_of, frames_of}
-use Rattle.inform_frames.specs.declared.stacks.TheConstants.{ROOM}
-use Rattle.inform_frames.proofs.Innermost.{frames-push, frames-length, calls-first, calls-fewer}
+use Rattle.std.proofs.Common.{◌∙◌, ap, arith}
+use Rattle.inform_frames.specs.Frames.{frames_of, callers_in}
+use Rattle.inform_frames.proofs.Innermost.{frames-length, plain-push, callers-plain}
 use Rattle.inform_frames.proofs.stacks.Stack.push.Goals as goal
-
-pub overflow_add-self : goal.overflow_add-self
-overflow_add-self c =
-    let xs = c.args.self.now.frames.items in
-    omega (arith, c.args.self.now.counted, calls-fewer (frames_of xs), c.requires, c.calls_in.ensures.few)
 
 pub push_reserved-requires : goal.push_reserved-requires
 push_reserved-requires c =
-    let xs = c.args.self.now.frames.items in
-    omega (arith, c.requires, frames-length xs, c.args.self.now.frames.ok.0, c.args.self.now.room)
+    let s = c.args.self.now in
+    omega (arith, c.requires.room, frames-length s.frames.items s.callers.items, s.frames.ok.0, s.frame_room)
 
 pub returns : goal.returns
-returns c = ap frames_of c.push_reserved.ensures.items ∙ frames-push c.args.self.now.frames.items c.args.frame
+returns c =
+    let s = c.args.self.now in
+    ap (λ xs. frames_of xs s.callers.items) c.push_reserved.ensures.items
+    ∙ plain-push s.frames.items c.args.frame s.callers.items c.requires.plain
 
-pub invariant_of-self-clause-counted : goal.invariant_of-self-clause-counted
-invariant_of-self-clause-counted c =
-    let xs = c.args.self.now.frames.items in
-    let is : frames_of c.push_reserved.new.self.items ≡ frame_of c.args.frame ∷ frames_of xs =
-    ap frames_of c.push_reserved.ensures.items ∙ frames-push xs c.args.frame in
-    omega (arith, c.args.self.now.counted, ap calls_open is, calls-first (frame_of c.args.frame) (frames_of xs), c.calls_in.ensures.value)
+pub invariant_of-self-clause-paired : goal.invariant_of-self-clause-paired
+invariant_of-self-clause-paired c =
+    let s = c.args.self.now in
+    ap callers_in c.push_reserved.ensures.items ∙ callers-plain s.frames.items c.args.frame c.requires.plain ∙ s.paired

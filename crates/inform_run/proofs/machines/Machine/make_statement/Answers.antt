@@ -11,8 +11,8 @@ use Rattle.inform_run.specs.Machines.{point_of}
 use Rattle.inform_run.proofs.Advances.{FitAt, begun, begun-fit, rest-shorter, statement-steps, steps-fit}
 use Rattle.inform_run.proofs.machines.Machine.make_statement.Goals as goal
 
-pub push-requires : goal.push-requires
-push-requires c =
+pub push-requires-clause-room : goal.push-requires-clause-room
+push-requires-clause-room c =
     let fs = stack_of c.args.self.now.stack in
     omega (arith, ap length c.pop.ensures.rest, rest-shorter fs, c.frames_are_few.ensures fs c.requires.fit.0, c.requires.fit.1.0)
 

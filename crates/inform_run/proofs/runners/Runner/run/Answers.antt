@@ -1,5 +1,4 @@
-use Rattle.std.proofs.Common.{◌≡◌, ◌∙◌, ◌+◌, ◌-◌, refl, sym, ap, subst, arith, rules}
-use Rattle.inform_worlds.specs.Worlds.{program_of}
+use Rattle.std.proofs.Common.{arith}
 use Rattle.inform_worlds.specs.Views.{world_of, program_seen}
 use Rattle.inform_frames.specs.Stacks.{stack_of}
 use Rattle.inform_run.specs.Turns.{stop_seen}
