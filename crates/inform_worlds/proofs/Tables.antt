@@ -1,9 +1,8 @@
 -- Tables of names and values, by the places of names.
 use Rattle.std.proofs.Common.{◌≡◌, ◌∙◌, arith, ℕ, zero, suc, ◌+◌, ◌≤◌, ℤ, pos, Bool, true, false, cond, List, [], ◌∷◌, ◌++◌, length, Option, Some, None, refl, sym, ap}
-use Rattle.std.specs.Prelude.{map, option_map, option_and_then, slice_get, get_or, drop, if◌then◌else◌, replicate, is_some, nat_eq, ◌&&◌}
+use Rattle.std.specs.Prelude.{map, option_map, option_and_then, slice_get, if◌then◌else◌, replicate, is_some}
 use Rattle.std.specs.List.{position_from}
 use Rattle.std.proofs.lemmas.Option.{slice_get-get_or}
-use Rattle.std.proofs.lemmas.List.{drop_more, drop_all}
 use Rattle.std.specs.Prelude.{slice_index_or, slice_set, ◌<◌}
 use Rattle.inform_meaning.specs.Tables.{same_name, found, updated}
 use Rattle.inform_meaning.specs.Worlds.{bound}
@@ -129,41 +128,6 @@ module _ (name : List ℕ) (names : List (List ℕ)) (vs : List ℤ) where
 
   pub is_not_there : place_in name names ≡ None → false ≡ is_some (found name (table_of names vs))
   is_not_there is = ap is_some (got_none is)
-
--- ---- names byte by byte
-
--- names that differ in length are not the same
-pub other_length : (a b : List ℕ) → (length a ≡ length b → ⊥) → false ≡ same_name a b
-other_length [] [] differ = absurd (differ refl)
-other_length [] (y ∷ ys) differ = refl
-other_length (x ∷ xs) [] differ = refl
-other_length (x ∷ xs) (y ∷ ys) differ =
-    by (nat_eq x y) (other_length xs ys (λ same. differ (omega (arith, same)))) where
-      by : (b : Bool) → false ≡ same_name xs ys → false ≡ (b && same_name xs ys)
-      by true h = h
-      by false h = refl
-
-module _ (a b : List ℕ) (i : ℕ) (in-a : i < length a) (in-b : i < length b) where
-  abbrev rest : Bool
-  rest = same_name (drop (i + 1) a) (drop (i + 1) b)
-
-  one-on : same_name (drop i a) (drop i b) ≡ (nat_eq (get_or a i 0) (get_or b i 0) && rest)
-  one-on =
-      ap (λ xs. same_name xs (drop i b)) (drop_more a i 0 in-a)
-      ∙ ap (same_name (get_or a i 0 ∷ drop (i + 1) a)) (drop_more b i 0 in-b)
-
-  pub same_byte : nat_eq (get_or a i 0) (get_or b i 0) ≡ true
-      → same_name (drop i a) (drop i b) ≡ same_name (drop (i + 1) a) (drop (i + 1) b)
-  same_byte is = one-on ∙ ap (λ t. t && rest) is
-
-  pub other_byte : nat_eq (get_or a i 0) (get_or b i 0) ≡ false
-      → same_name (drop i a) (drop i b) ≡ false
-  other_byte is = one-on ∙ ap (λ t. t && rest) is
-
-pub no_byte_left : (a b : List ℕ) (i : ℕ) → length a ≤ i → length b ≤ i
-    → same_name (drop i a) (drop i b) ≡ true
-no_byte_left a b i end-a end-b =
-    ap (λ xs. same_name xs (drop i b)) (drop_all i a end-a) ∙ ap (same_name []) (drop_all i b end-b)
 
 -- ---- a list that is mapped
 

@@ -7,7 +7,6 @@ ghost use Rattle.inform_meaning.specs.Tables.{same_name};
 /// Names are short, and most differ in their length or their first byte: comparing them in line is
 /// less work than the call that `==` of slices makes.
 #[inline(always)]
-#[tactic(auto, using(crate::proofs::Tables::other_length, crate::proofs::Tables::same_byte, crate::proofs::Tables::other_byte, crate::proofs::Tables::no_byte_left))]
 pub fn same(name: &[u8], other: &[u8]) -> bool
     ensures { result ≡ same_name name.now other.now }
 {

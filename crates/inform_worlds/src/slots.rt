@@ -1,4 +1,4 @@
-//! A table of slots before the names of a program.
+//! A table of slots before the names of a program. It answers most look-ups without a hash.
 ghost use Rattle.std.specs.Prelude.{◌≡◌, ◌<◌, length, IfOk, IfSome, Some};
 ghost use Rattle.std.specs.List.{All};
 ghost use Rattle.std.specs.Option.{ForSome};
