@@ -186,12 +186,11 @@ caller-last xs scopes m d paired caller size =
     ∙ ap (λ ss. f.Calling (scope_in ss)) (ap (scopes_past ys) split ∙ past-more ys (take m scopes) (get_or scopes m d ∷ []) few)
 
 -- the move of the innermost frame is that of the frame that stands there
-pub innermost_makes : (p : Program) (room : ℕ) (before after : World) (e : f.Outcome) (fs rest news : List f.Frame) (x : f.Frame) (made : Next)
-    → fs ≡ x ∷ rest_of fs → rest ≡ rest_of fs → MakesOf before after (next p room before x e) rest news made
+pub innermost_makes : (p : Program) (room : ℕ) (before after : World) (e : f.Outcome) (fs news : List f.Frame) (x : f.Frame) (made : Next)
+    → fs ≡ x ∷ rest_of fs → MakesOf before after (next p room before x e) (rest_of fs) news made
     → MakesOf before after (next p room before (top_of fs) e) (rest_of fs) news made
-innermost_makes p room before after e fs rest news x made is others makes =
-    subst (λ y. MakesOf before after (next p room before y e) (rest_of fs) news made) (sym (ap top_of is))
-    (subst (λ rest. MakesOf before after (next p room before x e) rest news made) others makes)
+innermost_makes p room before after e fs news x made is makes =
+    subst (λ y. MakesOf before after (next p room before y e) (rest_of fs) news made) (sym (ap top_of is)) makes
 
 pub innermost_is : (fs : List f.Frame) (x : f.Frame) → fs ≡ x ∷ rest_of fs → fs ≡ top_of fs ∷ rest_of fs
 innermost_is fs x is = is ∙ ap (λ y. y ∷ rest_of fs) (sym (ap top_of is))

@@ -1,5 +1,5 @@
 -- The moves of the program, as the meaning has them.
-use Rattle.std.specs.Prelude.{ℕ, ◌≡◌, ◌+◌, ◌≤◌, List, [], ◌∷◌, ◌++◌, length, Option, Some, None}
+use Rattle.std.specs.Prelude.{ℕ, ◌≡◌, List, [], ◌∷◌, ◌++◌, Option, Some, None}
 use Rattle.std.specs.Fmt.{signed_decimal}
 use Rattle.inform_tree.specs.Statements.{Assignment}
 use Rattle.inform_meaning.specs.Worlds as w
@@ -12,7 +12,7 @@ use Rattle.inform_frames.specs.declared.nexts.Said.{Said}
 use Rattle.inform_frames.specs.declared.nexts.Said.TheVariants as s
 use Rattle.inform_frames.specs.declared.nexts.Next.{Next}
 use Rattle.inform_frames.specs.declared.stacks.Stack.{Stack}
-use Rattle.inform_frames.specs.Frames.{signal_of}
+use Rattle.inform_frames.specs.Frames.{signal_of, rest_of}
 use Rattle.inform_frames.specs.Stacks.{stack_of}
 
 -- the world after a move, the bytes that were said, and the number that was noted, if any
@@ -52,6 +52,11 @@ MakesOf before after move rest frames next =
 abbrev pub Changes : w.World → w.World → m.Move → Stack → Stack → Next → Type 0
 Changes before after move old new next =
     MakesOf before after move (stack_of old) (stack_of new) next
+
+-- of a move whose frames take the place of the innermost one
+abbrev pub Replaces : w.World → w.World → m.Move → Stack → Stack → Next → Type 0
+Replaces before after move old new next =
+    MakesOf before after move (rest_of (stack_of old)) (stack_of new) next
 
 -- of a move that leaves the world as it is
 abbrev pub Makes : w.World → m.Move → Stack → Stack → Next → Type 0

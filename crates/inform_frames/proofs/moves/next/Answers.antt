@@ -1,4 +1,4 @@
-use Rattle.std.proofs.Common.{◌≡◌, ◌∙◌, ◌∷◌, ◌-◌, ap}
+use Rattle.std.proofs.Common.{◌∙◌, ◌∷◌, ◌-◌, ap}
 use Rattle.inform_meaning.specs.Frames as f
 use Rattle.inform_meaning.specs.Runs.{CALL_LIMIT}
 use Rattle.inform_moves.specs.Heights.{calls_open}
@@ -14,8 +14,8 @@ returns-in-Begins-clause-next c =
     let room = CALL_LIMIT - calls_open (rest_of fs) in
     let x : f.Frame = f.Begins (begin_of c.in-Begins.begin) in
     innermost_makes (program_seen c.args.world.now) room (world_of c.args.world.now) (world_of c.begun_next.new.world) (signal_of c.args.signal)
-    fs (stack_of c.pop.new.self) (stack_of c.begun_next.new.stack) x c.begun_next.result
-    (c.in-Some.ensures.top ∙ ap (λ y. frame_in (caller_of (top_of fs)) y ∷ rest_of fs) c.in-Begins.is) c.pop.ensures.rest (c.begun_next.ensures.next room)
+    fs (stack_of c.begun_next.new.stack) x c.begun_next.result
+    (c.in-Some.ensures.top ∙ ap (λ y. frame_in (caller_of (top_of fs)) y ∷ rest_of fs) c.in-Begins.is) (c.begun_next.ensures.next room)
 
 pub returns-in-TurnDue-clause-next : goal.returns-in-TurnDue-clause-next
 returns-in-TurnDue-clause-next c =
@@ -24,8 +24,8 @@ returns-in-TurnDue-clause-next c =
     let w = world_of c.args.world.now in
     let x : f.Frame = f.Begins (f.TurnDue (loop_of c.in-TurnDue.l)) in
     innermost_makes (program_seen c.args.world.now) room w w (signal_of c.args.signal)
-    fs (stack_of c.pop-in-TurnDue.new.self) (stack_of c.due_turn_next.new.stack) x c.due_turn_next.result
-    (c.in-Some.ensures.top ∙ ap (λ y. frame_in (caller_of (top_of fs)) y ∷ rest_of fs) c.in-TurnDue.is) c.pop-in-TurnDue.ensures.rest (c.due_turn_next.ensures room)
+    fs (stack_of c.due_turn_next.new.stack) x c.due_turn_next.result
+    (c.in-Some.ensures.top ∙ ap (λ y. frame_in (caller_of (top_of fs)) y ∷ rest_of fs) c.in-TurnDue.is) (c.due_turn_next.ensures room)
 
 pub returns-in-Calling-clause-next : goal.returns-in-Calling-clause-next
 returns-in-Calling-clause-next c =

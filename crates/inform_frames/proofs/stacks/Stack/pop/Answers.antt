@@ -2,7 +2,7 @@ use Rattle.std.proofs.Common.{◌≡◌, ◌∙◌, ◌∷◌, [], ◌-◌, leng
 use Rattle.std.specs.Option.{option_to_list}
 use Rattle.std.specs.Vec.{vec_len}
 use Rattle.inform_moves.specs.Heights.{calls_open}
-use Rattle.inform_frames.specs.Frames.{frame_in, callers_in, caller_of, frames_of, top_of, rest_of}
+use Rattle.inform_frames.specs.Frames.{frame_in, callers_in, caller_of, frames_of, top_of}
 use Rattle.inform_frames.specs.Stacks.{stack_of}
 use Rattle.inform_frames.proofs.Innermost.{frames-more, frames-rest, callers-rest, callers-fewer, plain-open}
 use Rattle.inform_frames.proofs.stacks.Stack.pop.Goals as goal
