@@ -146,8 +146,9 @@ fn due_next<'a>(
     requires { HasPlace stack.old }
     ensures names { world.new.names ≡ world.old.names }
     ensures next { Replaces (world_of world.old) (world_of world.new)
-        (begun_move (program_seen world.old) (CALL_LIMIT - calls_open (rest_of (stack_of stack.old)))
-        (world_of world.old) (f.CallDue name.now (values_of values.now)) (signal_of signal))
+        (begun_move (program_seen world.old)
+        (CALL_LIMIT - calls_open (rest_of (stack_of stack.old))) (world_of world.old)
+        (f.CallDue name.now (values_of values.now)) (signal_of signal))
         stack.old stack.new result }
 {
     stack.pop();

@@ -189,8 +189,8 @@ impl<'a> Machine<'a> {
         self.turn(left, draws, line, console)
     }
 
-    /// A turn, or at once the next turn of a loop or the next statement of a block, if that is what is
-    /// next.
+    /// A turn, or at once the next turn of a loop or the next statement of a block, if that is what
+    /// is next.
     pub fn stride<C: Console>(
         &mut self,
         left: u64,
