@@ -6,7 +6,7 @@
 mod machines;
 mod stops;
 
-// A move; those up to the next step; a turn with that step; turns.
+// A move; the next turn of a loop at once; moves up to the next step; a turn with that step; turns.
 mod advancing;
 mod rounds;
 mod running;

@@ -4,23 +4,22 @@ ghost use Rattle.std.specs.Prelude.{◌≡◌, ◌<◌, ◌∷◌, true, false};
 ghost use Rattle.inform_tree.specs.Statements as s;
 ghost use Rattle.inform_meaning.specs.Frames as f;
 ghost use Rattle.inform_worlds.specs.Views.{program_seen};
-ghost use Rattle.inform_frames.specs.Frames.{loop_of, rest_of};
+ghost use Rattle.inform_frames.specs.Frames.{rest_of};
 ghost use Rattle.inform_frames.specs.declared.signals.Signal.TheVariants as g;
 ghost use Rattle.inform_frames.specs.Stacks.{stack_of};
 ghost use Rattle.inform_run.specs.Machines.{point_of, IsFit, LeadsSilently};
 
 use crate::machines::Machine;
-use inform_frames::{Begin, Frame, Loop, Signal, change_at_once, goes_on_at_once};
+use inform_frames::{Begin, Frame, Signal, change_at_once, goes_on_at_once};
 use inform_moves::laws::{frames_are_few, moves_mean, moves_need};
 
 impl<'a> Machine<'a> {
-    // The loop's change is made and its next turn begins, or the loop ends, if both can be at once.
-    // Whether the step of the turn was taken.
-    fn turn_loop(&mut self, l: Loop<'a>) -> bool
+    // Where the innermost frame is a loop whose body is done, its change is made and its next turn
+    // begins, or the loop ends, if both can be at once. Whether the step of the turn was taken.
+    #[inline(always)]
+    fn turn_loop(&mut self) -> bool
         requires sound { IsFit self.old }
         requires signal { self.old.signal ≡ g.Normal }
-        requires looping { stack_of self.old.stack
-            ≡ f.Looping (loop_of l) ∷ rest_of (stack_of self.old.stack) }
         ensures names { self.new.world.names ≡ self.old.world.names }
         ensures sound { IsFit self.new }
         ensures turned { result ≡ true → LeadsSilently (program_seen self.old.world)
@@ -31,23 +30,30 @@ impl<'a> Machine<'a> {
         frames_are_few();
         moves_mean();
         moves_need();
-        if !change_at_once(&mut self.world, l.change) {
-            return false;
-        }
-        match goes_on_at_once(&self.world, &l) {
-            None => {
-                self.stack.pop();
-                self.stack.push(Frame::TurnDue(l));
-                false
+        match self.stack.top() {
+            Some(Frame::Looping(l)) => {
+                if !change_at_once(&mut self.world, l.change) {
+                    return false;
+                }
+                match goes_on_at_once(&self.world, l) {
+                    None => {
+                        let l = *l;
+                        self.stack.pop();
+                        self.stack.push(Frame::TurnDue(l));
+                        false
+                    }
+                    Some(true) => {
+                        let body = l.body;
+                        self.stack.push(Frame::Begins(Begin::Blocks(body)));
+                        true
+                    }
+                    Some(false) => {
+                        self.stack.pop();
+                        true
+                    }
+                }
             }
-            Some(true) => {
-                self.stack.push(Frame::Begins(Begin::Blocks(l.body)));
-                true
-            }
-            Some(false) => {
-                self.stack.pop();
-                true
-            }
+            _ => false,
         }
     }
 
@@ -101,10 +107,7 @@ impl<'a> Machine<'a> {
             (point_of self.old) (point_of self.new) 0 }
     {
         self.close_blocks();
-        match self.stack.looping() {
-            None => false,
-            Some(l) => self.turn_loop(l),
-        }
+        self.turn_loop()
     }
 
     /// Where a step is left, the blocks that are done are taken away, and then the next turn of a

@@ -5,15 +5,15 @@ use Rattle.inform_run.specs.Machines.{point_of, LeadsSilently}
 use Rattle.inform_run.proofs.Quiet.{silently-then}
 use Rattle.inform_run.proofs.machines.Machine.close.Goals as goal
 
-pub returns-in-Some-clause-turned : goal.returns-in-Some-clause-turned
-returns-in-Some-clause-turned c = λ is.
+pub returns-clause-turned : goal.returns-clause-turned
+returns-clause-turned c = λ is.
     let mid = point_of c.close_blocks.new.self in
     let after = point_of c.turn_loop.new.self in
     silently-then (program_seen c.args.self.now.world) (point_of c.args.self.now) mid after 0 1 c.close_blocks.ensures.quiet
     (subst (λ q. LeadsSilently q mid after 1) (ap (λ names. program_of names.accepted.now) c.close_blocks.ensures.names) (c.turn_loop.ensures.turned is))
 
-pub returns-in-Some-clause-quiet : goal.returns-in-Some-clause-quiet
-returns-in-Some-clause-quiet c = λ is.
+pub returns-clause-quiet : goal.returns-clause-quiet
+returns-clause-quiet c = λ is.
     let mid = point_of c.close_blocks.new.self in
     let after = point_of c.turn_loop.new.self in
     silently-then (program_seen c.args.self.now.world) (point_of c.args.self.now) mid after 0 0 c.close_blocks.ensures.quiet
