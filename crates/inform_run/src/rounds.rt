@@ -114,7 +114,7 @@ impl<'a> Machine<'a> {
     /// loop begins, if that is what comes next and can be at once. Whether the step of the turn was
     /// taken.
     #[inline(always)]
-    pub fn hasten(&mut self, left: u64) -> bool
+    pub fn turn_at_once(&mut self, left: u64) -> bool
         requires { IsFit self.old }
         ensures names { self.new.world.names ≡ self.old.world.names }
         ensures sound { IsFit self.new }

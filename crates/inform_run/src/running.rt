@@ -45,7 +45,7 @@ impl<'a> Machine<'a> {
         let mut line = Line::of(&[]);
         let mut left = steps;
         'turns: loop {
-            let stopped = self.stride(left, draws, &mut line, console)?;
+            let stopped = self.next_step(left, draws, &mut line, console)?;
             match stopped {
                 Some(stop) => return Ok(Ran { stop, left }),
                 None => left -= 1,

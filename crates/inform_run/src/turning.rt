@@ -155,7 +155,7 @@ impl<'a> Machine<'a> {
 
     // A turn, or the next statement of a block at once, if that is what is next.
     #[inline(always)]
-    fn walk<C: Console>(
+    fn statement_or_turn<C: Console>(
         &mut self,
         left: u64,
         draws: &mut Draws,
@@ -191,7 +191,7 @@ impl<'a> Machine<'a> {
 
     /// A turn, or at once the next turn of a loop or the next statement of a block, if that is what
     /// is next.
-    pub fn stride<C: Console>(
+    pub fn next_step<C: Console>(
         &mut self,
         left: u64,
         draws: &mut Draws,
@@ -216,9 +216,9 @@ impl<'a> Machine<'a> {
             (BreaksAfter (program_seen self.old.world) (C.seen console.old)
             (C.seen console.new) (point_of self.old) left draws.old.left) }
     {
-        if self.hasten(left) {
+        if self.turn_at_once(left) {
             return Ok(None);
         }
-        self.walk(left, draws, line, console)
+        self.statement_or_turn(left, draws, line, console)
     }
 }

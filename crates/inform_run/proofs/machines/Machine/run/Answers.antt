@@ -31,15 +31,15 @@ turns-preserved g c =
     let p = program_seen c.args.self.now.world in
     let one : (c.args.steps - c.turns.left) + 1 ≡ c.args.steps - (c.turns.left - 1) = omega (arith, c.turns.invariant.fewer, rw c.in-None.is at c.in_ok-stopped.ensures.steps) in
     record {
-      names = c.stride.ensures.names ∙ c.turns.invariant.names;
-      sound = c.stride.ensures.sound;
-      bounded = omega (arith, c.turns.invariant.bounded, c.stride.ensures.bounded);
+      names = c.next_step.ensures.names ∙ c.turns.invariant.names;
+      sound = c.next_step.ensures.sound;
+      bounded = omega (arith, c.turns.invariant.bounded, c.next_step.ensures.bounded);
       steady = search rules;
-      supply = c.stride.ensures.supply ∙ c.turns.invariant.supply;
+      supply = c.next_step.ensures.supply ∙ c.turns.invariant.supply;
       fewer = omega (arith, c.turns.invariant.fewer);
-      leads = subst (LeadsOn p (seen c.args.console.now) (seen c.stride.new.console) (point_of c.args.self.now) (point_of c.stride.new.self) c.args.draws.now.left c.stride.new.draws.left) one
-          (on-then p (program_seen c.turns.self.world) (ap (λ names. program_of names.accepted.now) c.turns.invariant.names) (seen c.args.console.now) (seen c.turns.console) (seen c.stride.new.console)
-          (point_of c.args.self.now) (point_of c.turns.self) (point_of c.stride.new.self) c.args.draws.now.left c.turns.draws.left c.stride.new.draws.left (c.args.steps - c.turns.left) 1 c.turns.invariant.leads (rw c.in-None.is at c.in_ok-stopped.ensures.leads));
+      leads = subst (LeadsOn p (seen c.args.console.now) (seen c.next_step.new.console) (point_of c.args.self.now) (point_of c.next_step.new.self) c.args.draws.now.left c.next_step.new.draws.left) one
+          (on-then p (program_seen c.turns.self.world) (ap (λ names. program_of names.accepted.now) c.turns.invariant.names) (seen c.args.console.now) (seen c.turns.console) (seen c.next_step.new.console)
+          (point_of c.args.self.now) (point_of c.turns.self) (point_of c.next_step.new.self) c.args.draws.now.left c.turns.draws.left c.next_step.new.draws.left (c.args.steps - c.turns.left) 1 c.turns.invariant.leads (rw c.in-None.is at c.in_ok-stopped.ensures.leads));
     }
 
 pub returns-in-Some-clause-ends : goal.returns-in-Some-clause-ends
@@ -47,9 +47,9 @@ returns-in-Some-clause-ends g c =
     let seen = g.C.Console.seen in
     let p = program_seen c.args.self.now.world in
     let all : c.turns.left + (c.args.steps - c.turns.left) ≡ c.args.steps = omega (arith, c.turns.invariant.fewer) in
-    subst (λ n. EndsOn p (seen c.args.console.now) (seen c.stride.new.console) (point_of c.args.self.now) n c.args.draws.now.left c.stride.new.draws.left (stop_seen c.in-Some.stop) (stack_of c.stride.new.self.stack) (world_of c.stride.new.self.world) c.turns.left) all
-    (ends-on p (program_seen c.turns.self.world) (ap (λ names. program_of names.accepted.now) c.turns.invariant.names) (seen c.args.console.now) (seen c.turns.console) (seen c.stride.new.console)
-    (point_of c.args.self.now) (point_of c.turns.self) c.args.draws.now.left c.turns.draws.left c.stride.new.draws.left c.turns.left (c.args.steps - c.turns.left) (stop_seen c.in-Some.stop) (stack_of c.stride.new.self.stack) (world_of c.stride.new.self.world) c.turns.left c.turns.invariant.leads (rw c.in-Some.is at c.in_ok-stopped.ensures.ends))
+    subst (λ n. EndsOn p (seen c.args.console.now) (seen c.next_step.new.console) (point_of c.args.self.now) n c.args.draws.now.left c.next_step.new.draws.left (stop_seen c.in-Some.stop) (stack_of c.next_step.new.self.stack) (world_of c.next_step.new.self.world) c.turns.left) all
+    (ends-on p (program_seen c.turns.self.world) (ap (λ names. program_of names.accepted.now) c.turns.invariant.names) (seen c.args.console.now) (seen c.turns.console) (seen c.next_step.new.console)
+    (point_of c.args.self.now) (point_of c.turns.self) c.args.draws.now.left c.turns.draws.left c.next_step.new.draws.left c.turns.left (c.args.steps - c.turns.left) (stop_seen c.in-Some.stop) (stack_of c.next_step.new.self.stack) (world_of c.next_step.new.self.world) c.turns.left c.turns.invariant.leads (rw c.in-Some.is at c.in_ok-stopped.ensures.ends))
 
 pub returns-in_err-stopped-clause-breaks : goal.returns-in_err-stopped-clause-breaks
 returns-in_err-stopped-clause-breaks g c =
@@ -58,6 +58,6 @@ returns-in_err-stopped-clause-breaks g c =
     let all : c.turns.left + (c.args.steps - c.turns.left) ≡ c.args.steps = omega (arith, c.turns.invariant.fewer) in
     let e = err_from_is_err_and c.from_residual.result c.from_residual.ensures.1 in
     rw (e.1)
-    (subst (λ n. BreaksAfter p (seen c.args.console.now) (seen c.stride.new.console) (point_of c.args.self.now) n c.args.draws.now.left) all
-    (breaks-after p (program_seen c.turns.self.world) (ap (λ names. program_of names.accepted.now) c.turns.invariant.names) (seen c.args.console.now) (seen c.turns.console) (seen c.stride.new.console)
+    (subst (λ n. BreaksAfter p (seen c.args.console.now) (seen c.next_step.new.console) (point_of c.args.self.now) n c.args.draws.now.left) all
+    (breaks-after p (program_seen c.turns.self.world) (ap (λ names. program_of names.accepted.now) c.turns.invariant.names) (seen c.args.console.now) (seen c.turns.console) (seen c.next_step.new.console)
     (point_of c.args.self.now) (point_of c.turns.self) c.args.draws.now.left c.turns.draws.left c.turns.left (c.args.steps - c.turns.left) c.turns.invariant.leads c.in_err-stopped.ensures.breaks))

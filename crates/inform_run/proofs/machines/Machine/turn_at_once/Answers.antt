@@ -2,7 +2,7 @@ use Rattle.std.proofs.Common.{refl}
 use Rattle.inform_worlds.specs.Views.{program_seen}
 use Rattle.inform_run.specs.Machines.{point_of}
 use Rattle.inform_run.proofs.Advances.{stays}
-use Rattle.inform_run.proofs.machines.Machine.hasten.Goals as goal
+use Rattle.inform_run.proofs.machines.Machine.turn_at_once.Goals as goal
 
 pub returns-then-left-eq0-clause-quiet : goal.returns-then-left-eq0-clause-quiet
 returns-then-left-eq0-clause-quiet c = λ is seen draws.

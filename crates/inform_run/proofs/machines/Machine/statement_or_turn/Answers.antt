@@ -1,5 +1,5 @@
 use Rattle.inform_run.proofs.Stopping.{ok-none}
-use Rattle.inform_run.proofs.machines.Machine.walk.Goals as goal
+use Rattle.inform_run.proofs.machines.Machine.statement_or_turn.Goals as goal
 
 pub returns-in-Some-clause-leads : goal.returns-in-Some-clause-leads
 returns-in-Some-clause-leads g c =
