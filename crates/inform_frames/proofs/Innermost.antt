@@ -191,6 +191,3 @@ pub innermost_makes : (p : Program) (room : ℕ) (before after : World) (e : f.O
     → MakesOf before after (next p room before (top_of fs) e) (rest_of fs) news made
 innermost_makes p room before after e fs news x made is makes =
     subst (λ y. MakesOf before after (next p room before y e) (rest_of fs) news made) (sym (ap top_of is)) makes
-
-pub innermost_is : (fs : List f.Frame) (x : f.Frame) → fs ≡ x ∷ rest_of fs → fs ≡ top_of fs ∷ rest_of fs
-innermost_is fs x is = is ∙ ap (λ y. y ∷ rest_of fs) (sym (ap top_of is))

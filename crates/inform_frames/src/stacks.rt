@@ -5,10 +5,10 @@ ghost use Rattle.inform_tree.specs.Statements.{statement_of, statements_of};
 ghost use Rattle.inform_meaning.specs.Frames as f;
 ghost use Rattle.inform_moves.specs.Heights.{calls_open};
 ghost use Rattle.inform_worlds.specs.Scopes.{scope_of};
-ghost use Rattle.inform_frames.specs.Frames.{IsPlain, IsCaller, frame_of, frame_in, callers_in, caller_of, loop_of, top_of, rest_of};
+ghost use Rattle.inform_frames.specs.Frames.{IsPlain, IsCaller, frame_of, frame_in, callers_in, caller_of, top_of, rest_of};
 ghost use Rattle.inform_frames.specs.declared.stacks.TheConstants.{ROOM, CALLS};
 
-use crate::frames::{Begin, Frame, Loop};
+use crate::frames::{Begin, Frame};
 use adv_io::Memory;
 use inform_tree::Stmt;
 use inform_worlds::Scope;
@@ -114,18 +114,6 @@ impl<'a> Stack<'a> {
         match self.top() {
             Some(Frame::Begins(Begin::Blocks([]))) => true,
             _ => false,
-        }
-    }
-
-    /// The loop whose body runs in the innermost frame, if that is one.
-    #[inline(always)]
-    pub fn looping(&self) -> Option<Loop<'a>>
-        ensures { IfSome result (λ l. stack_of self.now
-            ≡ f.Looping (loop_of l) ∷ rest_of (stack_of self.now)) }
-    {
-        match self.top() {
-            Some(Frame::Looping(l)) => Some(*l),
-            _ => None,
         }
     }
 

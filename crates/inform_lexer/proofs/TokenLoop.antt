@@ -1,6 +1,6 @@
 -- A text is read from piece to piece. The slice from a place on is `take (length whole - at) (drop
 -- at whole)`.
-use Rattle.std.proofs.Common.{◌≡◌, ℕ, ◌+◌, ◌-◌, ◌≤◌, ◌<◌, List, [], ◌∷◌, ◌++◌, length, take, drop, Option, Some, None, Result, Ok, Err, refl, sym, ap, ◌∙◌, arith, append-nil}
+use Rattle.std.proofs.Common.{◌≡◌, ℕ, ◌+◌, ◌-◌, ◌≤◌, ◌<◌, List, [], ◌∷◌, ◌++◌, length, take, drop, Option, Some, None, Result, Ok, Err, refl, sym, ap, ◌∙◌, arith}
 use Rattle.std.proofs.lemmas.List.{take_rest}
 use Rattle.inform_lexer.specs.declared.kinds.Kind.{Kind}
 use Rattle.inform_lexer.specs.declared.kinds.Token.{Token}
@@ -8,7 +8,7 @@ use Rattle.inform_lexer.specs.declared.faults.LexFault.{LexFault}
 use Rattle.inform_lexer.specs.Pieces.{Piece, added, cut}
 use Rattle.inform_lexer.specs.Tokens.{TokenStep, token_step, lexed, InOrder}
 use Rattle.inform_lexer.specs.Views.{given, Reads}
-use Rattle.inform_lexer.proofs.Cutting.{goes_on, stops, ends, added_twice}
+use Rattle.inform_lexer.proofs.Cutting.{goes_on, added_twice}
 
 abbrev pub rest : List ℕ → ℕ → List ℕ
 rest whole at = take (length whole - at) (drop at whole)
@@ -35,16 +35,6 @@ reads_on whole before after at more (Ok p) inside is reads =
     ∙ ap (λ (n : ℕ). added (before ++ p.gives) (read (at + 1 + n) whole)) reads.1
     ∙ read_on whole before at p inside is
 reads_on whole before after at more (Err fault) inside is reads = absurd reads
-
-pub read_fault : (whole : List ℕ) (tokens : List Token) (at : ℕ) (fault : LexFault) → at < length whole → Err fault ≡ token_step tt at (rest whole at)
-    → added tokens (read at whole) ≡ lexed whole → lexed whole ≡ Err fault
-read_fault whole tokens at fault inside is same =
-    let there : token_step tt at (drop at whole) ≡ Err fault = ap (λ (bytes : List ℕ). token_step tt at bytes) (sym (take_rest whole at)) ∙ sym is in
-    sym same ∙ ap (λ (r : Result (List Token) LexFault). added tokens r) (stops token_step whole at tt fault inside there)
-
-pub read_all : (whole : List ℕ) (tokens : List Token) (at : ℕ) → length whole ≤ at → added tokens (read at whole) ≡ lexed whole → lexed whole ≡ Ok tokens
-read_all whole tokens at past same =
-    sym same ∙ ap (λ (r : Result (List Token) LexFault). added tokens r) (ends token_step whole at tt past) ∙ ap Ok (append-nil tokens)
 
 -- ---- spans
 

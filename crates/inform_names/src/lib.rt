@@ -36,3 +36,4 @@ pub use accepting::accept;
 pub use faults::NameFault;
 pub use meanings::{Kind, Meaning, Value};
 pub use names::{Entries, Names};
+pub use tables::name_of;

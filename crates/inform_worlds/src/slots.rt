@@ -2,14 +2,12 @@
 ghost use Rattle.std.specs.Prelude.{◌≡◌, ◌<◌, length, IfOk, IfSome, Some};
 ghost use Rattle.std.specs.List.{All};
 ghost use Rattle.std.specs.Option.{ForSome};
-ghost use Rattle.inform_tree.specs.Programs.{directive_of};
-ghost use Rattle.inform_names.specs.Meanings.{name_of};
 ghost use Rattle.inform_names.specs.Views.{names_of};
 
 use crate::names::same;
 use adv_io::Memory;
-use inform_names::{Accepted, Meaning, Names};
-use inform_tree::{Directive, Name};
+use inform_names::{Accepted, Meaning, Names, name_of};
+use inform_tree::Directive;
 use std::alloc::Global;
 
 /// How many slots there are.
@@ -46,18 +44,6 @@ fn number(name: &[u8]) -> usize
             let last = name[name.len() - 1];
             (5 * usize::from(*first) + 3 * usize::from(last) + name.len()) % SLOTS
         }
-    }
-}
-
-// The name of a directive.
-fn name_of(directive: &Directive) -> &Name
-    ensures { result.now ≡ name_of (directive_of directive.now) }
-{
-    match directive {
-        Directive::Constant(name, _) => name,
-        Directive::Global(name, _) => name,
-        Directive::Array(name, _, _) => name,
-        Directive::Routine(routine) => &routine.name,
     }
 }
 
