@@ -78,9 +78,14 @@ impl Keyed for WordPart {
 }
 
 /// An index of keys: by each the number of the first entry with it.
-#[derive(Drop)]
 pub struct Names {
     numbers: IndexMap<Vec<u8>, i32>,
+}
+
+impl Drop for Names {
+    fn drop(self) {
+        let Names { numbers: _ } = self;
+    }
 }
 
 impl Names {

@@ -9,13 +9,24 @@ use source_reader::{At, Source, WordPart};
 use std::alloc::Global;
 
 /// What each name of a source stands for.
-#[derive(Drop)]
 pub struct Tables {
     pub rooms: Names,
     pub messages: Names,
     pub items: Names,
     pub verbs: Names,
     pub nouns: Names,
+}
+
+impl Drop for Tables {
+    fn drop(self) {
+        let Tables {
+            rooms: _,
+            messages: _,
+            items: _,
+            verbs: _,
+            nouns: _,
+        } = self;
+    }
 }
 
 // The entries of a vocabulary from 1 on.

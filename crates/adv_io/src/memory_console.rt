@@ -17,7 +17,6 @@ use std::marker::Model;
 ///
 /// A clause sees its history, the lines that are left, the bytes that there is still room for, and
 /// its calls. `say` and `take` are numbered together, from 1. After `new` it takes no memory.
-#[derive(Drop)]
 pub struct MemoryConsole {
     lines: Vec<Line>,
     // For each taken line the number of bytes said before it.
@@ -25,6 +24,18 @@ pub struct MemoryConsole {
     said: Vec<u8>,
     room: usize,
     calls: Calls,
+}
+
+impl Drop for MemoryConsole {
+    fn drop(self) {
+        let MemoryConsole {
+            lines: _,
+            marks: _,
+            said: _,
+            room: _,
+            calls: _,
+        } = self;
+    }
 }
 
 impl Model for MemoryConsole {

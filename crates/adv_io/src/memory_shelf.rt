@@ -17,10 +17,15 @@ use std::marker::Model;
 ///
 /// A clause sees the map of its files and its calls. `load` and `store` are numbered together,
 /// from 1.
-#[derive(Drop)]
 pub struct MemoryShelf {
     files: Vec<(String, Vec<u8>)>,
     calls: Calls,
+}
+
+impl Drop for MemoryShelf {
+    fn drop(self) {
+        let MemoryShelf { files: _, calls: _ } = self;
+    }
 }
 
 impl Model for MemoryShelf {

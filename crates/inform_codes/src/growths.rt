@@ -20,7 +20,6 @@ pub struct Branches {
 }
 
 /// The trees that wait, the nearest first in each queue.
-#[derive(Drop)]
 pub struct Growth {
     pub alloc: Global,
     values: VecDeque<Expr>,
@@ -31,6 +30,20 @@ pub struct Growth {
     /// The choices of one case.
     choices: VecDeque<(Const, Option<Const>)>,
     switches: VecDeque<Branches>,
+}
+
+impl Drop for Growth {
+    fn drop(self) {
+        let Growth {
+            alloc: _,
+            values: _,
+            rows: _,
+            tests: _,
+            blocks: _,
+            choices: _,
+            switches: _,
+        } = self;
+    }
 }
 
 impl Growth {

@@ -16,9 +16,14 @@ use std::marker::Model;
 /// What each name means.
 ///
 /// A clause sees the list of the names with their meanings.
-#[derive(Drop)]
 pub struct Table<'a> {
     meanings: IndexMap<&'a [u8], Meaning>,
+}
+
+impl Drop for Table<'_> {
+    fn drop(self) {
+        let Table { meanings: _ } = self;
+    }
 }
 
 impl<'a> Model for Table<'a> {

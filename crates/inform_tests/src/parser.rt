@@ -132,7 +132,11 @@ fn is_array(alloc: Global, bytes: &[u8]) -> bool {
     };
     match program.directives.as_slice() {
         [Directive::Array(_, true, entries)] => {
-            matches!(entries.as_slice(), [Const::Number(3), Const::Minus(4)])
+            match entries.as_slice() {
+                [first, last] => matches!(first, Const::Number(3))
+                    && matches!(last, Const::Minus(4)),
+                _ => false,
+            }
         }
         _ => false,
     }

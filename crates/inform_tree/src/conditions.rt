@@ -2,7 +2,6 @@
 use crate::values::Expr;
 
 /// A condition, as a test of `if`, `while`, `until` or `for`.
-#[derive(Drop)]
 pub enum Cond {
     Compare(Relation, Expr, Expr),
     /// An expression by itself, which holds where it isn't 0.
@@ -12,6 +11,18 @@ pub enum Cond {
     /// Conditions with `||` between them.
     Any(Vec<Cond>),
     Not(Box<Cond>),
+}
+
+impl Drop for Cond {
+    fn drop(self) {
+        match self {
+            Cond::Compare(_, _, _) => {}
+            Cond::Nonzero(_) => {}
+            Cond::All(_) => {}
+            Cond::Any(_) => {}
+            Cond::Not(_) => {}
+        }
+    }
 }
 
 /// How two values are compared.

@@ -14,9 +14,14 @@ pub const SHORT: usize = 16;
 /// A clause sees the list of its bytes. Not every such list is a name that a program may have: that
 /// is for
 /// `Program::well_formed` to say.
-#[derive(Drop)]
 pub struct Name {
     kept: SmallVec<u8, SHORT>,
+}
+
+impl Drop for Name {
+    fn drop(self) {
+        let Name { kept: _ } = self;
+    }
 }
 
 impl Model for Name {

@@ -10,7 +10,6 @@ pub struct Program {
 }
 
 /// A directive.
-#[derive(Drop)]
 pub enum Directive {
     Constant(Name, Const),
     Global(Name, Option<Const>),
@@ -20,10 +19,30 @@ pub enum Directive {
     Routine(Routine),
 }
 
+impl Drop for Directive {
+    fn drop(self) {
+        match self {
+            Directive::Constant(_, _) => {}
+            Directive::Global(_, _) => {}
+            Directive::Array(_, _, _) => {}
+            Directive::Routine(_) => {}
+        }
+    }
+}
+
 /// A routine.
-#[derive(Drop)]
 pub struct Routine {
     pub name: Name,
     pub locals: Vec<Name>,
     pub body: Vec<Stmt>,
+}
+
+impl Drop for Routine {
+    fn drop(self) {
+        let Routine {
+            name: _,
+            locals: _,
+            body: _,
+        } = self;
+    }
 }

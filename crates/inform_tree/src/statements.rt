@@ -5,7 +5,6 @@ use crate::texts::Text;
 use crate::values::{Const, Expr};
 
 /// What changes a variable or an entry of an array.
-#[derive(Drop)]
 pub enum Change {
     Set(Name, Expr),
     /// The array, whether it is one of words (`-->`), the index, and the value that is stored
@@ -15,17 +14,36 @@ pub enum Change {
     Dec(Name),
 }
 
+impl Drop for Change {
+    fn drop(self) {
+        match self {
+            Change::Set(_, _) => {}
+            Change::SetEntry(_, _, _, _) => {}
+            Change::Inc(_) => {}
+            Change::Dec(_) => {}
+        }
+    }
+}
+
 /// What stands in the brackets of a `for`: what is done first, the test of each turn, and what is
 /// done after each turn.
-#[derive(Drop)]
 pub struct Head {
     pub first: Option<Change>,
     pub test: Option<Cond>,
     pub next: Option<Change>,
 }
 
+impl Drop for Head {
+    fn drop(self) {
+        let Head {
+            first: _,
+            test: _,
+            next: _,
+        } = self;
+    }
+}
+
 /// What `print` says.
-#[derive(Drop)]
 pub enum Item {
     Text(Text),
     /// A value in decimal.
@@ -34,17 +52,35 @@ pub enum Item {
     Char(Expr),
 }
 
+impl Drop for Item {
+    fn drop(self) {
+        match self {
+            Item::Text(_) => {}
+            Item::Value(_) => {}
+            Item::Char(_) => {}
+        }
+    }
+}
+
 /// A case of a `switch`: a value or a range of values for each choice, and what is done then.
 #[cycle(tree)]
-#[derive(Drop)]
 pub struct Case {
     pub choices: Vec<(Const, Option<Const>)>,
     pub body: Vec<Stmt>,
 }
 
+impl Drop for Case {
+    #[cycle(tree)]
+    fn drop(self) {
+        let Case {
+            choices: _,
+            body: _,
+        } = self;
+    }
+}
+
 /// A statement. A body without braces is a list of one, and an absent `else` an empty list.
 #[cycle(tree)]
-#[derive(Drop)]
 pub enum Stmt {
     Empty,
     Block(Vec<Stmt>),
@@ -68,4 +104,30 @@ pub enum Stmt {
     Print(Vec<Item>),
     /// The byte array for the line, and the byte array for its words.
     Read(Name, Name),
+}
+
+impl Drop for Stmt {
+    #[cycle(tree)]
+    fn drop(self) {
+        match self {
+            Stmt::Empty => {}
+            Stmt::Block(_) => {}
+            Stmt::Change(_) => {}
+            Stmt::Call(_, _) => {}
+            Stmt::If(_, _, _) => {}
+            Stmt::While(_, _) => {}
+            Stmt::Do(_, _) => {}
+            Stmt::For(_, _) => {}
+            Stmt::Switch(_, _, _) => {}
+            Stmt::Break => {}
+            Stmt::Continue => {}
+            Stmt::Quit => {}
+            Stmt::Rtrue => {}
+            Stmt::Rfalse => {}
+            Stmt::Return(_) => {}
+            Stmt::NewLine => {}
+            Stmt::Print(_) => {}
+            Stmt::Read(_, _) => {}
+        }
+    }
 }

@@ -3,7 +3,6 @@ use crate::names::Name;
 
 /// What stands where the value must be known before the program runs: the value of a constant or a
 /// global, the length or an entry of an array, a choice of a `switch`.
-#[derive(Drop)]
 pub enum Const {
     /// A number without a sign.
     Number(u32),
@@ -15,8 +14,18 @@ pub enum Const {
     Minus(u32),
 }
 
+impl Drop for Const {
+    fn drop(self) {
+        match self {
+            Const::Number(_) => {}
+            Const::Char(_) => {}
+            Const::Name(_) => {}
+            Const::Minus(_) => {}
+        }
+    }
+}
+
 /// An expression. Brackets leave no trace in it.
-#[derive(Drop)]
 pub enum Expr {
     Number(u32),
     Char(u8),
@@ -33,6 +42,22 @@ pub enum Expr {
     Sum(Box<Expr>, Vec<(SumOp, Expr)>),
     /// A chain of products, quotients and remainders.
     Product(Box<Expr>, Vec<(ProdOp, Expr)>),
+}
+
+impl Drop for Expr {
+    fn drop(self) {
+        match self {
+            Expr::Number(_) => {}
+            Expr::Char(_) => {}
+            Expr::Name(_) => {}
+            Expr::Entry(_, _, _) => {}
+            Expr::Call(_, _) => {}
+            Expr::Random(_) => {}
+            Expr::Neg(_) => {}
+            Expr::Sum(_, _) => {}
+            Expr::Product(_, _) => {}
+        }
+    }
 }
 
 /// The signs of a sum.

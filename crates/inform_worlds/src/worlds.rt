@@ -14,7 +14,6 @@ use std::alloc::Global;
 
 /// The world of a run: the value of each global and the entries of each array, by the number of its
 /// directive, and the locals of the routine that runs.
-#[derive(Drop)]
 pub struct World<'a> {
     names: Names<'a>,
     slots: Slots<'a>,
@@ -23,6 +22,18 @@ pub struct World<'a> {
     scope: Scope<'a>,
     pub ghost same: { (name : List ℕ) → names_of slots.accepted.now name
         ≡ names_of names.accepted.now name },
+}
+
+impl Drop for World<'_> {
+    fn drop(self) {
+        let World {
+            names: _,
+            slots: _,
+            globals: _,
+            arrays: _,
+            scope: _,
+        } = self;
+    }
 }
 
 impl<'a> World<'a> {

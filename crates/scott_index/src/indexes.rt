@@ -13,10 +13,18 @@ use std::marker::Model;
 
 /// An index of numbers by words: by the letters of each word, as many as count, in lower case, the
 /// number that it names.
-#[derive(Drop)]
 pub struct WordIndex {
     size: usize,
     numbers: IndexMap<ArrayVec<u8, 20>, u16>,
+}
+
+impl Drop for WordIndex {
+    fn drop(self) {
+        let WordIndex {
+            size: _,
+            numbers: _,
+        } = self;
+    }
 }
 
 impl Model for WordIndex {

@@ -21,7 +21,6 @@ use std::marker::Model;
 ///
 /// A clause sees the database and the style alone: the indexes say nothing that its lines and words
 /// don't say.
-#[derive(Drop)]
 pub struct Game<'a> {
     db: &'a Db,
     style: Style,
@@ -31,6 +30,19 @@ pub struct Game<'a> {
     nexts: Vec<Option<u16>>,
     verbs: WordIndex,
     nouns: WordIndex,
+}
+
+impl Drop for Game<'_> {
+    fn drop(self) {
+        let Game {
+            db: _,
+            style: _,
+            firsts: _,
+            nexts: _,
+            verbs: _,
+            nouns: _,
+        } = self;
+    }
 }
 
 impl<'a> Model for Game<'a> {

@@ -61,7 +61,6 @@ pub struct Trailer {
 }
 
 /// The parts of a database, before they are known to keep its limits.
-#[derive(Drop)]
 pub struct Parts {
     pub header: Header,
     pub actions: Vec<Action>,
@@ -71,4 +70,19 @@ pub struct Parts {
     pub items: Vec<Item>,
     pub comments: Vec<Text>,
     pub trailer: Trailer,
+}
+
+impl Drop for Parts {
+    fn drop(self) {
+        let Parts {
+            header: _,
+            actions: _,
+            words: _,
+            rooms: _,
+            messages: _,
+            items: _,
+            comments: _,
+            trailer: _,
+        } = self;
+    }
 }

@@ -18,29 +18,53 @@ pub struct Entries<T> {
 }
 
 /// An entry of a list: its number, or its name.
-#[derive(Drop)]
 pub enum Ref {
     Number(i32),
     Name(Bytes),
 }
 
+impl Drop for Ref {
+    fn drop(self) {
+        match self {
+            Ref::Number(_) => {}
+            Ref::Name(_) => {}
+        }
+    }
+}
+
 /// Where an item is when a game begins.
-#[derive(Drop)]
 pub enum Spot {
     Room(Ref),
     Carried,
     Nowhere,
 }
 
+impl Drop for Spot {
+    fn drop(self) {
+        match self {
+            Spot::Room(_) => {}
+            Spot::Carried => {}
+            Spot::Nowhere => {}
+        }
+    }
+}
+
 /// A verb or a noun of a line: its number, or the text that an entry of the vocabulary has.
-#[derive(Drop)]
 pub enum Vocab {
     Number(i32),
     Exact(Bytes),
 }
 
+impl Drop for Vocab {
+    fn drop(self) {
+        match self {
+            Vocab::Number(_) => {}
+            Vocab::Exact(_) => {}
+        }
+    }
+}
+
 /// When a line is tried.
-#[derive(Drop)]
 pub enum Head {
     /// For a command with this verb and this noun.
     Line(At<Vocab>, At<Vocab>),
@@ -48,6 +72,16 @@ pub enum Head {
     Auto(At<i32>),
     /// After the line before it.
     Also,
+}
+
+impl Drop for Head {
+    fn drop(self) {
+        match self {
+            Head::Line(_, _) => {}
+            Head::Auto(_) => {}
+            Head::Also => {}
+        }
+    }
 }
 
 /// A condition of a line.
@@ -59,7 +93,6 @@ pub struct Cond {
 }
 
 /// An opcode of a line.
-#[derive(Drop)]
 pub enum Op {
     /// Says a message.
     Say(At<Ref>),
@@ -71,6 +104,17 @@ pub enum Op {
     With(u8, Seq<At<Ref>>),
 }
 
+impl Drop for Op {
+    fn drop(self) {
+        match self {
+            Op::Say(_) => {}
+            Op::Number(_) => {}
+            Op::Named(_) => {}
+            Op::With(_, _) => {}
+        }
+    }
+}
+
 /// An entry of the vocabulary.
 #[derive(Drop)]
 pub struct WordPart {
@@ -79,11 +123,20 @@ pub struct WordPart {
 }
 
 /// A room, with its exits north, south, east, west, up and down.
-#[derive(Drop)]
 pub struct RoomPart {
     pub name: Option<At<Bytes>>,
     pub text: Bytes,
     pub exits: [At<Ref>; 6],
+}
+
+impl Drop for RoomPart {
+    fn drop(self) {
+        let RoomPart {
+            name: _,
+            text: _,
+            exits: _,
+        } = self;
+    }
 }
 
 /// A message.
@@ -94,15 +147,23 @@ pub struct MessagePart {
 }
 
 /// An item, with the place where it is when a game begins.
-#[derive(Drop)]
 pub struct ItemPart {
     pub name: Option<At<Bytes>>,
     pub text: Bytes,
     pub place: At<Spot>,
 }
 
+impl Drop for ItemPart {
+    fn drop(self) {
+        let ItemPart {
+            name: _,
+            text: _,
+            place: _,
+        } = self;
+    }
+}
+
 /// A line of actions. A comment that isn't there is empty.
-#[derive(Drop)]
 pub struct LinePart {
     pub head: Head,
     pub conds: Seq<At<Cond>>,
@@ -110,8 +171,18 @@ pub struct LinePart {
     pub comment: Bytes,
 }
 
+impl Drop for LinePart {
+    fn drop(self) {
+        let LinePart {
+            head: _,
+            conds: _,
+            ops: _,
+            comment: _,
+        } = self;
+    }
+}
+
 /// A source: the header, the lists and the trailer of a game.
-#[derive(Drop)]
 pub struct Source {
     pub unused: At<i32>,
     pub carry: At<i32>,
@@ -126,4 +197,24 @@ pub struct Source {
     pub items: Entries<ItemPart>,
     pub lines: Entries<LinePart>,
     pub trailer: [i32; 3],
+}
+
+impl Drop for Source {
+    fn drop(self) {
+        let Source {
+            unused: _,
+            carry: _,
+            start: _,
+            treasures: _,
+            length: _,
+            light: _,
+            home: _,
+            words: _,
+            rooms: _,
+            messages: _,
+            items: _,
+            lines: _,
+            trailer: _,
+        } = self;
+    }
 }

@@ -51,11 +51,20 @@ fn class_index(alloc: Global, db: &Db) -> Result<WordIndex, Memory>
 /// A database with an index of its classes, and one of its nouns.
 ///
 /// A clause sees the database alone: the indexes say nothing that its words don't say.
-#[derive(Drop)]
 pub struct IndexedNouns<'a> {
     db: &'a Db,
     classes: WordIndex,
     nouns: WordIndex,
+}
+
+impl Drop for IndexedNouns<'_> {
+    fn drop(self) {
+        let IndexedNouns {
+            db: _,
+            classes: _,
+            nouns: _,
+        } = self;
+    }
 }
 
 impl<'a> Model for IndexedNouns<'a> {
