@@ -42,7 +42,7 @@ pub struct Warning {
 }
 
 /// What is wrong at one place.
-#[derive(Clone, Copy, Debug, PartialEq, Eq)]
+#[derive(Clone, Copy)]
 pub struct Fault {
     pub what: What,
     pub value: i64,

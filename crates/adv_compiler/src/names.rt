@@ -11,7 +11,7 @@ use source_reader::{At, Bytes, ItemPart, MessagePart, RoomPart, WordPart};
 use std::alloc::Global;
 
 /// By what entries are found.
-#[derive(Clone, Copy, Debug, PartialEq, Eq)]
+#[derive(Clone, Copy)]
 pub enum Key {
     /// Their names.
     Name,

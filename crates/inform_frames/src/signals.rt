@@ -2,7 +2,7 @@
 use inform_meaning::Trap;
 
 /// How a run is over.
-#[derive(Clone, Copy, Debug, PartialEq, Eq)]
+#[derive(Clone, Copy)]
 pub enum Halt {
     Quits,
     /// In the routine that is the directive of this number.
@@ -10,7 +10,7 @@ pub enum Halt {
 }
 
 /// The outcome of a part that is finished.
-#[derive(Clone, Copy, Debug, PartialEq, Eq)]
+#[derive(Clone, Copy)]
 pub enum Signal {
     Value(i32),
     Truth(bool),

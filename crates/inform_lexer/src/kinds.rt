@@ -16,7 +16,7 @@ pub enum Kind {
 }
 
 /// A token: what it is, and where it stands.
-#[derive(Clone, Copy, Debug, PartialEq, Eq)]
+#[derive(Clone, Copy)]
 pub struct Token {
     /// What it is.
     pub kind: Kind,

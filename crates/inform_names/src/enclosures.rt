@@ -2,7 +2,7 @@
 ghost use Rattle.std.specs.Prelude.{◌≡◌};
 
 /// What stands round a statement, as far as `break` and `continue` ask.
-#[derive(Clone, Copy, Debug, PartialEq, Eq)]
+#[derive(Clone, Copy)]
 pub struct Enclosure {
     /// Whether the statement is in a loop of its routine.
     pub in_loop: bool,

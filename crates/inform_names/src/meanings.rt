@@ -14,7 +14,7 @@ pub enum Kind {
 }
 
 /// What a name means: the first directive with it.
-#[derive(Clone, Copy, Debug, PartialEq, Eq)]
+#[derive(Clone, Copy)]
 pub struct Meaning {
     /// The number of the directive in the program, counted from 0.
     pub at: usize,

@@ -34,7 +34,7 @@ impl Guard {
 }
 
 /// How conditions are joined.
-#[derive(Clone, Copy, Debug, PartialEq, Eq)]
+#[derive(Clone, Copy)]
 pub enum Join {
     /// By `&&`.
     All,

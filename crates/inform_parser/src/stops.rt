@@ -3,7 +3,7 @@ use adv_io::Memory;
 use std::alloc::{AllocError, AllocFailed};
 
 /// Why nothing more is read. The fault stands where the parser stands.
-#[derive(Clone, Copy, Debug, PartialEq, Eq)]
+#[derive(Clone, Copy)]
 pub enum Stop {
     /// What stands next can't stand there.
     Unexpected,

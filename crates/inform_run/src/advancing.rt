@@ -22,7 +22,7 @@ use inform_tree::Name;
 
 /// What is due: nothing, as a move was made; a move after a step; a line or a draw, and none is
 /// left; or nothing any more, as the run is over.
-#[derive(Clone, Copy, Debug, PartialEq, Eq)]
+#[derive(Clone, Copy)]
 pub enum Due {
     Moved,
     Step,

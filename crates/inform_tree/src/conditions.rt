@@ -26,7 +26,7 @@ impl Drop for Cond {
 }
 
 /// How two values are compared.
-#[derive(Clone, Copy, Debug, PartialEq, Eq)]
+#[derive(Clone, Copy)]
 pub enum Relation {
     Eq,
     Ne,

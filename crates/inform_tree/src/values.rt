@@ -61,14 +61,14 @@ impl Drop for Expr {
 }
 
 /// The signs of a sum.
-#[derive(Clone, Copy, Debug, PartialEq, Eq)]
+#[derive(Clone, Copy)]
 pub enum SumOp {
     Add,
     Sub,
 }
 
 /// The signs of a product.
-#[derive(Clone, Copy, Debug, PartialEq, Eq)]
+#[derive(Clone, Copy)]
 pub enum ProdOp {
     Mul,
     Div,

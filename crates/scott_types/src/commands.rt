@@ -1,14 +1,14 @@
 //! What a line means.
 
 /// Which words of the vocabulary are searched.
-#[derive(Clone, Copy, Debug, PartialEq, Eq)]
+#[derive(Clone, Copy)]
 pub enum Column {
     Verbs,
     Nouns,
 }
 
 /// Where the first two words of a line stand: each a start and a length, in bytes.
-#[derive(Clone, Copy, Debug, PartialEq, Eq)]
+#[derive(Clone, Copy)]
 pub struct Words {
     pub first: Option<(u8, u8)>,
     pub second: Option<(u8, u8)>,

@@ -5,7 +5,7 @@ ghost use Rattle.scott_types.specs.Condition.{condition_of, code_of, names_of};
 use crate::parameters::Parameter;
 
 /// What a condition tests. Each takes one argument; docs/TURN.md says when each holds.
-#[derive(Clone, Copy, Debug, PartialEq, Eq)]
+#[derive(Clone, Copy)]
 pub enum Condition {
     /// Always: the argument is a parameter of the opcodes.
     Parameter,

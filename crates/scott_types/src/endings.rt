@@ -12,7 +12,7 @@ pub enum Ran {
 }
 
 /// What became of the search for a command's group.
-#[derive(Clone, Copy, Debug, PartialEq, Eq)]
+#[derive(Clone, Copy)]
 pub enum Found {
     /// The game was ended.
     Over(u8),
@@ -25,7 +25,7 @@ pub enum Found {
 }
 
 /// How far the automatic step came.
-#[derive(Clone, Copy, Debug, PartialEq, Eq)]
+#[derive(Clone, Copy)]
 pub enum Halt {
     /// Through all groups.
     Through,
@@ -58,7 +58,7 @@ pub enum Ending {
 }
 
 /// What becomes of an item by the game's own get and drop.
-#[derive(Clone, Copy, Debug, PartialEq, Eq)]
+#[derive(Clone, Copy)]
 pub enum Transfer {
     PickUp,
     PutDown,

@@ -6,7 +6,7 @@ use crate::parameters::Parameter;
 
 /// What an opcode does. It takes its parameters from a list; docs/TURN.md says what each does with
 /// them.
-#[derive(Clone, Copy, Debug, PartialEq, Eq)]
+#[derive(Clone, Copy)]
 pub enum Opcode {
     Nothing,
     /// Says the message of this number.
@@ -33,7 +33,7 @@ pub enum Opcode {
 }
 
 /// What an opcode does to the places of items.
-#[derive(Clone, Copy, Debug, PartialEq, Eq)]
+#[derive(Clone, Copy)]
 pub enum ItemOp {
     Drop,
     /// Out of the game.
@@ -49,7 +49,7 @@ pub enum ItemOp {
 }
 
 /// What an opcode does to the room.
-#[derive(Clone, Copy, Debug, PartialEq, Eq)]
+#[derive(Clone, Copy)]
 pub enum RoomOp {
     Go,
     /// Exchanges it with the saved room.
@@ -59,7 +59,7 @@ pub enum RoomOp {
 }
 
 /// What an opcode does to a flag.
-#[derive(Clone, Copy, Debug, PartialEq, Eq)]
+#[derive(Clone, Copy)]
 pub enum FlagOp {
     Darken,
     Lighten,
@@ -70,7 +70,7 @@ pub enum FlagOp {
 }
 
 /// What an opcode does to the counter.
-#[derive(Clone, Copy, Debug, PartialEq, Eq)]
+#[derive(Clone, Copy)]
 pub enum CounterOp {
     Down,
     SetCounter,
@@ -81,7 +81,7 @@ pub enum CounterOp {
 }
 
 /// What an opcode says, where it changes nothing.
-#[derive(Clone, Copy, Debug, PartialEq, Eq)]
+#[derive(Clone, Copy)]
 pub enum TalkOp {
     Look,
     Inventory,

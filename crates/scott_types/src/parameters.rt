@@ -1,7 +1,7 @@
 //! What the parameters of opcodes and the arguments of conditions name.
 
 /// What a parameter of an opcode, or the argument of a condition, names.
-#[derive(Clone, Copy, Debug, PartialEq, Eq)]
+#[derive(Clone, Copy)]
 pub enum Parameter {
     Item,
     Room,

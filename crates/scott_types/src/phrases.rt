@@ -7,7 +7,7 @@ use crate::styles::Style;
 /// A fixed text that the machine says, or a part of one.
 ///
 /// docs/TURN.md says when each is said.
-#[derive(Clone, Copy, Debug, PartialEq, Eq)]
+#[derive(Clone, Copy)]
 pub enum Phrase {
     TooDark,
     InA,
