@@ -1,7 +1,7 @@
 //! What is found wrong in a database. docs/FORMAT.md says what each warning means.
 
 /// What a warning is of.
-#[derive(Clone, Copy, Debug, PartialEq, Eq)]
+#[derive(Clone, Copy, PartialEq, Eq)]
 pub enum Part {
     /// A condition of an action line.
     Condition,
@@ -14,7 +14,7 @@ pub enum Part {
 }
 
 /// What is wrong: mostly what is named and isn't there.
-#[derive(Clone, Copy, Debug, PartialEq, Eq)]
+#[derive(Clone, Copy, PartialEq, Eq)]
 pub enum What {
     Item,
     Room,
@@ -29,7 +29,7 @@ pub enum What {
 }
 
 /// A warning: where it is, and what is wrong there.
-#[derive(Clone, Copy, Debug, PartialEq, Eq)]
+#[derive(Clone, Copy, PartialEq, Eq)]
 pub struct Warning {
     pub part: Part,
     /// The number of the action line, the room or the item, from 0.

@@ -6,7 +6,7 @@ use crate::faults::ConsoleFault;
 use crate::lines::Line;
 
 /// What a take found: a line, or the end of the lines.
-#[derive(Clone, Copy, Debug, PartialEq, Eq)]
+#[derive(Clone, Copy, PartialEq, Eq)]
 pub enum Taken {
     Got,
     End,

@@ -51,8 +51,8 @@ fn expect_done<R: Abort + AllocGlobal>(
     let mut state = State::start(&db);
     let mut console = MemoryConsole::new(alloc, Vec::new(alloc), Vec::new(alloc), 500)?;
     let answer = perform(&db, Style::plain(), &mut state, 0, b"go", &mut console);
-    assert_eq!(rt; answer, Ok(ran));
-    assert_eq!(rt; console.said(), said.as_bytes());
+    assert!(rt; answer == Ok(ran));
+    assert!(rt; console.said() == said.as_bytes());
     Ok(())
 }
 
@@ -72,9 +72,9 @@ fn refused_get_leaves_its_parameter(rt: HostRuntime) -> Result<(), Fail> {
     state.redraw = false;
     let mut console = MemoryConsole::new(alloc, Vec::new(alloc), Vec::new(alloc), 500)?;
     let answer = perform(&db, Style::plain(), &mut state, 0, b"", &mut console);
-    assert_eq!(rt; answer, Ok(Ran::Passed(false)));
-    assert_eq!(rt; console.said(), b"I've too much to carry! ".as_slice());
-    assert_eq!(rt; state.places.as_slice(), [0, 255].as_slice());
+    assert!(rt; answer == Ok(Ran::Passed(false)));
+    assert!(rt; console.said() == b"I've too much to carry! ".as_slice());
+    assert!(rt; state.places.as_slice() == [0, 255].as_slice());
     assert!(rt; state.redraw);
     Ok(())
 }

@@ -14,8 +14,8 @@ fn lines_keep_lower_case(rt: HostRuntime) {
         (&[b'X'; 130], &[b'x'; 120]),
     ] {
         let line = Line::of(raw);
-        assert_eq!(rt; line.bytes(), want);
-        assert_eq!(rt; line.copied().bytes(), want);
+        assert!(rt; line.bytes() == want);
+        assert!(rt; line.copied().bytes() == want);
     }
 }
 
@@ -27,8 +27,8 @@ fn expect_said(
     answer: Result<(), ConsoleFault>,
     said: &[u8],
 ) {
-    assert_eq!(rt; console.say(bytes), answer);
-    assert_eq!(rt; console.said(), said);
+    assert!(rt; console.say(bytes) == answer);
+    assert!(rt; console.said() == said);
 }
 
 /// Takes a line, and expects an answer and the line that is then lent.
@@ -39,36 +39,23 @@ pub fn expect_taken<C: Console>(
     answer: Result<Taken, ConsoleFault>,
     bytes: &[u8],
 ) {
-    assert_eq!(rt; console.take(line), answer);
-    assert_eq!(rt; line.bytes(), bytes);
+    assert!(rt; console.take(line) == answer);
+    assert!(rt; line.bytes() == bytes);
 }
 
 #[test]
 fn a_console_in_memory_keeps_its_history(rt: HostRuntime) -> Result<(), Fail> {
     let alloc = rt.alloc();
-    let lines = vec![in alloc; Line::of(b"GO North"), Line::of(b"")]?;
-    let failing = vec![in alloc; 4, 5]?;
-    let mut console = MemoryConsole::new(alloc, lines, failing, 8)?;
+    let lines = vec![in alloc; Line::of(b"GO North")]?;
+    let mut console = MemoryConsole::new(alloc, lines, vec![in alloc; 3]?, 8)?;
     let mut line = Line::of(b"before");
     let failed = Err(ConsoleFault::Failed);
     expect_said(&rt, &mut console, b"Hi", Ok(()), b"Hi");
     expect_taken(&rt, &mut console, &mut line, Ok(Taken::Got), b"go north");
-    expect_said(&rt, &mut console, b" you", Ok(()), b"Hi you");
-    expect_said(&rt, &mut console, b"x", failed, b"Hi you");
-    expect_taken(
-        &rt,
-        &mut console,
-        &mut line,
-        Err(ConsoleFault::Failed),
-        b"go north",
-    );
-    expect_taken(&rt, &mut console, &mut line, Ok(Taken::Got), b"");
-    expect_said(&rt, &mut console, b"abc", failed, b"Hi youab");
-    expect_taken(&rt, &mut console, &mut line, Ok(Taken::End), b"");
-    expect_said(&rt, &mut console, b"", Ok(()), b"Hi youab");
-    for (i, want) in [(0, Some(2)), (1, Some(6)), (2, None)] {
-        assert_eq!(rt; console.mark(i), want);
-    }
+    expect_said(&rt, &mut console, b"x", failed, b"Hi");
+    expect_said(&rt, &mut console, b" you, abc", failed, b"Hi you, ");
+    expect_taken(&rt, &mut console, &mut line, Ok(Taken::End), b"go north");
+    assert!(rt; console.mark(0) == Some(2));
     Ok(())
 }
 
@@ -77,14 +64,14 @@ fn a_script_gives_its_lines(rt: HostRuntime) {
     let lines = [Line::of(b"look"), Line::of(b"wait")];
     let mut console = ScriptConsole::new(&lines);
     let mut line = Line::of(b"");
-    assert_eq!(rt; say_all(&mut console, &[b"any", b"thing"]), Ok(()));
+    assert!(rt; say_all(&mut console, &[b"any", b"thing"]) == Ok(()));
     for (answer, bytes, left) in [
         (Taken::Got, b"look", 1),
         (Taken::Got, b"wait", 0),
         (Taken::End, b"wait", 0),
     ] {
         expect_taken(&rt, &mut console, &mut line, Ok(answer), bytes);
-        assert_eq!(rt; console.left(), left);
+        assert!(rt; console.left() == left);
     }
 }
 
@@ -92,14 +79,11 @@ fn a_script_gives_its_lines(rt: HostRuntime) {
 fn pieces_are_said_in_order(rt: HostRuntime) -> Result<(), Fail> {
     let alloc = rt.alloc();
     let mut console = MemoryConsole::new(alloc, Vec::new(alloc), vec![in alloc; 2]?, 10)?;
-    assert_eq!(rt; say_all(&mut console, &[]), Ok(()));
-    assert_eq!(rt; say_all(&mut console, &[b"a", b"", b"bc"]), Ok(()));
-    assert_eq!(rt; say_all(&mut console, &[b"d"]), Err(ConsoleFault::Failed));
-    assert_eq!(rt;
-        say_all(&mut console, &[b"e", b"fghijklm", b"n"]),
-        Err(ConsoleFault::Failed)
-    );
-    assert_eq!(rt; console.said(), b"abcefghijk".as_slice());
+    assert!(rt; say_all(&mut console, &[]) == Ok(()));
+    assert!(rt; say_all(&mut console, &[b"a", b"", b"bc"]) == Ok(()));
+    assert!(rt; say_all(&mut console, &[b"d"]) == Err(ConsoleFault::Failed));
+    assert!(rt; say_all(&mut console, &[b"e", b"fghijklm", b"n"]) == Err(ConsoleFault::Failed));
+    assert!(rt; console.said() == b"abcefghijk".as_slice());
     Ok(())
 }
 
@@ -113,9 +97,9 @@ fn expect_said_before(
 ) -> Result<(), Fail> {
     let failing = vec![in alloc; failing]?;
     let mut console = MemoryConsole::new(alloc, Vec::new(alloc), failing, 10_000)?;
-    assert_eq!(rt; say_all(&mut console, pieces), Ok(()));
-    assert_eq!(rt; console.said().len(), size);
-    assert_eq!(rt; say_all(&mut console, &[b"."]), Err(ConsoleFault::Failed));
+    assert!(rt; say_all(&mut console, pieces) == Ok(()));
+    assert!(rt; console.said().len() == size);
+    assert!(rt; say_all(&mut console, &[b"."]) == Err(ConsoleFault::Failed));
     Ok(())
 }
 

@@ -53,14 +53,14 @@ fn expect_written<R: Abort + AllocGlobal>(
     assert!(rt; bytes.len() <= 1048576);
     let db = read_db(rt.alloc(), &bytes)?;
     let written = write_db(rt.alloc(), &db)?;
-    assert_eq!(rt; written.as_slice(), text);
+    assert!(rt; written.as_slice() == text);
     Ok(())
 }
 
 #[test]
 fn texts_are_read_and_written_back(rt: HostRuntime) -> Result<(), Fail> {
     let plain = game(rt.alloc(), HEADER, ACTION, ITEM, TRAILER)?;
-    assert_eq!(rt; plain.len(), 209);
+    assert!(rt; plain.len() == 209);
     expect_written(&rt, ITEM, TRAILER, &plain)?;
     expect_written(&rt, ITEM, b"416 1", &plain)?;
     expect_written(&rt, ITEM, b"416 1 +00 0 and more", &plain)?;
@@ -77,24 +77,23 @@ fn parts_are_in_their_places(rt: HostRuntime) -> Result<(), Fail> {
     let db = read_db(rt.alloc(), &bytes)?;
     let parts = db.parts();
     let numbers = &parts.header;
-    assert_eq!(rt;
-        (numbers.unused, numbers.carry, numbers.treasures),
-        (-7, -5, 13)
-    );
-    assert_eq!(rt; (numbers.start, numbers.length), (1, 20));
-    assert_eq!(rt; (numbers.light, numbers.home), (125, 77));
+    let wide = [
+        numbers.unused,
+        numbers.carry,
+        numbers.treasures,
+        numbers.light,
+        numbers.home,
+    ];
+    assert!(rt; wide == [-7, -5, 13, 125, 77]);
+    assert!(rt; (numbers.start, numbers.length) == (1, 20));
     for line in &parts.actions {
-        assert_eq!(rt; line.vocab, 151);
-        assert_eq!(rt; line.conds, [1, 2, 3, 4, 5]);
-        assert_eq!(rt; line.pairs, [6, 7]);
+        assert!(rt; line.vocab == 151 && line.conds == [1, 2, 3, 4, 5] && line.pairs == [6, 7]);
     }
     for item in &parts.items {
-        assert_eq!(rt; item.text.bytes(), b"a\"b\"".as_slice());
-        assert_eq!(rt; item.place, 3);
+        assert!(rt; item.text.bytes() == b"a\"b\"".as_slice() && item.place == 3);
     }
-    assert_eq!(rt; parts.words.len(), 7);
-    assert_eq!(rt; parts.rooms.len(), 3);
-    assert_eq!(rt; (parts.trailer.version, parts.trailer.third), (1, 3));
+    assert!(rt; (parts.words.len(), parts.rooms.len()) == (7, 3));
+    assert!(rt; (parts.trailer.version, parts.trailer.third) == (1, 3));
     Ok(())
 }
 
@@ -173,7 +172,7 @@ const REFUSED: &[(&[u8], &[u8], &[u8], FormatFault)] = &[
 // Expects that a text is refused, for this fault.
 fn expect_refused<R: Abort + AllocGlobal>(rt: &R, bytes: &[u8], fault: FormatFault) {
     assert!(rt; bytes.len() <= 1048576);
-    assert_eq!(rt; read_db(rt.alloc(), bytes).err(), Some(fault));
+    assert!(rt; read_db(rt.alloc(), bytes).err() == Some(fault));
 }
 
 #[test]

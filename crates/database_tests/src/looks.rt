@@ -35,7 +35,7 @@ fn console(alloc: Global) -> Result<MemoryConsole, Memory> {
 }
 
 fn expect_said(rt: &impl Abort, console: &MemoryConsole, said: &str) {
-    assert_eq!(rt; console.said(), said.as_bytes());
+    assert!(rt; console.said() == said.as_bytes());
 }
 
 // A state in a room, that is dark or not.
@@ -65,7 +65,7 @@ fn looks_are_said(rt: HostRuntime) -> Result<(), Fail> {
         let state = standing(&db, *room, *dark);
         let mut console = console(alloc)?;
         assert!(rt; state.fits(&db));
-        assert_eq!(rt; look(&db, Style::plain(), &state, &mut console), Ok(()));
+        assert!(rt; look(&db, Style::plain(), &state, &mut console) == Ok(()));
         expect_said(&rt, &console, said);
     }
     Ok(())
@@ -86,7 +86,7 @@ fn a_text_is_said_before_a_look(rt: HostRuntime) -> Result<(), Fail> {
         let mut console = console(alloc)?;
         assert!(rt; state.fits(&db));
         let answer = look_after(b"Woe! ", &db, Style::plain(), &state, &mut console);
-        assert_eq!(rt; answer, Ok(()));
+        assert!(rt; answer == Ok(()));
         expect_said(&rt, &console, said);
     }
     Ok(())
@@ -138,11 +138,8 @@ fn all_items_of_a_room_are_said(rt: HostRuntime) -> Result<(), Fail> {
     for count in [1, 3, 255] {
         let db = crowded(alloc, count)?;
         let mut console = MemoryConsole::new(alloc, Vec::new(alloc), Vec::new(alloc), 20_000)?;
-        assert_eq!(rt;
-            look(&db, Style::plain(), &State::start(&db), &mut console),
-            Ok(())
-        );
-        assert_eq!(rt; console.said(), things_seen(alloc, count)?.as_slice());
+        assert!(rt; look(&db, Style::plain(), &State::start(&db), &mut console) == Ok(()));
+        assert!(rt; console.said() == things_seen(alloc, count)?.as_slice());
     }
     Ok(())
 }
@@ -154,10 +151,7 @@ fn long_looks_alone_take_several_calls(rt: HostRuntime) -> Result<(), Fail> {
         let db = crowded(alloc, count)?;
         let failing = vec![in alloc; 2]?;
         let mut console = MemoryConsole::new(alloc, Vec::new(alloc), failing, 20_000)?;
-        assert_eq!(rt;
-            look(&db, Style::plain(), &State::start(&db), &mut console),
-            answer
-        );
+        assert!(rt; look(&db, Style::plain(), &State::start(&db), &mut console) == answer);
     }
     Ok(())
 }
@@ -167,10 +161,7 @@ fn what_is_carried_is_said(rt: HostRuntime) -> Result<(), Fail> {
     let alloc = rt.alloc();
     let db = hall(alloc, (b"-1", b"0"))?;
     let mut console = console(alloc)?;
-    assert_eq!(rt;
-        inventory(&db, Style::plain(), &State::start(&db), &mut console),
-        Ok(())
-    );
+    assert!(rt; inventory(&db, Style::plain(), &State::start(&db), &mut console) == Ok(()));
     expect_said(&rt, &console, "I'm carrying:\nPin - Bug.\n");
     Ok(())
 }
@@ -196,7 +187,7 @@ fn scores_are_said(rt: HostRuntime) -> Result<(), Fail> {
         let db = hall(alloc, (b"-1", home))?;
         let mut console = console(alloc)?;
         let answer = score(&db, Style::plain(), &State::start(&db), &mut console);
-        assert_eq!(rt; answer, Ok(*all));
+        assert!(rt; answer == Ok(*all));
         expect_said(&rt, &console, said);
     }
     Ok(())
@@ -218,9 +209,9 @@ fn light_burns_down(rt: HostRuntime) -> Result<(), Fail> {
         let mut state = State::start(&db);
         let mut console = console(alloc)?;
         let answer = count_light(&db, Style::plain(), &mut state, &mut console);
-        assert_eq!(rt; answer, Ok(()));
+        assert!(rt; answer == Ok(()));
         expect_said(&rt, &console, said);
-        assert_eq!(rt; (state.light, state.flags[16]), (*left, *out));
+        assert!(rt; (state.light, state.flags[16]) == (*left, *out));
     }
     Ok(())
 }
@@ -237,9 +228,9 @@ fn players_are_spoken_to(rt: HostRuntime) -> Result<(), Fail> {
     };
     let state = State::start(&db);
     let mut console = console(alloc)?;
-    assert_eq!(rt; look(&db, you, &state, &mut console), Ok(()));
-    assert_eq!(rt; inventory(&db, you, &state, &mut console), Ok(()));
-    assert_eq!(rt; score(&db, you, &state, &mut console), Ok(false));
+    assert!(rt; look(&db, you, &state, &mut console) == Ok(()));
+    assert!(rt; inventory(&db, you, &state, &mut console) == Ok(()));
+    assert!(rt; score(&db, you, &state, &mut console) == Ok(false));
     expect_said(
         &rt,
         &console,
@@ -273,9 +264,9 @@ fn turns_of_a_light_are_counted(rt: HostRuntime) -> Result<(), Fail> {
             counted: true,
             vanish: *vanish,
         };
-        assert_eq!(rt; count_light(&db, style, &mut state, &mut console), Ok(()));
+        assert!(rt; count_light(&db, style, &mut state, &mut console) == Ok(()));
         expect_said(&rt, &console, said);
-        assert_eq!(rt; state.places.as_slice().get(9).copied(), Some(*place));
+        assert!(rt; state.places.as_slice().get(9).copied() == Some(*place));
         assert!(rt; !state.redraw);
     }
     Ok(())

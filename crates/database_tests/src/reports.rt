@@ -29,7 +29,7 @@ fn drop_without_a_parameter(rt: HostRuntime) -> Result<(), Fail> {
         value: 0,
     };
     let found = warnings(rt.alloc(), &game(rt.alloc(), &[DROP])?)?;
-    assert_eq!(rt; found.as_slice(), [warning].as_slice());
+    assert!(rt; found.as_slice() == [warning].as_slice());
     Ok(())
 }
 
@@ -67,7 +67,7 @@ fn each_fault_is_named(rt: HostRuntime) -> Result<(), Fail> {
         ),
     ] {
         let found = report(rt.alloc(), &game(rt.alloc(), &[text])?)?;
-        assert_eq!(rt; found.as_slice(), said);
+        assert!(rt; found.as_slice() == said);
     }
     Ok(())
 }

@@ -47,7 +47,7 @@ fn expect_asked<R: Abort + AllocGlobal>(
     for word in command.split(' ') {
         words.push(String::from_str(rt.alloc(), word)?)?;
     }
-    assert_eq!(rt; request_in(&words), wanted, "{command}");
+    assert!(rt; request_in(&words) == wanted, "{command}");
     Ok(())
 }
 
@@ -56,7 +56,7 @@ fn words_are_requests(rt: HostRuntime) -> Result<(), Fail> {
     for (command, wanted) in WORDS {
         expect_asked(&rt, command, *wanted)?;
     }
-    assert_eq!(rt; request_in(&[]), None);
+    assert!(rt; request_in(&[]) == None);
     Ok(())
 }
 

@@ -59,9 +59,9 @@ const NAMED: &[(Column, &str, Option<u16>)] = &[
 fn words_name_base_entries(rt: HostRuntime) -> Result<(), Fail> {
     let db = worded(rt.alloc())?;
     for (column, word, entry) in NAMED {
-        assert_eq!(rt; which(&db, *column, word.as_bytes()), *entry, "at {word}");
+        assert!(rt; which(&db, *column, word.as_bytes()) == *entry, "at {word}");
         let found = looked_up(rt.alloc(), &db, *column, word)?;
-        assert_eq!(rt; found, *entry, "at {word}");
+        assert!(rt; found == *entry, "at {word}");
     }
     Ok(())
 }
@@ -73,7 +73,7 @@ fn first_number_of_a_word_stays(rt: HostRuntime) -> Result<(), Fail> {
         index.add(rt.alloc(), word.as_bytes(), number)?;
     }
     for (word, number) in [("LAMPS", Some(7)), ("lam", None), ("", None)] {
-        assert_eq!(rt; index.find(word.as_bytes()), number, "at {word}");
+        assert!(rt; index.find(word.as_bytes()) == number, "at {word}");
     }
     Ok(())
 }
@@ -90,7 +90,7 @@ const BASES: &[(Column, &str, Option<u16>)] = &[
 fn a_database_is_a_vocabulary(rt: HostRuntime) -> Result<(), Fail> {
     let db = worded(rt.alloc())?;
     for (column, word, base) in BASES {
-        assert_eq!(rt; db.named(*column, word.as_bytes()), *base, "at {word}");
+        assert!(rt; db.named(*column, word.as_bytes()) == *base, "at {word}");
     }
     Ok(())
 }
@@ -99,15 +99,15 @@ fn a_database_is_a_vocabulary(rt: HostRuntime) -> Result<(), Fail> {
 fn entries_stand_for_base_ones(rt: HostRuntime) -> Result<(), Fail> {
     let db = worded(rt.alloc())?;
     let entries = db.words().len();
-    assert_eq!(rt; entries, 12);
+    assert!(rt; entries == 12);
     let run = entry_at(&db, Column::Verbs, 1, None);
-    assert_eq!(rt; run.word, b"RUN".as_slice());
-    assert_eq!(rt; run.base, None);
+    assert!(rt; run.word == b"RUN".as_slice());
+    assert!(rt; run.base == None);
     let walk = entry_at(&db, Column::Verbs, 3, Some(2));
-    assert_eq!(rt; walk.word, b"WALK".as_slice());
-    assert_eq!(rt; walk.base, Some(2));
+    assert!(rt; walk.word == b"WALK".as_slice());
+    assert!(rt; walk.base == Some(2));
     let lamp = entry_at(&db, Column::Nouns, 7, Some(6));
-    assert_eq!(rt; lamp.base, Some(7));
+    assert!(rt; lamp.base == Some(7));
     Ok(())
 }
 
@@ -115,9 +115,9 @@ fn entries_stand_for_base_ones(rt: HostRuntime) -> Result<(), Fail> {
 fn nouns_have_texts(rt: HostRuntime) -> Result<(), Fail> {
     let db = worded(rt.alloc())?;
     let entries = db.parts().words.len();
-    assert_eq!(rt; entries, 12);
-    assert_eq!(rt; root(&db, 7), b"LAMP".as_slice());
-    assert_eq!(rt; root(&db, 8), b"*LANT".as_slice());
+    assert!(rt; entries == 12);
+    assert!(rt; root(&db, 7) == b"LAMP".as_slice());
+    assert!(rt; root(&db, 8) == b"*LANT".as_slice());
     Ok(())
 }
 
@@ -135,12 +135,12 @@ fn lines_split_into_words(rt: HostRuntime) {
     for (typed, first, second, noun) in LINES {
         let line = Line::of(typed.as_bytes());
         let words = split(&line);
-        assert_eq!(rt; words.first, *first, "at {typed}");
-        assert_eq!(rt; words.second, *second, "at {typed}");
-        assert_eq!(rt; typed_noun(&line), noun.as_bytes(), "at {typed}");
+        assert!(rt; words.first == *first, "at {typed}");
+        assert!(rt; words.second == *second, "at {typed}");
+        assert!(rt; typed_noun(&line) == noun.as_bytes(), "at {typed}");
         if let Some((start, length)) = words.second {
             let word = word_at(&line, start, length);
-            assert_eq!(rt; word, noun.as_bytes(), "at {typed}");
+            assert!(rt; word == noun.as_bytes(), "at {typed}");
         }
     }
 }
@@ -165,7 +165,7 @@ fn lines_are_commands(rt: HostRuntime) -> Result<(), Fail> {
     let db = worded(rt.alloc())?;
     for (typed, heard) in COMMANDS {
         let line = Line::of(typed.as_bytes());
-        assert_eq!(rt; command(&db, &line), *heard, "at {typed}");
+        assert!(rt; command(&db, &line) == *heard, "at {typed}");
     }
     Ok(())
 }
@@ -173,15 +173,15 @@ fn lines_are_commands(rt: HostRuntime) -> Result<(), Fail> {
 #[test]
 fn six_nouns_are_directions(rt: HostRuntime) {
     for (noun, direction) in [(0, false), (1, true), (6, true), (7, false)] {
-        assert_eq!(rt; is_direction(noun), direction, "at {noun}");
+        assert!(rt; is_direction(noun) == direction, "at {noun}");
     }
 }
 
 #[test]
 fn letters_are_lower_case_and_few(rt: HostRuntime) {
-    assert_eq!(rt; letters(3, b"LAMP").as_slice(), b"lam".as_slice());
-    assert_eq!(rt; letters(20, b"Lamp").as_slice(), b"lamp".as_slice());
-    assert_eq!(rt; letters(0, b"lamp").as_slice(), b"".as_slice());
+    assert!(rt; letters(3, b"LAMP").as_slice() == b"lam".as_slice());
+    assert!(rt; letters(20, b"Lamp").as_slice() == b"lamp".as_slice());
+    assert!(rt; letters(0, b"lamp").as_slice() == b"".as_slice());
 }
 
 #[test]

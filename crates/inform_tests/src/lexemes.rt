@@ -17,7 +17,7 @@ fn symbols_are_spelled(rt: HostRuntime) {
         let found = Symbol::spelled(text.as_bytes()).map(|symbol| symbol.spelling());
         assert!(rt; found == Some(text.as_bytes()), "at {text}");
     }
-    assert_eq!(rt; count, 28);
+    assert!(rt; count == 28);
     assert!(rt; Symbol::spelled(b"<>").is_none());
 }
 
@@ -31,6 +31,6 @@ fn keywords_are_spelled(rt: HostRuntime) {
             assert!(rt; found == Some(text.as_bytes()), "at {text}");
         }
     }
-    assert_eq!(rt; count, 23);
+    assert!(rt; count == 23);
     assert!(rt; Keyword::spelled(b"box").is_none());
 }

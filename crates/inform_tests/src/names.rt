@@ -300,7 +300,7 @@ fn array_without_entries(rt: HostRuntime) -> Result<(), Fail> {
     let word = Name::of(b"a".to_vec(alloc)?);
     let directives = vec![in alloc; Directive::Array(word, false, Vec::new(alloc))]?;
     let found = judged(alloc, Program { directives }, Width::W16)?;
-    assert_eq!(rt; found.as_slice(), b"a has a wrong size".as_slice());
+    assert!(rt; found.as_slice() == b"a has a wrong size".as_slice());
     Ok(())
 }
 
@@ -332,11 +332,11 @@ fn value_of(names: &Names<'_>, word: &Name) -> Option<Value> {
 // What the look-ups of the accepted sample give.
 fn look_up(rt: &impl Abort, alloc: Global, accepted: &Accepted) -> Result<(), Fail> {
     let names = Names::of(alloc, accepted)?;
-    assert_eq!(rt; names.accepted().program().directives.len(), 5);
-    assert_eq!(rt; names.word(&Const::Minus(2)), -2);
+    assert!(rt; names.accepted().program().directives.len() == 5);
+    assert!(rt; names.word(&Const::Minus(2)) == -2);
     let (at, main) = names.main();
-    assert_eq!(rt; at, 4);
-    assert_eq!(rt; main.name.bytes(), b"main".as_slice());
+    assert!(rt; at == 4);
+    assert!(rt; main.name.bytes() == b"main".as_slice());
     for (word, found, value) in [
         ("c", Some(-1), Some(Value::Word(-1))),
         ("g", Some(1), Some(Value::Global(1))),
@@ -345,8 +345,8 @@ fn look_up(rt: &impl Abort, alloc: Global, accepted: &Accepted) -> Result<(), Fa
         ("x", None, None),
     ] {
         let key = Name::of(word.as_bytes().to_vec(alloc)?);
-        assert_eq!(rt; looked_up(&names, &key), found, "at {word}");
-        assert_eq!(rt; value_of(&names, &key), value, "at {word}");
+        assert!(rt; looked_up(&names, &key) == found, "at {word}");
+        assert!(rt; value_of(&names, &key) == value, "at {word}");
     }
     Ok(())
 }
@@ -357,7 +357,7 @@ fn names_are_looked_up(rt: HostRuntime) -> Result<(), Fail> {
     for width in [Width::W16, Width::W32] {
         match accept(alloc, program_of(alloc, SAMPLE)?, width) {
             Ok(accepted) => {
-                assert_eq!(rt; accepted.width(), width);
+                assert!(rt; accepted.width() == width);
                 look_up(&rt, alloc, &accepted)?;
             }
             Err((_program, _fault)) => assert!(rt; false),

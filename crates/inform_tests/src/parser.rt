@@ -73,7 +73,7 @@ fn fault_of(alloc: Global, bytes: &[u8]) -> Option<ParseFault> {
 #[test]
 fn faults_are_found(rt: HostRuntime) {
     for (bytes, fault) in FAULTS {
-        assert_eq!(rt; fault_of(rt.alloc(), bytes), Some(*fault));
+        assert!(rt; fault_of(rt.alloc(), bytes) == Some(*fault));
     }
 }
 
@@ -184,7 +184,7 @@ fn openers_are_limited(rt: HostRuntime) -> Result<(), Fail> {
         let text = nested(rt.alloc(), *most, opens, middle, closes)?;
         assert!(rt; fault_of(rt.alloc(), &text).is_none());
         let text = nested(rt.alloc(), 201, opens, middle, closes)?;
-        assert_eq!(rt; fault_of(rt.alloc(), &text), Some(ParseFault::TooDeep(*at)));
+        assert!(rt; fault_of(rt.alloc(), &text) == Some(ParseFault::TooDeep(*at)));
     }
     Ok(())
 }
@@ -208,11 +208,8 @@ fn round_brackets_are_limited(rt: HostRuntime) -> Result<(), Fail> {
     let text = bracketed(rt.alloc(), 200)?;
     assert!(rt; fault_of(rt.alloc(), &text).is_none());
     let text = bracketed(rt.alloc(), 201)?;
-    assert_eq!(rt; fault_of(rt.alloc(), &text), Some(ParseFault::TooDeep(212)));
-    assert_eq!(rt;
-        fault_of(rt.alloc(), &[b'('; 201]),
-        Some(ParseFault::Unexpected(0))
-    );
+    assert!(rt; fault_of(rt.alloc(), &text) == Some(ParseFault::TooDeep(212)));
+    assert!(rt; fault_of(rt.alloc(), &[b'('; 201]) == Some(ParseFault::Unexpected(0)));
     Ok(())
 }
 

@@ -401,7 +401,7 @@ fn outcome(alloc: Global, row: &Row) -> Result<Vec<u8>, Fail> {
 fn check(rt: &impl Abort, alloc: Global, rows: &[Row]) -> Result<(), Fail> {
     for row in rows {
         let said = outcome(alloc, row)?;
-        assert_eq!(rt; said.as_slice(), row.outcome);
+        assert!(rt; said.as_slice() == row.outcome);
     }
     Ok(())
 }

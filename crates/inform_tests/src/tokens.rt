@@ -76,8 +76,8 @@ fn faults_are_said(rt: HostRuntime) {
     for (fault, opening, place) in TEXTS_OF_FAULTS {
         let mut digits = Buffer::new();
         let pieces = fault.pieces(&mut digits);
-        assert_eq!(rt; pieces[0], *opening);
-        assert_eq!(rt; pieces[1], *place);
+        assert!(rt; pieces[0] == *opening);
+        assert!(rt; pieces[1] == *place);
     }
 }
 

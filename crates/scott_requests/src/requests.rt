@@ -19,7 +19,7 @@ use scott_types::Style;
 /// - `Run`: the Inform program of this name is to be run with these draws, for so many steps at
 ///   most (1 to
 ///   `MOST_STEPS`), with words of this width.
-#[derive(Clone, Copy, Debug, PartialEq, Eq)]
+#[derive(Clone, Copy, PartialEq, Eq)]
 pub enum Request<'a> {
     Check(&'a str),
     Compile(&'a str, &'a str),
@@ -150,23 +150,13 @@ pub fn request_in(words: &[String]) -> Option<Request<'_>>
     ensures { option_map request_of result ≡ asked_by words.now }
 {
     let (command, rest) = words.split_first()?;
-    if command.as_str() == "check" {
-        return check_form(rest);
+    match command.as_str() {
+        "check" => check_form(rest),
+        "compile" => compile_form(rest),
+        "decompile" => decompile_form(rest),
+        "play" => play_form(rest),
+        "translate" => translate_form(rest),
+        "run" => run_form(rest),
+        _ => None,
     }
-    if command.as_str() == "compile" {
-        return compile_form(rest);
-    }
-    if command.as_str() == "decompile" {
-        return decompile_form(rest);
-    }
-    if command.as_str() == "play" {
-        return play_form(rest);
-    }
-    if command.as_str() == "translate" {
-        return translate_form(rest);
-    }
-    if command.as_str() == "run" {
-        return run_form(rest);
-    }
-    None
 }

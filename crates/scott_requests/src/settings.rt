@@ -19,7 +19,7 @@ pub const USUAL_STEPS: u64 = 1_000_000_000;
 pub const MOST_STEPS: u64 = 1_000_000_000_000_000_000;
 
 /// Where the draws of a play or a run come from: a file lists them, or a seed gives them.
-#[derive(Clone, Copy, Debug, PartialEq, Eq)]
+#[derive(Clone, Copy, PartialEq, Eq)]
 pub enum DrawSource<'a> {
     Listed(&'a str),
     Seeded(u64),
@@ -79,28 +79,16 @@ fn some_style(you: bool, counted: bool, vanish: bool) -> Option<Style>
 fn style_named(letters: &str) -> Option<Style>
     ensures { result ≡ style_named letters.now }
 {
-    if letters == "y" {
-        return some_style(true, false, false);
+    match letters {
+        "y" => some_style(true, false, false),
+        "c" => some_style(false, true, false),
+        "v" => some_style(false, false, true),
+        "yc" => some_style(true, true, false),
+        "yv" => some_style(true, false, true),
+        "cv" => some_style(false, true, true),
+        "ycv" => some_style(true, true, true),
+        _ => None,
     }
-    if letters == "c" {
-        return some_style(false, true, false);
-    }
-    if letters == "v" {
-        return some_style(false, false, true);
-    }
-    if letters == "yc" {
-        return some_style(true, true, false);
-    }
-    if letters == "yv" {
-        return some_style(true, false, true);
-    }
-    if letters == "cv" {
-        return some_style(false, true, true);
-    }
-    if letters == "ycv" {
-        return some_style(true, true, true);
-    }
-    None
 }
 
 // The setting that gives a style.
@@ -127,13 +115,11 @@ fn steps<'a>(digits: &str) -> Option<Setting<'a>>
 fn width<'a>(text: &str) -> Option<Setting<'a>>
     ensures { option_map setting_of result ≡ option_map word_width (width_of text.now) }
 {
-    if text == "16" {
-        return Some(Setting::Words(Width::W16));
+    match text {
+        "16" => Some(Setting::Words(Width::W16)),
+        "32" => Some(Setting::Words(Width::W32)),
+        _ => None,
     }
-    if text == "32" {
-        return Some(Setting::Words(Width::W32));
-    }
-    None
 }
 
 // The setting of a run alone that a word is.

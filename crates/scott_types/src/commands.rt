@@ -16,7 +16,7 @@ pub struct Words {
 
 /// What a line means: nothing, a word that isn't known and where it stands, or the numbers of a
 /// verb and perhaps a noun.
-#[derive(Clone, Copy, Debug, PartialEq, Eq)]
+#[derive(Clone, Copy, PartialEq, Eq)]
 pub enum Heard {
     Blank,
     Unknown(u8, u8),

@@ -1,7 +1,7 @@
 //! How action lines, groups and plays end.
 
 /// What became of an action line, or of a head with its tail.
-#[derive(Clone, Copy, Debug, PartialEq, Eq)]
+#[derive(Clone, Copy, PartialEq, Eq)]
 pub enum Ran {
     /// A condition didn't hold.
     Not,
@@ -36,7 +36,7 @@ pub enum Halt {
 }
 
 /// Where a play stands.
-#[derive(Clone, Copy, Debug, PartialEq, Eq)]
+#[derive(Clone, Copy, PartialEq, Eq)]
 pub enum Position {
     /// A round begins.
     Fresh,
@@ -49,7 +49,7 @@ pub enum Position {
 }
 
 /// Why a play stopped.
-#[derive(Clone, Copy, Debug, PartialEq, Eq)]
+#[derive(Clone, Copy, PartialEq, Eq)]
 pub enum Ending {
     /// The game is over: 1 by an opcode, 2 by a fall in the dark, 3 by a full score.
     Over(u8),

@@ -3,7 +3,7 @@ ghost use Rattle.std.specs.Prelude.{◌≡◌};
 ghost use Rattle.scott_types.specs.Style.{plain_style};
 
 /// In what a play differs from the plain one. docs/TURN.md, "Styles", has the rules.
-#[derive(Clone, Copy, Debug, PartialEq, Eq)]
+#[derive(Clone, Copy, PartialEq, Eq)]
 pub struct Style {
     /// The fixed texts speak of the player as `You` in place of `I`.
     pub you: bool,

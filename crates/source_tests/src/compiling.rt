@@ -69,23 +69,20 @@ fn a_source_means_its_database(rt: HostRuntime) -> Result<(), Fail> {
     let db = compile(rt.alloc(), &source)?;
     let parts = db.parts();
     let header = &parts.header;
-    assert_eq!(rt; (header.unused, header.carry, header.start), (0, 5, 1));
-    assert_eq!(rt; (header.treasures, header.length), (0, 3));
-    assert_eq!(rt; (header.light, header.home), (-1, 0));
-    assert_eq!(rt; (parts.words.len(), parts.rooms.len()), (7, 3));
-    assert_eq!(rt; (parts.messages.len(), parts.items.len()), (1, 1));
+    assert!(rt; (header.unused, header.carry, header.start) == (0, 5, 1));
+    assert!(rt; (header.treasures, header.length) == (0, 3));
+    assert!(rt; (header.light, header.home) == (-1, 0));
+    assert!(rt; (parts.words.len(), parts.rooms.len()) == (7, 3));
+    assert!(rt; (parts.messages.len(), parts.items.len()) == (1, 1));
     for item in &parts.items {
-        assert_eq!(rt; item.place, 1);
-        assert_eq!(rt; item.text.bytes(), b"Rug".as_slice());
+        assert!(rt; item.place == 1);
+        assert!(rt; item.text.bytes() == b"Rug".as_slice());
     }
     for comment in &parts.comments {
-        assert_eq!(rt; comment.bytes(), b"".as_slice());
+        assert!(rt; comment.bytes() == b"".as_slice());
     }
     let trailer = &parts.trailer;
-    assert_eq!(rt;
-        (trailer.version, trailer.adventure, trailer.third),
-        (416, 1, 0)
-    );
+    assert!(rt; (trailer.version, trailer.adventure, trailer.third) == (416, 1, 0));
     Ok(())
 }
 
@@ -116,9 +113,9 @@ fn lines_mean_actions(rt: HostRuntime) -> Result<(), Fail> {
         let source = read_source(rt.alloc(), &bytes)?;
         let db = compile(rt.alloc(), &source)?;
         for action in &db.parts().actions {
-            assert_eq!(rt; action.vocab, vocab);
-            assert_eq!(rt; action.conds, conds);
-            assert_eq!(rt; action.pairs, pairs);
+            assert!(rt; action.vocab == vocab);
+            assert!(rt; action.conds == conds);
+            assert!(rt; action.pairs == pairs);
         }
     }
     Ok(())
@@ -182,7 +179,7 @@ fn lines_are_refused(rt: HostRuntime) -> Result<(), Fail> {
     ] {
         let bytes = text_of(rt.alloc(), HEADER, ROOMS, line)?;
         let source = read_source(rt.alloc(), &bytes)?;
-        assert_eq!(rt; compile(rt.alloc(), &source).err(), Some(fault));
+        assert!(rt; compile(rt.alloc(), &source).err() == Some(fault));
     }
     Ok(())
 }
@@ -213,7 +210,7 @@ fn headers_and_rooms_are_refused(rt: HostRuntime) -> Result<(), Fail> {
     ] {
         let bytes = text_of(rt.alloc(), header, rooms, NO_ACTION)?;
         let source = read_source(rt.alloc(), &bytes)?;
-        assert_eq!(rt; compile(rt.alloc(), &source).err(), Some(fault));
+        assert!(rt; compile(rt.alloc(), &source).err() == Some(fault));
     }
     Ok(())
 }

@@ -55,15 +55,15 @@ fn text_of(alloc: Global, lines: &[u8]) -> Result<Vec<u8>, AllocError> {
 fn header_and_ends_are_read(rt: HostRuntime) -> Result<(), Fail> {
     let bytes = text_of(rt.alloc(), LINES)?;
     let source = read_source(rt.alloc(), &bytes)?;
-    assert_eq!(rt; (source.unused.at, source.unused.what), (16, 0));
-    assert_eq!(rt; (source.carry.at, source.carry.what), (25, 5));
-    assert_eq!(rt; (source.length.at, source.length.what), (58, 3));
-    assert_eq!(rt; (source.light.at, source.light.what), (67, -1));
-    assert_eq!(rt; (source.start.at, source.home.at), (34, 76));
-    assert_eq!(rt; (source.words.end, source.rooms.end), (116, 190));
-    assert_eq!(rt; (source.messages.end, source.items.end), (226, 297));
-    assert_eq!(rt; source.lines.end, 456);
-    assert_eq!(rt; source.trailer, [416, 1, 0]);
+    assert!(rt; (source.unused.at, source.unused.what) == (16, 0));
+    assert!(rt; (source.carry.at, source.carry.what) == (25, 5));
+    assert!(rt; (source.length.at, source.length.what) == (58, 3));
+    assert!(rt; (source.light.at, source.light.what) == (67, -1));
+    assert!(rt; (source.start.at, source.home.at) == (34, 76));
+    assert!(rt; (source.words.end, source.rooms.end) == (116, 190));
+    assert!(rt; (source.messages.end, source.items.end) == (226, 297));
+    assert!(rt; source.lines.end == 456);
+    assert!(rt; source.trailer == [416, 1, 0]);
     Ok(())
 }
 
@@ -81,15 +81,9 @@ fn entries_are_read(rt: HostRuntime) -> Result<(), Fail> {
         assert!(rt; room.at == 126 || matches!(&west.what, Ref::Number(7)));
     }
     for item in source.items.entries.as_slice() {
-        assert_eq!(rt; item.what.name.is_some(), item.at == 236);
-        assert_eq!(rt;
-            matches!(&item.what.place.what, Spot::Carried),
-            item.at == 256
-        );
-        assert_eq!(rt;
-            matches!(&item.what.place.what, Spot::Nowhere),
-            item.at == 279
-        );
+        assert!(rt; item.what.name.is_some() == (item.at == 236));
+        assert!(rt; matches!(&item.what.place.what, Spot::Carried) == (item.at == 256));
+        assert!(rt; matches!(&item.what.place.what, Spot::Nowhere) == (item.at == 279));
     }
     Ok(())
 }
@@ -104,7 +98,7 @@ fn lines_are_read(rt: HostRuntime) -> Result<(), Fail> {
             418 => 1,
             _ => 0,
         };
-        assert_eq!(rt; line.what.ops.as_slice().len(), count);
+        assert!(rt; line.what.ops.as_slice().len() == count);
         for cond in line.what.conds.as_slice() {
             let found = (cond.at, cond.what.code);
             assert!(rt; found == (321, 3) || found == (331, 0) || found == (428, 1));
@@ -165,7 +159,7 @@ fn texts_are_refused(rt: HostRuntime) -> Result<(), Fail> {
             SourceFault::OpenString(26),
         ),
     ] {
-        assert_eq!(rt; read_source(rt.alloc(), bytes).err(), Some(fault));
+        assert!(rt; read_source(rt.alloc(), bytes).err() == Some(fault));
     }
     Ok(())
 }
@@ -220,7 +214,7 @@ fn lines_are_refused(rt: HostRuntime) -> Result<(), Fail> {
         ),
     ] {
         let bytes = text_of(rt.alloc(), lines)?;
-        assert_eq!(rt; read_source(rt.alloc(), &bytes).err(), Some(fault));
+        assert!(rt; read_source(rt.alloc(), &bytes).err() == Some(fault));
     }
     Ok(())
 }
@@ -229,23 +223,17 @@ fn lines_are_refused(rt: HostRuntime) -> Result<(), Fail> {
 fn a_long_string_is_refused(rt: HostRuntime) -> Result<(), Fail> {
     let mut bytes = vec![in rt.alloc(); b'x'; 4098]?;
     bytes[0] = b'"';
-    assert_eq!(rt;
-        read_source(rt.alloc(), &bytes).err(),
-        Some(SourceFault::LongString(0))
-    );
+    assert!(rt; read_source(rt.alloc(), &bytes).err() == Some(SourceFault::LongString(0)));
     bytes[4097] = b'"';
-    assert_eq!(rt;
-        read_source(rt.alloc(), &bytes).err(),
-        Some(SourceFault::Unexpected(0))
-    );
+    assert!(rt; read_source(rt.alloc(), &bytes).err() == Some(SourceFault::Unexpected(0)));
     Ok(())
 }
 
 #[test]
 fn words_are_told_by_their_numbers(rt: HostRuntime) -> Result<(), Fail> {
-    assert_eq!(rt; condition_word(0), b"param".as_slice());
-    assert_eq!(rt; condition_word(19), b"counter_is".as_slice());
-    assert_eq!(rt; opcode_word(52), b"get".as_slice());
-    assert_eq!(rt; opcode_word(89), b"picture".as_slice());
+    assert!(rt; condition_word(0) == b"param".as_slice());
+    assert!(rt; condition_word(19) == b"counter_is".as_slice());
+    assert!(rt; opcode_word(52) == b"get".as_slice());
+    assert!(rt; opcode_word(89) == b"picture".as_slice());
     Ok(())
 }

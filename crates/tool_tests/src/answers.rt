@@ -80,18 +80,18 @@ fn runs_are_answered(rt: HostRuntime) -> Result<(), Fail> {
         ..runs::DONE
     };
     let (status, console, _) = answer_of(rt.alloc(), &case)?;
-    assert_eq!(rt; status, 0);
-    assert_eq!(rt; console.said(), [b'a', b'"', b'b', b'\n', 200].as_slice());
+    assert!(rt; status == 0);
+    assert!(rt; console.said() == [b'a', b'"', b'b', b'\n', 200].as_slice());
     Ok(())
 }
 
 // Each prompt is said before its line is taken.
 #[test]
 fn lines_are_taken_in_their_places(rt: HostRuntime) -> Result<(), Fail> {
-    assert_eq!(rt; T.text(rt.alloc())?.len(), 209);
+    assert!(rt; T.text(rt.alloc())?.len() == 209);
     let console = expect(&rt, &WALK)?;
     for (i, mark) in [(0, Some(79)), (1, Some(142)), (2, Some(226)), (3, None)] {
-        assert_eq!(rt; console.mark(i), mark);
+        assert!(rt; console.mark(i) == mark);
     }
     Ok(())
 }
@@ -110,10 +110,10 @@ fn long_files_and_no_words_are_refused(rt: HostRuntime) -> Result<(), Fail> {
     expect(&rt, &case)?;
     let mut shelf = MemoryShelf::new(Vec::new(alloc), Vec::new(alloc));
     let (status, console) = obeyed(alloc, &[], &NOTHING, &mut shelf)?;
-    assert_eq!(rt; status, 1);
-    assert_eq!(rt; console.said(), USAGE.as_bytes());
-    assert_eq!(rt; status_without_words(ErrorKind::OutOfMemory), 9);
-    assert_eq!(rt; status_without_words(ErrorKind::InvalidData), 12);
+    assert!(rt; status == 1);
+    assert!(rt; console.said() == USAGE.as_bytes());
+    assert!(rt; status_without_words(ErrorKind::OutOfMemory) == 9);
+    assert!(rt; status_without_words(ErrorKind::InvalidData) == 12);
     Ok(())
 }
 
@@ -130,10 +130,10 @@ fn expect_failures<R: Abort + AllocGlobal>(rt: &R, case: &Case<'_>) -> Result<u6
         let (status, console, _) = answer_of(rt.alloc(), &failing)?;
         assert!(rt; whole.said().starts_with(console.said()), "{number}");
         if status == status_of_all {
-            assert_eq!(rt; console.said(), whole.said());
+            assert!(rt; console.said() == whole.said());
             return Ok(number - 1);
         }
-        assert_eq!(rt; status, 3, "{number}");
+        assert!(rt; status == 3, "{number}");
     }
     panic!(rt; "a console that fails is never used up")
 }

@@ -25,14 +25,14 @@ fn lines_are_handed_in(rt: HostRuntime) -> Result<(), Fail> {
     let Ok(first) = session.hear(&mut draws, None, &mut console) else {
         return Err(Fail::from("the console failed"));
     };
-    assert_eq!(rt; first, Ending::NeedsLine);
-    assert_eq!(rt; console.said().len(), 79);
+    assert!(rt; first == Ending::NeedsLine);
+    assert!(rt; console.said().len() == 79);
     let line = Line::of(b"GO NORTH");
     let second = session.hear(&mut draws, Some(&line), &mut console);
-    assert_eq!(rt; second, Ok(Ending::NeedsLine));
-    assert_eq!(rt; console.said().len(), 142);
-    assert_eq!(rt; session.state().room, 2);
-    assert_eq!(rt; session.position(), Position::Line);
-    assert_eq!(rt; draws.taken(), 0);
+    assert!(rt; second == Ok(Ending::NeedsLine));
+    assert!(rt; console.said().len() == 142);
+    assert!(rt; session.state().room == 2);
+    assert!(rt; session.position() == Position::Line);
+    assert!(rt; draws.taken() == 0);
     Ok(())
 }

@@ -141,8 +141,8 @@ fn expect_file<R: Abort + AllocGlobal>(
     file: &File<'_>,
 ) -> Result<(), Fail> {
     match bytes_of(rt.alloc(), file)? {
-        Some(bytes) => assert_eq!(rt; shelf.file(name), Some(bytes.as_slice()), "{name}"),
-        None => assert_eq!(rt; shelf.file(name), None, "{name}"),
+        Some(bytes) => assert!(rt; shelf.file(name) == Some(bytes.as_slice()), "{name}"),
+        None => assert!(rt; shelf.file(name) == None, "{name}"),
     }
     Ok(())
 }
@@ -165,11 +165,11 @@ pub fn expect_translated<R: Abort + AllocGlobal>(
     let played = expect(rt, &case.play)?;
     let mut shelf = shelf_of(alloc, &case.play)?;
     let (status, silent) = given(alloc, case.translate, &NOTHING, &mut shelf)?;
-    assert_eq!(rt; status, 0, "{}", case.translate);
-    assert_eq!(rt; silent.said().len(), 0, "{}", case.translate);
+    assert!(rt; status == 0, "{}", case.translate);
+    assert!(rt; silent.said().len() == 0, "{}", case.translate);
     let (status, console) = given(alloc, case.run, &case.play, &mut shelf)?;
-    assert_eq!(rt; status, 0, "{}", case.run);
-    assert_eq!(rt; console.said(), played.said(), "{}", case.run);
+    assert!(rt; status == 0, "{}", case.run);
+    assert!(rt; console.said() == played.said(), "{}", case.run);
     Ok(shelf)
 }
 
@@ -177,8 +177,8 @@ pub fn expect_translated<R: Abort + AllocGlobal>(
 pub fn expect<R: Abort + AllocGlobal>(rt: &R, case: &Case<'_>) -> Result<MemoryConsole, Fail> {
     let said = joined(rt.alloc(), case.said)?;
     let (status, console, shelf) = answer_of(rt.alloc(), case)?;
-    assert_eq!(rt; status, case.status, "{}", case.command);
-    assert_eq!(rt; console.said(), said.as_slice(), "{}", case.command);
+    assert!(rt; status == case.status, "{}", case.command);
+    assert!(rt; console.said() == said.as_slice(), "{}", case.command);
     for (name, file) in case.after {
         expect_file(rt, &shelf, name, file)?;
     }

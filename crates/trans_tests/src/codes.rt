@@ -65,11 +65,11 @@ fn returns_count(statement: &Stmt) -> bool {
 #[test]
 fn carried_is_grown(rt: HostRuntime) -> Result<(), Fail> {
     let grown = body(rt.alloc(), &NAMES, &[9], &CARRIED)?;
-    assert_eq!(rt; grown.len(), 2);
+    assert!(rt; grown.len() == 2);
     let turn = turn_of(&grown[0]).ok_or("no such loop")?;
-    assert_eq!(rt; turn.len(), 1);
+    assert!(rt; turn.len() == 1);
     let (body, other) = branches_of(&turn[0]).ok_or("no such test")?;
-    assert_eq!(rt; body.len(), 1);
+    assert!(rt; body.len() == 1);
     assert!(rt; counts_up(&body[0]) && other.is_empty());
     assert!(rt; returns_count(&grown[1]));
     Ok(())
@@ -84,11 +84,11 @@ fn calls_succeed(rt: HostRuntime) -> Result<(), Fail> {
     assert!(rt; name.as_slice() == b"msg_12".as_slice());
     let names = [name.as_slice()];
     let message = body(alloc, &names, &[], &MESSAGE)?;
-    assert_eq!(rt; message.len(), 2);
+    assert!(rt; message.len() == 2);
     let called = before(alloc, &names, &[], &CALL, message)?;
-    assert_eq!(rt; called.len(), 3);
+    assert!(rt; called.len() == 3);
     let branches = (called, Vec::new(alloc));
     let forked = fork(alloc, &names, &[7], &FORK, branches, Vec::new(alloc))?;
-    assert_eq!(rt; forked.len(), 1);
+    assert!(rt; forked.len() == 1);
     Ok(())
 }
