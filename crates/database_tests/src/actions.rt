@@ -52,7 +52,7 @@ fn expect_done<R: Abort + AllocGlobal>(
     let mut console = MemoryConsole::new(alloc, Vec::new(alloc), Vec::new(alloc), 500)?;
     let answer = perform(&db, Style::plain(), &mut state, 0, b"go", &mut console);
     assert!(rt; answer == Ok(ran));
-    assert!(rt; console.said() == said.as_bytes());
+    assert!(rt; console.said() == said.as_bytes(), "{said}");
     Ok(())
 }
 

@@ -35,7 +35,7 @@ fn console(alloc: Global) -> Result<MemoryConsole, Memory> {
 }
 
 fn expect_said(rt: &impl Abort, console: &MemoryConsole, said: &str) {
-    assert!(rt; console.said() == said.as_bytes());
+    assert!(rt; console.said() == said.as_bytes(), "{said}");
 }
 
 // A state in a room, that is dark or not.
