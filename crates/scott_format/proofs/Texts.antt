@@ -1,7 +1,7 @@
 -- The text of a line, piece by piece as it is written.
-use Rattle.std.proofs.Common.{◌≡◌, ℕ, List, [], ◌∷◌, ◌++◌, length, map, get_or, ℤ, pos, refl, sym, ap, ◌∙◌, append_assoc, arith}
+use Rattle.std.proofs.Common.{◌≡◌, ℕ, List, [], ◌∷◌, ◌++◌, length, map, take, get_or, ◌+◌, ◌<◌, ℤ, pos, refl, sym, ap, ◌∙◌, append_assoc, arith}
 use Rattle.std.specs.List.{flat_map}
-use Rattle.std.proofs.lemmas.List.{map-append}
+use Rattle.std.proofs.lemmas.List.{map-append, flat_map_more, take_more}
 use Rattle.std.proofs.lemmas.List.Concat.{flat_map-cons}
 use Rattle.adv_text.specs.Writing.{number_text, quoted_text}
 use Rattle.scott_format.specs.Canon.{Token, num, str, token_text, line_text, number_and_space}
@@ -9,6 +9,14 @@ use Rattle.scott_format.specs.Canon.{Token, num, str, token_text, line_text, num
 line_more : (t : Token) (ts : List Token) (u : Token) (us : List Token) → line_text (t ∷ (ts ++ u ∷ us)) ≡ token_text t ++ 32 ∷ line_text (ts ++ u ∷ us)
 line_more t [] u us = refl
 line_more t (x ∷ ts) u us = refl
+
+-- the text of one more entry, written after those before it
+pub one_more : {X : Type 0} (text : X → List ℕ) (out before after : List ℕ) (xs : List X) (i : ℕ) (x other : X) → i < length xs → x ≡ get_or xs i other
+    → before ≡ out ++ flat_map text (take i xs) → after ≡ before ++ text x → after ≡ out ++ flat_map text (take (i + 1) xs)
+one_more {X = X} text out before after xs i x other there is so_far more =
+    more ∙ ap (λ (t : List ℕ). t ++ text x) so_far ∙ flat_map_more text out (take i xs) x
+    ∙ ap (λ (y : X). out ++ flat_map text (take i xs ++ y ∷ [])) is
+    ∙ ap (λ (ys : List X). out ++ flat_map text ys) (sym (take_more xs i other there))
 
 -- numbers at the start of a line have a space after each
 pub numbers_first : {X : Type 0} (value : X → ℤ) (xs : List X) (u : Token) (us : List Token)
