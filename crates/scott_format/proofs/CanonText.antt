@@ -1,10 +1,10 @@
 -- What the text that is written of a database is made of: lists, and the tests of the limits.
-use Rattle.std.proofs.Common.{◌≡◌, ℕ, ◌+◌, ◌≤◌, ◌≤ℤ◌, Bool, true, ◌&&◌, leb, ltb, List, [], ◌∷◌, ◌++◌, length, Some, None, ℤ, pos, negsuc, refl, sym, subst, append_assoc, inl, inr, arith}
+use Rattle.std.proofs.Common.{◌≡◌, ℕ, ◌+◌, ◌≤◌, ◌≤ℤ◌, Bool, true, ◌&&◌, leb, ltb, List, [], ◌∷◌, ◌++◌, length, Some, None, ℤ, pos, negsuc, refl, sym, subst, append_assoc, inl, inr, to_z, of_z, w32, arith}
 use Rattle.std.specs.Prelude.{int_le}
 use Rattle.std.specs.List.{list_all}
 use Rattle.std.proofs.lemmas.Bool.{and_parts, and_from, le-leb}
 use Rattle.std.proofs.lemmas.List.Concat.{flat_map-cons}
-use Rattle.std.proofs.lemmas.Int.{ints}
+use Rattle.std.proofs.lemmas.Int.{ints, to_z-of_z}
 use Rattle.adv_text.specs.Laws.{Fits32}
 use Rattle.adv_io.specs.Text.{is_text_byte as is_kept_byte}
 use Rattle.adv_io.specs.Text.{is_text as is_kept}
@@ -51,6 +51,11 @@ le_from a b e = grind (arith, ints)
 
 pub fits : (z : ℤ) → is_number z ≡ true → Fits32 z
 fits z e = let h = and_parts (int_le (negsuc 2147483647) z) (int_le z (pos 2147483647)) e in (le_from (negsuc 2147483647) z h.0, le_from z (pos 2147483647) h.1)
+
+-- a number that the program gave as one of 32 bits is the number
+pub same_in_32_bits : (z : ℤ) → is_number z ≡ true → to_z w32 (of_z w32 z) ≡ z
+same_in_32_bits (pos n) e = let h = fits (pos n) e in to_z-of_z w32 (pos n) (record { sfits = omega (arith, ints) })
+same_in_32_bits (negsuc n) e = let h = fits (negsuc n) e in to_z-of_z w32 (negsuc n) (record { sfits = omega (arith, ints) })
 
 pub natural_fits : (n : ℕ) → n ≤ 2147483647 → Fits32 (pos n)
 natural_fits n h = (omega (arith, ints), omega (arith, ints))

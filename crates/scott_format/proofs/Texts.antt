@@ -61,6 +61,13 @@ four_written : (out a b c d x y z w : List ℕ) → a ≡ out ++ x → b ≡ a +
 four_written out a b c d x y z w ea eb ec ed =
     ed ∙ ap (λ (t : List ℕ). t ++ w) (ec ∙ ap (λ (t : List ℕ). t ++ z) (eb ∙ ap (λ (t : List ℕ). t ++ y) ea)) ∙ simp append_assoc
 
+-- eight texts, written one after another
+pub eight_written : (out o₁ o₂ o₃ o₄ o₅ o₆ o₇ o₈ a b c d e f g h : List ℕ)
+    → o₁ ≡ out ++ a → o₂ ≡ o₁ ++ b → o₃ ≡ o₂ ++ c → o₄ ≡ o₃ ++ d → o₅ ≡ o₄ ++ e → o₆ ≡ o₅ ++ f → o₇ ≡ o₆ ++ g → o₈ ≡ o₇ ++ h
+    → o₈ ≡ out ++ (a ++ (b ++ (c ++ (d ++ (e ++ (f ++ (g ++ h)))))))
+eight_written out o₁ o₂ o₃ o₄ o₅ o₆ o₇ o₈ a b c d e f g h h₁ h₂ h₃ h₄ h₅ h₆ h₇ h₈ =
+    h₈ ∙ rw (h₇, h₆, h₅, h₄, h₃, h₂, h₁) (simp append_assoc)
+
 -- a vocabulary number, conditions and two pairs, as they were written
 pub action_written : (out a b c d : List ℕ) (v : ℕ) (conds pairs : List ℕ) → length pairs ≡ 2
     → a ≡ out ++ number_and_space (pos v) → b ≡ a ++ flat_map (λ n. number_and_space (pos n)) conds

@@ -1,0 +1,20 @@
+use Rattle.std.proofs.Common.{◌++◌, ◌∙◌, List, ℕ, ap}
+use Rattle.scott_types.specs.Database.{database_of}
+use Rattle.scott_format.specs.Canon.{line_text, lines_text, header_line, action_line, word_line, room_line, string_line, item_line, trailer_line, canon}
+use Rattle.scott_format.proofs.Texts.{eight_written}
+use Rattle.scott_format.proofs.writing.write_db.Goals as goal
+
+pub returns : goal.returns
+returns c =
+    let db = database_of c.parts-parts.result.now in
+    eight_written c.new-out.result.items
+    c.put_header.new.out.items c.put_lines.new.out.items c.put_lines-2.new.out.items c.put_lines-3.new.out.items
+    c.put_lines-4.new.out.items c.put_lines-5.new.out.items c.put_lines-6.new.out.items c.put_trailer.new.out.items
+    (line_text (header_line db)) (lines_text action_line db.actions) (lines_text word_line db.words) (lines_text room_line db.rooms)
+    (lines_text string_line db.messages) (lines_text item_line db.items) (lines_text string_line db.comments) (line_text (trailer_line db.trailer))
+    c.in_ok-put_header.ensures
+    (rw c.deref.ensures.value at c.in_ok-put_lines.ensures) (rw c.deref-2.ensures.value at c.in_ok-put_lines-2.ensures)
+    (rw c.deref-3.ensures.value at c.in_ok-put_lines-3.ensures) (rw c.deref-4.ensures.value at c.in_ok-put_lines-4.ensures)
+    (rw c.deref-5.ensures.value at c.in_ok-put_lines-5.ensures) (rw c.deref-6.ensures.value at c.in_ok-put_lines-6.ensures)
+    c.in_ok-put_trailer.ensures
+    ∙ ap (λ (out : List ℕ). out ++ canon db) c.new-out.ensures.items ∙ ap canon c.parts-parts.ensures.value
