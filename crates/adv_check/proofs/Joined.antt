@@ -1,6 +1,8 @@
 -- The warnings of places one after the other, and texts one after the other.
-use Rattle.std.proofs.Common.{◌≡◌, ◌∙◌, ℕ, zero, suc, ◌+◌, ◌<◌, List, [], ◌∷◌, ◌++◌, length, take, get_or, refl, sym, ap, arith, add-one, append-nil, append_assoc}
+use Rattle.std.proofs.Common.{◌≡◌, ◌∙◌, ℕ, zero, suc, ◌+◌, ◌<◌, List, [], ◌∷◌, ◌++◌, length, map, take, get_or, refl, sym, ap, arith, add-one, append-nil, append_assoc}
 use Rattle.std.proofs.lemmas.List.Elements.{filter_map-append}
+use Rattle.std.specs.List.{flat_map}
+use Rattle.std.proofs.lemmas.List.{flat_map_more, map_more, take_more}
 use Rattle.adv_check.specs.declared.findings.Warning.{Warning}
 use Rattle.adv_check.specs.Sites.{Site, each_from, warning_at, warnings_of}
 
@@ -33,6 +35,17 @@ pub one_more : {X : Type 0} (of : ℕ → X → List Site) (xs : List X) (first 
 one_more of xs first i number x d start before after h counted is so_far added =
     both start before after (each_from first of (take i xs)) (of (first + i) (get_or xs i d)) so_far (rw (counted, is) at added)
     ∙ rw (add-one, each_from-next of xs first i d h) refl
+
+-- a loop's step: what each element so far gives, and what the next one gives
+pub one_more_given : {X Y : Type 0} (f : X → Y) (xs : List X) (i : ℕ) (d : X) (before after : List Y) (y : Y)
+    → i < length xs → y ≡ f (get_or xs i d) → before ≡ map f (take i xs) → after ≡ before ++ y ∷ [] → after ≡ map f (take (i + 1) xs)
+one_more_given f xs i d before after y h is so_far added = added ∙ rw (so_far, is) (sym (map_more f xs i d h))
+
+-- a loop's step: the texts of the elements so far, and of the next one
+pub one_more_text : {X : Type 0} (text : X → List ℕ) (xs : List X) (i : ℕ) (d : X) (start before after : List ℕ)
+    → i < length xs → before ≡ start ++ flat_map text (take i xs) → after ≡ before ++ text (get_or xs i d) → after ≡ start ++ flat_map text (take (i + 1) xs)
+one_more_text text xs i d start before after h so_far added =
+    added ∙ rw (so_far, flat_map_more text start (take i xs) (get_or xs i d), sym (take_more xs i d h)) refl
 
 -- six texts that were written one after the other
 pub six_written : (start o₁ o₂ o₃ o₄ o₅ o₆ a b c d e f : List ℕ) → o₁ ≡ start ++ a → o₂ ≡ o₁ ++ b → o₃ ≡ o₂ ++ c → o₄ ≡ o₃ ++ d → o₅ ≡ o₄ ++ e → o₆ ≡ o₅ ++ f
