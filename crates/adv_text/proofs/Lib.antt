@@ -2,6 +2,7 @@ pub mod Whitespace
 pub mod Numbers
 pub mod Strings
 pub mod Written
+pub mod Turns
 pub mod Giving
 pub mod Places
 pub mod Answered
