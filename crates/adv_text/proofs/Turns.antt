@@ -1,9 +1,15 @@
--- The turns of the loop that writes a string.
-use Rattle.std.proofs.Common.{◌≡◌, ◌≢◌, ◌∙◌, ℕ, ◌+◌, ◌<◌, List, [], ◌∷◌, ◌++◌, length, take, get_or, refl, sym, ap, append_assoc, arith}
+-- The turns of the loops that write a string and read a number.
+use Rattle.std.proofs.Common.{◌≡◌, ◌≢◌, ◌∙◌, ℕ, ◌+◌, ◌-◌, ◌*◌, ◌<◌, ◌≤◌, Bool, true, leb, ℤ, Result, List, [], ◌∷◌, ◌++◌, length, take, drop, get_or, refl, sym, ap, append_assoc, arith}
+use Rattle.std.specs.Char.{is_ascii_digit}
 use Rattle.std.specs.List.{flat_map}
+use Rattle.std.proofs.lemmas.Bool.{le-leb}
 use Rattle.std.proofs.lemmas.Bool.Decides.{nat_tests}
-use Rattle.std.proofs.lemmas.List.{flat_map_more, take_more}
+use Rattle.std.proofs.lemmas.List.{flat_map_more, take_more, take_all}
+use Rattle.adv_text.specs.Spelling.{greatest}
+use Rattle.adv_text.specs.Reading.{Spot, Fault, digits_at}
 use Rattle.adv_text.specs.Writing.{byte_text}
+
+-- ---- writing a string
 
 -- one byte more, in the form in which it is written
 turn : (out before after text : List ℕ) (i : ℕ) → i < length text → before ≡ out ++ 34 ∷ flat_map byte_text (take i text)
@@ -26,3 +32,24 @@ pub byte_more : (out before after text : List ℕ) (i : ℕ) → i < length text
 byte_more out before after text i there other so_far added =
     let once : byte_text (get_or text i 0) ≡ get_or text i 0 ∷ [] = grind (arith, nat_tests) in
     turn out before after text i there so_far (rw once added)
+
+-- ---- reading a number
+
+-- what is left after a first byte
+after_first : (b : ℕ) (bytes : List ℕ) → take (length (b ∷ bytes) - 1) bytes ≡ bytes
+after_first b bytes = take_all (length (b ∷ bytes) - 1) bytes (omega arith)
+
+-- a byte further, the end is as far
+pub place_further : (at end : ℕ) (rest : List ℕ) → 1 ≤ length rest → at + length rest ≡ end
+    → at + 1 + length (take (length rest - 1) (drop 1 rest)) ≡ end
+place_further at end [] there so_far = absurd (omega arith)
+place_further at end (b ∷ bytes) there so_far = rw (after_first b bytes) (omega arith)
+
+-- a digit that keeps the amount within its limit is read on from
+pub digit_read : (negative : Bool) (start n more at : ℕ) (rest : List ℕ) (whole : Result (ℤ × Spot) Fault) → 1 ≤ length rest
+    → is_ascii_digit (get_or rest 0 0) ≡ true → more ≡ get_or rest 0 0 - 48 → n * 10 + more ≤ greatest negative
+    → digits_at negative start n at rest ≡ whole → digits_at negative start (n * 10 + more) (at + 1) (take (length rest - 1) (drop 1 rest)) ≡ whole
+digit_read negative start n more at [] whole there digit is fits so_far = absurd (omega arith)
+digit_read negative start n more at (b ∷ bytes) whole there digit is fits so_far =
+    let small : leb (n * 10 + (b - 48)) (greatest negative) ≡ true = le-leb (n * 10 + (b - 48)) (greatest negative) (rw is at fits) in
+    rw (after_first b bytes, is) (rw (digit, small) at so_far)
