@@ -1,5 +1,5 @@
--- The turns of the loops that write a string and read a number.
-use Rattle.std.proofs.Common.{◌≡◌, ◌≢◌, ◌∙◌, ℕ, ◌+◌, ◌-◌, ◌*◌, ◌<◌, ◌≤◌, Bool, true, leb, ℤ, Result, List, [], ◌∷◌, ◌++◌, length, take, drop, get_or, refl, sym, ap, append_assoc, arith}
+-- The turns of the loops that write a string, and that read a number and a string.
+use Rattle.std.proofs.Common.{◌≡◌, ◌≢◌, ◌∙◌, ℕ, ◌+◌, ◌-◌, ◌*◌, ◌<◌, ◌≤◌, Bool, true, leb, ℤ, Result, List, [], ◌∷◌, ◌++◌, length, length-drop, take, drop, get_or, refl, sym, ap, append_assoc, arith}
 use Rattle.std.specs.Char.{is_ascii_digit}
 use Rattle.std.specs.List.{flat_map}
 use Rattle.std.proofs.lemmas.Bool.{le-leb}
@@ -53,3 +53,14 @@ digit_read negative start n more at [] whole there digit is fits so_far = absurd
 digit_read negative start n more at (b ∷ bytes) whole there digit is fits so_far =
     let small : leb (n * 10 + (b - 48)) (greatest negative) ≡ true = le-leb (n * 10 + (b - 48)) (greatest negative) (rw is at fits) in
     rw (after_first b bytes, is) (rw (digit, small) at so_far)
+
+-- ---- reading a string
+
+-- what is left after a piece
+pub after_piece : (size : ℕ) (rest : List ℕ) → take (length rest - size) (drop size rest) ≡ drop size rest
+after_piece size rest = take_all (length rest - size) (drop size rest) (omega (arith, length-drop size rest))
+
+-- the end is as far after a piece
+pub place_after_piece : (at size end : ℕ) (rest : List ℕ) → size ≤ length rest → at + length rest ≡ end
+    → at + size + length (drop size rest) ≡ end
+place_after_piece at size end rest there so_far = omega (arith, length-drop size rest)
