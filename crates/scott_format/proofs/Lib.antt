@@ -1,4 +1,5 @@
 pub mod Plans
+pub mod ActionNumbers
 pub mod Loop
 pub mod Exact
 pub mod Always
