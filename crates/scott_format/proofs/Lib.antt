@@ -1,5 +1,5 @@
 pub mod Plans
-pub mod ActionNumbers
+pub mod InARow
 pub mod Loop
 pub mod Exact
 pub mod Always
