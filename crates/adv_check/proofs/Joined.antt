@@ -47,6 +47,11 @@ pub one_more_text : {X : Type 0} (text : X → List ℕ) (xs : List X) (i : ℕ)
 one_more_text text xs i d start before after h so_far added =
     added ∙ rw (so_far, flat_map_more text start (take i xs) (get_or xs i d), sym (take_more xs i d h)) refl
 
+-- four texts that were written one after the other
+pub four_written : (start o₁ o₂ o₃ o₄ a b c d : List ℕ) → o₁ ≡ start ++ a → o₂ ≡ o₁ ++ b → o₃ ≡ o₂ ++ c → o₄ ≡ o₃ ++ d
+    → o₄ ≡ start ++ (a ++ (b ++ (c ++ d)))
+four_written start o₁ o₂ o₃ o₄ a b c d h₁ h₂ h₃ h₄ = h₄ ∙ rw (h₃, h₂, h₁) (simp append_assoc)
+
 -- six texts that were written one after the other
 pub six_written : (start o₁ o₂ o₃ o₄ o₅ o₆ a b c d e f : List ℕ) → o₁ ≡ start ++ a → o₂ ≡ o₁ ++ b → o₃ ≡ o₂ ++ c → o₄ ≡ o₃ ++ d → o₅ ≡ o₄ ++ e → o₆ ≡ o₅ ++ f
     → o₆ ≡ start ++ (a ++ (b ++ (c ++ (d ++ (e ++ f)))))
