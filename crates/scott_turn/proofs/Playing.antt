@@ -6,8 +6,8 @@ use Rattle.adv_io.specs.Console.{ConsoleView, Speaks, TakesFrom}
 use Rattle.adv_io.specs.declared.events.Event.{Event}
 use Rattle.adv_io.specs.declared.events.Event.TheVariants.{Take}
 use Rattle.adv_io.specs.declared.faults.ConsoleFault.{ConsoleFault}
-use Rattle.adv_io.specs.declared.consoles.Taken.TheVariants.{Got}
-use Rattle.adv_io.proofs.Sayings.{grown-nil, grown_on, part_on, part_of_more}
+use Rattle.adv_io.specs.declared.consoles.Taken.TheVariants.{Got, End}
+use Rattle.adv_io.proofs.Sayings.{grown-nil, grown_on, part_on, part_of_more, part_none}
 use Rattle.scott_types.specs.declared.states.State.{State}
 use Rattle.scott_types.specs.declared.endings.Position.{Position}
 use Rattle.scott_types.specs.declared.endings.Position.TheVariants.{Fresh, Draw, Line, Over}
@@ -72,6 +72,38 @@ after_prompt game position s draws (line ∷ lines) true is = (_, ap (λ w. w.ev
 after_prompt game position s draws (line ∷ lines) false is = ([], ap (λ w. w.events) (go-stops game position s (line ∷ lines) draws is) ∙ sym (append-nil (advance game position s draws).events))
 
 -- ---- the next line and its answer
+
+-- no line was left
+pub next_ends : (old new : ConsoleView) (before : Option (List (List ℕ))) (game : Game) (s : State) (line : List ℕ) → TakesFrom before new.left (Ok End) line → new.history ≡ old.history
+    → IfSome before (λ lines. AnswersNext old new game lines (Ok None) s s)
+next_ends old new None game s line takes took = tt
+next_ends old new (Some []) game s line takes took = (took, takes, refl)
+next_ends old new (Some (next ∷ others)) game s line takes took = absurd takes
+
+-- a line was answered
+pub next_answered : {T E : Type 0} {x : T} (old mid new : ConsoleView) (before : Option (List (List ℕ))) (game : Game) (s now : State) (line : List ℕ) (position : Position)
+    → TakesFrom before mid.left (Ok Got) line → mid.history ≡ grown old.history (Take line ∷ [])
+    → Speaks {E = E} mid new (Ok x) (shown_of (by_heard (heard game.db line) game line s).events)
+    → (by_heard (heard game.db line) game line s).value ≡ record { position = position; state = now }
+    → IfSome before (λ lines. AnswersNext old new game lines (Ok (Some position)) s now)
+next_answered old mid new None game s now line position takes took says leaves = tt
+next_answered old mid new (Some []) game s now line position takes took says leaves = absurd takes
+next_answered old mid new (Some (next ∷ others)) game s now line position takes took says leaves =
+    subst (λ l. AnswersNext old new game (l ∷ others) (Ok (Some position)) s now) takes.0
+    (grown_on old.history mid.history new.history (Take line ∷ []) (shown_of (by_heard (heard game.db line) game line s).events) took says.said, says.lines_stay ∙ takes.1, leaves)
+
+-- the take failed
+pub next_fails : (old new : ConsoleView) (before : Option (List (List ℕ))) (game : Game) (s : State) (fault : ConsoleFault) → new.history ≡ old.history
+    → IfSome before (λ lines. AnswersNext old new game lines (Err fault) s s)
+next_fails old new None game s fault same = tt
+next_fails old new (Some lines) game s fault same = by_lines lines
+  where
+    nothing : (lines : List (List ℕ)) → GrewByPrefix old.history new.history (shown_of (next_answer game lines s))
+    nothing lines = rw same (part_none old.history (shown_of (next_answer game lines s)))
+
+    by_lines : (lines : List (List ℕ)) → AnswersNext old new game lines (Err fault) s s
+    by_lines [] = nothing []
+    by_lines (line ∷ others) = nothing (line ∷ others)
 
 -- the answer failed
 pub next_part : {T E : Type 0} {d : E} (old mid new : ConsoleView) (before : Option (List (List ℕ))) (game : Game) (s now : State) (line : List ℕ) (fault : ConsoleFault)

@@ -29,7 +29,6 @@ fn unmark(state: &mut State) -> bool
 }
 
 // A look where one is due.
-#[tactic(auto, using(crate::proofs::Showing::shown_said))]
 fn look_if_due<C: Console>(
     game: &Game,
     state: &mut State,

@@ -19,7 +19,6 @@ use scott_types::{Heard, Phrase, Position, State};
 use scott_vocab::{command, typed_noun, word_at};
 
 // After a command the light burns, where the game goes on, and a round begins.
-#[tactic(auto, using(crate::proofs::Showing::shown_said))]
 fn end_turn<C: Console>(
     game: &Game,
     state: &mut State,
@@ -93,7 +92,6 @@ fn refuse_word<'a, C: Console>(word: &'a [u8], console: &mut C) -> Result<Positi
 ///
 /// The console's fault alone is a refusal; the state fits then too. docs/TURN.md, "The round", has
 /// the rule.
-#[tactic(auto, using(crate::proofs::Showing::shown_said))]
 pub fn answer<C: Console>(
     game: &Game,
     state: &mut State,

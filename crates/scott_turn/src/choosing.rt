@@ -61,7 +61,6 @@ fn item_for(db: &Db, state: &State, transfer: Transfer, noun: u16) -> Option<u8>
 }
 
 // Gets or drops an item, or says that it can't be done where there is none.
-#[tactic(auto, using(crate::proofs::Showing::shown_said))]
 fn move_one<C: Console>(
     game: &Game,
     state: &mut State,

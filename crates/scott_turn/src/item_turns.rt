@@ -118,7 +118,6 @@ fn say_too_much<C: Console>(style: Style, console: &mut C) -> Result<ItemTurn, C
 }
 
 // Gets or drops an item that was taken, or refuses it and ends the command.
-#[tactic(auto, using(crate::proofs::Showing::shown_said))]
 fn move_taken<C: Console>(
     game: &Game,
     state: &mut State,

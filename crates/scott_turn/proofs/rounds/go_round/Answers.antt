@@ -1,36 +1,78 @@
-use Rattle.std.proofs.Common.{refl, sym}
+use Rattle.std.proofs.Common.{◌≡◌, ◌<◌, refl, sym, arith}
 use Rattle.std.proofs.lemmas.Result.{err_from_is_err_and}
+use Rattle.adv_io.proofs.Sayings.{cause_again, cause_fails, cause_then}
 use Rattle.scott_turn.proofs.Playing.{round_stops, round_fails, round_waits, round_goes, round_breaks}
 use Rattle.scott_turn.proofs.rounds.go_round.Goals as goal
 
-pub returns-in_err-reached-clause-as_rules : goal.returns-in_err-reached-clause-as_rules
-returns-in_err-reached-clause-as_rules g c =
+pub returns-in_err-reached : goal.returns-in_err-reached
+returns-in_err-reached g c =
     let seen = g.C.Console.seen in
     let p = err_from_is_err_and c.from_residual.result c.from_residual.ensures.1 in
-    rw (p.1)
-    (round_fails (seen c.args.console.now) (seen c.advance.new.console) ((seen c.args.console.now).left) c.args.game.now c.args.position c.args.state.now c.advance.new.state c.args.draws.now.left c.advance.new.draws.left p.0
-    c.in_err-reached.ensures.spoken)
+    record {
+      as_rules = rw (p.1)
+          (round_fails (seen c.args.console.now) (seen c.advance.new.console) ((seen c.args.console.now).left) c.args.game.now c.args.position c.args.state.now c.advance.new.state c.args.draws.now.left c.advance.new.draws.left p.0
+          c.in_err-reached.ensures.spoken);
+      falls = rw (p.1) tt;
+      bounded = c.in_err-reached.ensures.spoken.bounded;
+      cause = rw (p.1) (cause_fails p.0 c.in_err-reached.ensures.spoken.cause);
+      taken = c.advance.ensures.taken;
+      fits = c.advance.ensures.fits;
+      ends = rw (p.1) tt;
+    }
 
-pub returns-then-not-is_prompt-clause-as_rules : goal.returns-then-not-is_prompt-clause-as_rules
-returns-then-not-is_prompt-clause-as_rules g c =
+pub returns-then-not-is_prompt : goal.returns-then-not-is_prompt
+returns-then-not-is_prompt g c =
     let seen = g.C.Console.seen in
-    round_stops (seen c.args.console.now) (seen c.advance.new.console) ((seen c.args.console.now).left) c.args.game.now c.args.position c.in_ok-reached.reached c.args.state.now c.advance.new.state c.args.draws.now.left c.advance.new.draws.left refl
-    c.in_ok-reached.ensures.spoken c.in_ok-reached.ensures.left (sym c.if-not-is_prompt.ensures)
+    record {
+      as_rules = round_stops (seen c.args.console.now) (seen c.advance.new.console) ((seen c.args.console.now).left) c.args.game.now c.args.position c.in_ok-reached.reached c.args.state.now c.advance.new.state c.args.draws.now.left c.advance.new.draws.left refl
+          c.in_ok-reached.ensures.spoken c.in_ok-reached.ensures.left (sym c.if-not-is_prompt.ensures);
+      falls = λ goes. absurd cc;
+      bounded = c.in_ok-reached.ensures.spoken.bounded;
+      cause = cause_again _ c.in_ok-reached.ensures.spoken.cause;
+      taken = c.advance.ensures.taken;
+      fits = c.advance.ensures.fits;
+      ends = rw c.in_ok-reached.ensures.left at (c.advance_ends_well.ensures c.args.game.now c.args.position c.args.state.now c.args.draws.now.left c.requires.ends);
+    }
 
-pub returns-in-Ok-None-clause-as_rules : goal.returns-in-Ok-None-clause-as_rules
-returns-in-Ok-None-clause-as_rules g c =
+pub returns-in-Ok-None : goal.returns-in-Ok-None
+returns-in-Ok-None g c =
     let seen = g.C.Console.seen in
-    round_waits (seen c.args.console.now) (seen c.advance.new.console) (seen c.answer_next.new.console) ((seen c.args.console.now).left) c.args.game.now c.args.position c.in_ok-reached.reached c.args.state.now c.advance.new.state c.answer_next.new.state c.args.draws.now.left c.advance.new.draws.left refl
-    c.in_ok-reached.ensures.spoken c.in_ok-reached.ensures.left (rw c.in-Ok-None.field-0-is at c.in-Ok-None.ensures.as_rules)
+    record {
+      as_rules = round_waits (seen c.args.console.now) (seen c.advance.new.console) (seen c.answer_next.new.console) ((seen c.args.console.now).left) c.args.game.now c.args.position c.in_ok-reached.reached c.args.state.now c.advance.new.state c.answer_next.new.state c.args.draws.now.left c.advance.new.draws.left refl
+          c.in_ok-reached.ensures.spoken c.in_ok-reached.ensures.left (rw c.in-Ok-None.field-0-is at c.in-Ok-None.ensures.as_rules);
+      falls = λ goes. absurd cc;
+      bounded = omega (arith, c.in_ok-reached.ensures.spoken.bounded, c.answer_next.ensures.bounded);
+      cause = cause_then c.in_ok-reached.ensures.spoken.cause (cause_again _ c.in-Ok-None.ensures.cause);
+      taken = c.advance.ensures.taken;
+      fits = c.answer_next.ensures.fits;
+      ends = rw c.in_ok-reached.ensures.left at (c.advance_ends_well.ensures c.args.game.now c.args.position c.args.state.now c.args.draws.now.left c.requires.ends);
+    }
 
-pub returns-in-Ok-Some-clause-as_rules : goal.returns-in-Ok-Some-clause-as_rules
-returns-in-Ok-Some-clause-as_rules g c =
+pub returns-in-Ok-Some : goal.returns-in-Ok-Some
+returns-in-Ok-Some g c =
     let seen = g.C.Console.seen in
-    round_goes (seen c.args.console.now) (seen c.advance.new.console) (seen c.answer_next.new.console) ((seen c.args.console.now).left) c.args.game.now c.args.position c.in_ok-reached.reached c.in-Ok-Some.position c.args.state.now c.advance.new.state c.answer_next.new.state c.args.draws.now.left c.advance.new.draws.left refl
-    c.in_ok-reached.ensures.spoken c.in_ok-reached.ensures.left (sym c.if-not-is_prompt.ensures) (rw c.in-Ok-Some.field-0-is at c.in-Ok-Some.ensures.as_rules)
+    let less : (seen c.answer_next.new.console).bound < (seen c.advance.new.console).bound = rw c.in-Ok-Some.field-0-is at c.in-Ok-Some.ensures.falls in
+    record {
+      as_rules = round_goes (seen c.args.console.now) (seen c.advance.new.console) (seen c.answer_next.new.console) ((seen c.args.console.now).left) c.args.game.now c.args.position c.in_ok-reached.reached c.in-Ok-Some.position c.args.state.now c.advance.new.state c.answer_next.new.state c.args.draws.now.left c.advance.new.draws.left refl
+          c.in_ok-reached.ensures.spoken c.in_ok-reached.ensures.left (sym c.if-not-is_prompt.ensures) (rw c.in-Ok-Some.field-0-is at c.in-Ok-Some.ensures.as_rules);
+      falls = λ _. omega (arith, c.in_ok-reached.ensures.spoken.bounded);
+      bounded = omega (arith, c.in_ok-reached.ensures.spoken.bounded);
+      cause = cause_then c.in_ok-reached.ensures.spoken.cause (cause_again _ c.in-Ok-Some.ensures.cause);
+      taken = c.advance.ensures.taken;
+      fits = c.answer_next.ensures.fits;
+      ends = rw c.in-Ok-Some.field-0-is at c.in-Ok-Some.ensures.ends;
+    }
 
-pub returns-in-Err-clause-as_rules : goal.returns-in-Err-clause-as_rules
-returns-in-Err-clause-as_rules g c =
+pub returns-in-Err : goal.returns-in-Err
+returns-in-Err g c =
     let seen = g.C.Console.seen in
-    round_breaks (seen c.args.console.now) (seen c.advance.new.console) (seen c.answer_next.new.console) ((seen c.args.console.now).left) c.args.game.now c.args.position c.in_ok-reached.reached c.args.state.now c.advance.new.state c.answer_next.new.state c.args.draws.now.left c.advance.new.draws.left c.in-Err.fault c.in-Err.fault refl
-    c.in_ok-reached.ensures.spoken c.in_ok-reached.ensures.left (sym c.if-not-is_prompt.ensures) c.in-Err.ensures.as_rules
+    record {
+      as_rules = round_breaks (seen c.args.console.now) (seen c.advance.new.console) (seen c.answer_next.new.console) ((seen c.args.console.now).left) c.args.game.now c.args.position c.in_ok-reached.reached c.args.state.now c.advance.new.state c.answer_next.new.state c.args.draws.now.left c.advance.new.draws.left c.in-Err.fault c.in-Err.fault refl
+          c.in_ok-reached.ensures.spoken c.in_ok-reached.ensures.left (sym c.if-not-is_prompt.ensures) c.in-Err.ensures.as_rules;
+      falls = tt;
+      bounded = omega (arith, c.in_ok-reached.ensures.spoken.bounded, c.answer_next.ensures.bounded);
+      cause = cause_then c.in_ok-reached.ensures.spoken.cause (cause_fails _ c.in-Err.ensures.cause);
+      taken = c.advance.ensures.taken;
+      fits = c.answer_next.ensures.fits;
+      ends = tt;
+    }
