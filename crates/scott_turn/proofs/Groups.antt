@@ -1,5 +1,5 @@
 -- Groups and tails by the numbers of their lines.
-use Rattle.std.proofs.Common.{◌≡◌, ◌∙◌, ℕ, ◌+◌, ◌≤◌, ◌<◌, List, [], Option, None, Some, ◌∷◌, Bool, true, false, cond, not, length, drop, refl, sym, ap, arith, add-one, drop-cons}
+use Rattle.std.proofs.Common.{◌≡◌, ◌≢◌, ◌∙◌, ℕ, ◌+◌, ◌-◌, ◌≤◌, ◌<◌, List, [], Option, None, Some, ◌∷◌, Bool, true, false, cond, not, length, drop, refl, sym, ap, arith, add-one, drop-cons}
 use Rattle.std.proofs.lemmas.List.{drop_all}
 use Rattle.std.specs.Prelude.{◌==◌, ◌&&◌, filter}
 use Rattle.scott_types.specs.declared.parts.Action.{Action}
@@ -58,6 +58,10 @@ groups_for-end db verb line past = ap (λ lines. filter (has_verb verb) (groups_
 pub verb_of_head : (verb : ℕ) (a : Action) → is_head_of verb a ≡ true → verb_of a.vocab ≡ verb
 verb_of_head verb a test = grind (arith, test)
 
+-- and its vocabulary isn't 0
+pub vocab_of_head : (verb : ℕ) (a : Action) → is_head_of verb a ≡ true → a.vocab ≢ 0
+vocab_of_head verb a test = grind (arith, test)
+
 -- ---- a walk over the heads of a verb
 
 -- a head where a walk stands comes next there
@@ -78,3 +82,8 @@ groups_for-found db verb line (Some head) comes = comes.first ∙ sym (groups_fo
 pub head_found : (db : Database) (verb line : ℕ) (found : Option ℕ) → IsFirst db verb line found → IsHead db verb found
 head_found db verb line None none = tt
 head_found db verb line (Some head) comes = (comes.there, comes.is_head)
+
+-- after each head fewer lines are left
+pub fewer_lines : (db : Database) (verb head : ℕ) (found : Option ℕ) → head < length db.actions → IsFirst db verb (head + 1) found → length db.actions - line_of db found < length db.actions - head
+fewer_lines db verb head None there none = omega arith
+fewer_lines db verb head (Some next) there comes = omega (arith, comes.from, comes.there)

@@ -1,4 +1,4 @@
-use Rattle.std.proofs.Common.{◌≡◌, ◌++◌}
+use Rattle.std.proofs.Common.{◌≡◌, ◌∙◌, ◌++◌, sym}
 use Rattle.scott_types.specs.declared.commands.Heard.TheVariants.{Blank, Unknown}
 use Rattle.scott_types.specs.declared.phrases.Phrase.TheVariants.{Prompt}
 use Rattle.scott_types.specs.Phrase.{text_of}
@@ -9,12 +9,12 @@ use Rattle.scott_turn.proofs.answering.answer.Goals as goal
 
 pub returns-in-Blank-clause-spoken : goal.returns-in-Blank-clause-spoken
 returns-in-Blank-clause-spoken g c =
-    let blank : heard c.args.game.now.db c.args.line.now ≡ Blank = cc in
+    let blank : heard c.args.game.now.db c.args.line.now ≡ Blank = sym c.command.ensures.value ∙ c.in-Blank.is in
     rw (blank, shown_said (text_of Prompt)) c.ask_again.ensures.spoken
 
 pub returns-in-Unknown-clause-spoken : goal.returns-in-Unknown-clause-spoken
 returns-in-Unknown-clause-spoken g c =
     let start = c.in-Unknown.start in
     let size = c.in-Unknown.length in
-    let unknown : heard c.args.game.now.db c.args.line.now ≡ Unknown start size = cc in
+    let unknown : heard c.args.game.now.db c.args.line.now ≡ Unknown start size = sym c.command.ensures.value ∙ c.in-Unknown.is in
     rw (unknown, shown_said (unknown_word (word_at c.args.line.now (start, size)) ++ text_of Prompt)) (rw c.word_at.ensures at c.refuse_word.ensures.spoken)

@@ -1,12 +1,13 @@
-use Rattle.std.proofs.Common.{◌∙◌, ◌+◌, refl, sym, ap, arith}
+use Rattle.std.proofs.Common.{◌∙◌, ◌+◌, refl, sym, ap}
+use Rattle.scott_types.specs.Action.{verb_of}
 use Rattle.scott_types.specs.Database.{action_at}
 use Rattle.std.proofs.lemmas.Result.{err_from_is_err_and}
 use Rattle.adv_io.specs.Steps.{after}
 use Rattle.scott_rules.specs.Groups.{automatic}
 use Rattle.scott_turn.specs.Heads.{group_at, groups_for, line_of, IsFirst}
 use Rattle.scott_turn.specs.Turns.{auto_turn}
-use Rattle.adv_io.proofs.Along.{along_start, along_step, along_end, along_stop}
-use Rattle.scott_turn.proofs.Groups.{verb_of_head, comes_here, head_found, groups_for-found}
+use Rattle.adv_io.proofs.Along.{along_start, along_step, along_end, along_stop, along_value}
+use Rattle.scott_turn.proofs.Groups.{verb_of_head, vocab_of_head, comes_here, head_found, groups_for-found, fewer_lines}
 use Rattle.scott_turn.proofs.Turning.{automatic-for, automatic-on, automatic-stop, automatic-prefix, after_halt}
 use Rattle.scott_turn.proofs.automatic.automatic.Goals as goal
 
@@ -20,26 +21,55 @@ loop-next-init g c =
       along = rw (automatic-for game c.args.from c.args.state.now c.args.draws.now.left, groups_for-found game.db 0 c.args.from c.first_head-next.result c.first_head-next.ensures) (along_start _ _);
     }
 
-pub returns-in_err-halt-clause-spoken : goal.returns-in_err-halt-clause-spoken
-returns-in_err-halt-clause-spoken g c =
+pub auto_turn-requires : goal.auto_turn-requires
+auto_turn-requires g c = record {
+  fits = c.loop-next.invariant.fits;
+  there = (rw c.in-Some.is at c.loop-next.invariant.at_head).0;
+}
+
+pub returns-in_err-halt : goal.returns-in_err-halt
+returns-in_err-halt g c =
     let game = c.args.game.now in
     let head = c.in-Some.head in
     let t = auto_turn game (group_at game.db head) c.loop-next.state c.loop-next.draws.left in
     let p = err_from_is_err_and c.from_residual.result c.from_residual.ensures.1 in
     let comes = comes_here game.db 0 head (rw c.in-Some.is at c.loop-next.invariant.at_head) in
-    rw (p.1)
-    (along_stop p.0 t.events (after_halt t.value.halt t (automatic game (groups_for game.db 0 (head + 1)))) (rw c.in-Some.is at c.loop-next.invariant.along)
-    (automatic-prefix game head head c.loop-next.state c.loop-next.draws.left comes)
-    c.in_err-halt.ensures.spoken)
+    record {
+      spoken = rw (p.1)
+          (along_stop p.0 t.events (after_halt t.value.halt t (automatic game (groups_for game.db 0 (head + 1)))) (rw c.in-Some.is at c.loop-next.invariant.along)
+          (automatic-prefix game head head c.loop-next.state c.loop-next.draws.left comes)
+          c.in_err-halt.ensures.spoken);
+      left = rw (p.1) tt;
+      taken = c.auto_turn.ensures.taken ∙ c.loop-next.invariant.taken;
+      fits = c.auto_turn.ensures.fits;
+    }
 
-pub returns-then-not-goes_on-clause-spoken : goal.returns-then-not-goes_on-clause-spoken
-returns-then-not-goes_on-clause-spoken g c =
+pub returns-then-not-goes_on : goal.returns-then-not-goes_on
+returns-then-not-goes_on g c =
     let game = c.args.game.now in
     let head = c.in-Some.head in
     let comes = comes_here game.db 0 head (rw c.in-Some.is at c.loop-next.invariant.at_head) in
-    along_end (auto_turn game (group_at game.db head) c.loop-next.state c.loop-next.draws.left).events (rw c.in-Some.is at c.loop-next.invariant.along)
-    (ap (λ w. w.events) (automatic-stop game head head c.loop-next.state c.loop-next.draws.left comes c.in_ok-halt.halt c.in_ok-halt.ensures.halt (sym c.if-not-goes_on.ensures)))
-    c.in_ok-halt.ensures.spoken
+    let stop = automatic-stop game head head c.loop-next.state c.loop-next.draws.left comes c.in_ok-halt.halt c.in_ok-halt.ensures.halt (sym c.if-not-goes_on.ensures) in
+    record {
+      spoken = along_end (auto_turn game (group_at game.db head) c.loop-next.state c.loop-next.draws.left).events (rw c.in-Some.is at c.loop-next.invariant.along)
+          (ap (λ w. w.events) stop) c.in_ok-halt.ensures.spoken;
+      left = along_value (rw c.in-Some.is at c.loop-next.invariant.along) ∙ ap (λ w. w.value) stop
+          ∙ rw (c.in_ok-halt.ensures.state, c.in_ok-halt.ensures.draws, c.in_ok-halt.ensures.halt) refl;
+      taken = c.auto_turn.ensures.taken ∙ c.loop-next.invariant.taken;
+      fits = c.auto_turn.ensures.fits;
+    }
+
+pub head_after-next-requires : goal.head_after-next-requires
+head_after-next-requires g c =
+    let at = rw c.in-Some.is at c.loop-next.invariant.at_head in
+    record { there = at.0; head = vocab_of_head 0 (action_at c.args.game.now.db c.in-Some.head) (at.1) }
+
+pub loop-next-smaller : goal.loop-next-smaller
+loop-next-smaller g c =
+    let db = c.args.game.now.db in
+    let head = c.in-Some.head in
+    rw c.in-Some.is
+    (fewer_lines db (verb_of (action_at db head).vocab) head c.head_after-next.result ((rw c.in-Some.is at c.loop-next.invariant.at_head).0) c.head_after-next.ensures)
 
 pub loop-next-preserved : goal.loop-next-preserved
 loop-next-preserved g c =
@@ -51,7 +81,7 @@ loop-next-preserved g c =
     record {
       at_head = head_found game.db 0 (head + 1) c.head_after-next.result rest;
       fits = c.auto_turn.ensures.fits;
-      taken = omega (arith, c.loop-next.invariant.taken, c.auto_turn.ensures.taken);
+      taken = c.auto_turn.ensures.taken ∙ c.loop-next.invariant.taken;
       along = along_step t.events (automatic game (groups_for game.db 0 (line_of game.db c.head_after-next.result)) c.auto_turn.new.state c.auto_turn.new.draws.left) (rw c.in-Some.is at c.loop-next.invariant.along)
           (automatic-on game head head c.loop-next.state c.loop-next.draws.left comes c.in_ok-halt.halt c.in_ok-halt.ensures.halt (sym c.if-not-goes_on.ensures)
           c.auto_turn.new.state c.in_ok-halt.ensures.state c.auto_turn.new.draws.left c.in_ok-halt.ensures.draws

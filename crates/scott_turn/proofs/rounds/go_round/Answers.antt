@@ -1,4 +1,5 @@
 use Rattle.std.proofs.Common.{◌≡◌, ◌<◌, refl, sym, arith}
+use Rattle.std.proofs.lemmas.Bool.{false≢true}
 use Rattle.std.proofs.lemmas.Result.{err_from_is_err_and}
 use Rattle.adv_io.proofs.Sayings.{cause_again, cause_fails, cause_then}
 use Rattle.scott_turn.proofs.Playing.{round_stops, round_fails, round_waits, round_goes, round_breaks}
@@ -26,7 +27,7 @@ returns-then-not-is_prompt g c =
     record {
       as_rules = round_stops (seen c.args.console.now) (seen c.advance.new.console) ((seen c.args.console.now).left) c.args.game.now c.args.position c.in_ok-reached.reached c.args.state.now c.advance.new.state c.args.draws.now.left c.advance.new.draws.left refl
           c.in_ok-reached.ensures.spoken c.in_ok-reached.ensures.left (sym c.if-not-is_prompt.ensures);
-      falls = λ goes. absurd cc;
+      falls = λ goes. absurd (false≢true (sym goes));
       bounded = c.in_ok-reached.ensures.spoken.bounded;
       cause = cause_again _ c.in_ok-reached.ensures.spoken.cause;
       taken = c.advance.ensures.taken;
@@ -40,7 +41,7 @@ returns-in-Ok-None g c =
     record {
       as_rules = round_waits (seen c.args.console.now) (seen c.advance.new.console) (seen c.answer_next.new.console) ((seen c.args.console.now).left) c.args.game.now c.args.position c.in_ok-reached.reached c.args.state.now c.advance.new.state c.answer_next.new.state c.args.draws.now.left c.advance.new.draws.left refl
           c.in_ok-reached.ensures.spoken c.in_ok-reached.ensures.left (rw c.in-Ok-None.field-0-is at c.in-Ok-None.ensures.as_rules);
-      falls = λ goes. absurd cc;
+      falls = λ goes. absurd (false≢true (sym goes));
       bounded = omega (arith, c.in_ok-reached.ensures.spoken.bounded, c.answer_next.ensures.bounded);
       cause = cause_then c.in_ok-reached.ensures.spoken.cause (cause_again _ c.in-Ok-None.ensures.cause);
       taken = c.advance.ensures.taken;

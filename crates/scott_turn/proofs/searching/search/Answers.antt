@@ -1,4 +1,5 @@
 use Rattle.std.proofs.Common.{◌∙◌, ◌+◌, refl, sym, ap}
+use Rattle.scott_types.specs.Action.{verb_of}
 use Rattle.scott_types.specs.Database.{action_at}
 use Rattle.std.proofs.lemmas.Result.{err_from_is_err_and}
 use Rattle.adv_io.specs.Steps.{after}
@@ -6,7 +7,7 @@ use Rattle.scott_rules.specs.Search.{is_for_noun, search_result}
 use Rattle.scott_turn.specs.Heads.{group_at, groups_for, line_of, IsFirst}
 use Rattle.scott_turn.specs.Turns.{search_turn, at_least, with_before}
 use Rattle.adv_io.proofs.Along.{along_start, along_step, along_end, along_stop, along_value}
-use Rattle.scott_turn.proofs.Groups.{verb_of_head, comes_here, head_found, groups_for-found}
+use Rattle.scott_turn.proofs.Groups.{verb_of_head, vocab_of_head, comes_here, head_found, groups_for-found, fewer_lines}
 use Rattle.scott_turn.proofs.Turning.{search_result-for, search_result-on, search_result-end, search_result-prefix, at_least-begun, after_turn, noun_at}
 use Rattle.scott_turn.proofs.searching.search.Goals as goal
 
@@ -57,6 +58,24 @@ returns-then-ends_search-clause-left g c =
     along_value (rw c.in-Some.is at c.loop-next.invariant.along)
     ∙ ap (λ w. w.value) (search_result-end game c.args.typed.now verb noun head head c.loop-next.state comes c.in_ok-found.found c.loop-next.before c.in_ok-found.ensures.found (sym c.if-ends_search.ensures))
     ∙ rw (c.in_ok-found.ensures.state, c.in_ok-found.ensures.found) refl
+
+pub search_turn-requires : goal.search_turn-requires
+search_turn-requires g c = record {
+  fits = c.loop-next.invariant.fits;
+  there = (rw c.in-Some.is at c.loop-next.invariant.at_head).0;
+}
+
+pub head_after-next-requires : goal.head_after-next-requires
+head_after-next-requires g c =
+    let at = rw c.in-Some.is at c.loop-next.invariant.at_head in
+    record { there = at.0; head = vocab_of_head c.args.command.verb (action_at c.args.game.now.db c.in-Some.head) (at.1) }
+
+pub loop-next-smaller : goal.loop-next-smaller
+loop-next-smaller g c =
+    let db = c.args.game.now.db in
+    let head = c.in-Some.head in
+    rw c.in-Some.is
+    (fewer_lines db (verb_of (action_at db head).vocab) head c.head_after-next.result ((rw c.in-Some.is at c.loop-next.invariant.at_head).0) c.head_after-next.ensures)
 
 pub loop-next-preserved : goal.loop-next-preserved
 loop-next-preserved g c =

@@ -1,9 +1,33 @@
-use Rattle.scott_turn.proofs.SessionViews.{plays_ok}
+use Rattle.std.proofs.Common.{true, refl}
+use Rattle.adv_io.proofs.Sayings.{cause_again, cause_fails}
+use Rattle.scott_turn.proofs.SessionViews.{plays_ok, plays_err, goes_on_ok, ending_known}
 use Rattle.scott_turn.proofs.sessions.Session.play.Goals as goal
 
-pub returns-in-Ok-clause-plays : goal.returns-in-Ok-clause-plays
-returns-in-Ok-clause-plays g c =
+pub returns-in-Ok : goal.returns-in-Ok
+returns-in-Ok g c =
     let seen = g.C.Console.seen in
+    let s = c.self.inside in
+    record {
+      plays = rw (← c.self.view_is)
+          (plays_ok (seen c.args.console.now) (seen c.play_on.new.console) s.game s.position s.state c.args.draws.now c.play_on.new.draws c.play_on.new.state
+          ((seen c.args.console.now).left) c.in-Ok.position c.ending_of.result s.broken c.play_spends.ensures c.in-Ok.ensures.taken c.ending_of.ensures c.in-Ok.ensures.as_rules);
+      goes_on = rw (← c.self.view_is)
+          (goes_on_ok (seen c.args.console.now) (seen c.play_on.new.console) s.game s.position s.state c.args.draws.now c.play_on.new.draws c.play_on.new.state
+          ((seen c.args.console.now).left) c.in-Ok.position c.ending_of.result s.broken s.broken c.play_splits.ensures c.in-Ok.ensures.as_rules);
+      bounded = c.play_on.ensures.bounded;
+      cause = cause_again _ c.in-Ok.ensures.cause;
+      game = rw (← c.self.view_is) refl;
+      breaks = (λ _. rw (← c.self.view_is) at c.requires, λ _. refl);
+      three = rw (c.ending_of.ensures) (ending_known c.in-Ok.position c.in-Ok.ensures.ends);
+    }
+
+pub returns-in-Err-clause-plays : goal.returns-in-Err-clause-plays
+returns-in-Err-clause-plays g c =
+    let seen = g.C.Console.seen in
+    let s = c.self.inside in
     rw (← c.self.view_is)
-    (plays_ok (seen c.args.console.now) (seen c.play_on.new.console) c.self.inside.game c.self.inside.position c.self.inside.state c.args.draws.now c.play_on.new.draws c.play_on.new.state
-    ((seen c.args.console.now).left) c.in-Ok.position c.ending_of.result c.self.inside.broken c.play_spends.ensures c.in-Ok.ensures.taken c.ending_of.ensures c.in-Ok.ensures.as_rules)
+    (plays_err (seen c.args.console.now) (seen c.play_on.new.console) s.game s.position s.state c.args.draws.now c.play_on.new.draws c.play_on.new.state
+    ((seen c.args.console.now).left) s.position true c.in-Err.fault c.in-Err.fault c.in-Err.ensures.as_rules)
+
+pub returns-in-Err-clause-cause : goal.returns-in-Err-clause-cause
+returns-in-Err-clause-cause g c = cause_fails _ c.in-Err.ensures.cause
