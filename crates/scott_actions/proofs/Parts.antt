@@ -9,7 +9,7 @@ use Rattle.adv_io.proofs.Sayings.{cause_fails, speaks_then, speaks_stop}
 use Rattle.scott_types.specs.declared.states.State.{State}
 use Rattle.scott_types.specs.Style.{Game}
 use Rattle.scott_types.specs.Opcode.{opcode_of}
-use Rattle.adv_io.specs.Steps.{Traced}
+use Rattle.adv_io.specs.Steps.{Traced, after}
 use Rattle.scott_rules.specs.Outcomes.{Outcome, and_then, then_if_on}
 use Rattle.scott_rules.specs.Opcodes.{op, takes, run_opcodes}
 
@@ -22,6 +22,14 @@ run_opcodes-first game noun [] params s h = absurd (omega arith)
 run_opcodes-first game noun (number ∷ others) params s h =
     let all : take (length (number ∷ others) - 1) others ≡ others = take_all (length (number ∷ others) - 1) others (omega arith) in
     ap (λ ns. and_then (op game noun (opcode_of number) params s) (run_opcodes game noun (map opcode_of ns) (drop (takes game.db s (opcode_of number)) params))) (sym all)
+
+-- after a part that doesn't end the game comes the next one
+pub and_then-on : (t : Traced ℕ Outcome) (next : State → Traced ℕ Outcome) → t.value.over ≡ None → and_then t next ≡ after t.events (next t.value.state)
+and_then-on t next on = ap (λ over. then_if_on over t next) on
+
+-- a part that ends the game is the whole
+pub and_then-over : (t : Traced ℕ Outcome) (next : State → Traced ℕ Outcome) {ending : ℕ} → t.value.over ≡ Some ending → and_then t next ≡ t
+and_then-over t next ended = ap (λ over. then_if_on over t next) ended
 
 -- a part that failed, whatever was to come after it
 pub part_stop : {T U D E : Type 0} {old new : ConsoleView} {d : D} (e : E) (over : Option ℕ) (t : Traced ℕ Outcome) (next : State → Traced ℕ Outcome)
