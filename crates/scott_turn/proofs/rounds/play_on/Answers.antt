@@ -1,24 +1,39 @@
-use Rattle.std.proofs.Common.{refl, arith, rules}
+use Rattle.std.proofs.Common.{◌∙◌, refl, arith}
 use Rattle.std.proofs.lemmas.Result.{err_from_is_err_and}
+use Rattle.adv_io.proofs.Sayings.{cause_again, cause_fails}
 use Rattle.scott_rules.specs.Play.{go}
 use Rattle.scott_turn.proofs.Playing.{ahead_start, ahead_step, ahead_end, ahead_fail}
 use Rattle.scott_turn.proofs.rounds.play_on.Goals as goal
 
-pub returns-in_err-round-clause-as_rules : goal.returns-in_err-round-clause-as_rules
-returns-in_err-round-clause-as_rules g c =
+pub returns-in_err-round : goal.returns-in_err-round
+returns-in_err-round g c =
     let seen = g.C.Console.seen in
     let p = err_from_is_err_and c.from_residual.result c.from_residual.ensures.1 in
-    rw (p.1)
-    (ahead_fail (seen c.args.console.now) (seen c.loop-round.console) (seen c.go_round.new.console)
-    (λ lines. go c.args.game.now c.args.position c.args.state.now lines c.args.draws.now.left) c.args.game.now c.loop-round.position c.loop-round.state c.loop-round.draws.left
-    ((seen c.args.console.now).left) c.in_err-round.field-0.0 p.0 c.go_round.new.state c.go_round.new.draws.left c.loop-round.invariant.ahead c.in_err-round.ensures.as_rules)
+    record {
+      as_rules = rw (p.1)
+          (ahead_fail (seen c.args.console.now) (seen c.loop-round.console) (seen c.go_round.new.console)
+          (λ lines. go c.args.game.now c.args.position c.args.state.now lines c.args.draws.now.left) c.args.game.now c.loop-round.position c.loop-round.state c.loop-round.draws.left
+          ((seen c.args.console.now).left) c.in_err-round.field-0.0 p.0 c.go_round.new.state c.go_round.new.draws.left c.loop-round.invariant.ahead c.in_err-round.ensures.as_rules);
+      bounded = omega (arith, c.loop-round.invariant.bounded, c.go_round.ensures.bounded);
+      cause = rw (p.1) (cause_fails p.0 (rw c.loop-round.invariant.steady at c.in_err-round.ensures.cause));
+      taken = c.go_round.ensures.taken ∙ c.loop-round.invariant.taken;
+      fits = c.go_round.ensures.fits;
+      ends = rw (p.1) tt;
+    }
 
-pub returns-then-round-clause-as_rules : goal.returns-then-round-clause-as_rules
-returns-then-round-clause-as_rules g c =
+pub returns-then-round : goal.returns-then-round
+returns-then-round g c =
     let seen = g.C.Console.seen in
-    ahead_end (seen c.args.console.now) (seen c.loop-round.console) (seen c.go_round.new.console)
-    (λ lines. go c.args.game.now c.args.position c.args.state.now lines c.args.draws.now.left) c.args.game.now c.loop-round.position c.loop-round.state c.loop-round.draws.left
-    ((seen c.args.console.now).left) c.in_ok-round.round c.go_round.new.state c.go_round.new.draws.left c.if-round.true c.loop-round.invariant.ahead c.in_ok-round.ensures.as_rules
+    record {
+      as_rules = ahead_end (seen c.args.console.now) (seen c.loop-round.console) (seen c.go_round.new.console)
+          (λ lines. go c.args.game.now c.args.position c.args.state.now lines c.args.draws.now.left) c.args.game.now c.loop-round.position c.loop-round.state c.loop-round.draws.left
+          ((seen c.args.console.now).left) c.in_ok-round.round c.go_round.new.state c.go_round.new.draws.left c.if-round.true c.loop-round.invariant.ahead c.in_ok-round.ensures.as_rules;
+      bounded = omega (arith, c.loop-round.invariant.bounded, c.go_round.ensures.bounded);
+      cause = cause_again _ (rw c.loop-round.invariant.steady at c.in_ok-round.ensures.cause);
+      taken = c.go_round.ensures.taken ∙ c.loop-round.invariant.taken;
+      fits = c.go_round.ensures.fits;
+      ends = c.in_ok-round.ensures.ends;
+    }
 
 pub loop-round-preserved : goal.loop-round-preserved
 loop-round-preserved g c =
@@ -26,9 +41,9 @@ loop-round-preserved g c =
     record {
       fits = c.go_round.ensures.fits;
       ends = c.in_ok-round.ensures.ends;
-      taken = omega (arith, c.loop-round.invariant.taken, c.go_round.ensures.taken);
+      taken = c.go_round.ensures.taken ∙ c.loop-round.invariant.taken;
       bounded = omega (arith, c.loop-round.invariant.bounded, c.go_round.ensures.bounded);
-      steady = search rules;
+      steady = c.in_ok-round.ensures.cause.steady ∙ c.loop-round.invariant.steady;
       ahead = ahead_step (seen c.args.console.now) (seen c.loop-round.console) (seen c.go_round.new.console)
           (λ lines. go c.args.game.now c.args.position c.args.state.now lines c.args.draws.now.left) c.args.game.now c.loop-round.position c.loop-round.state c.loop-round.draws.left
           ((seen c.args.console.now).left) c.in_ok-round.round c.go_round.new.state c.go_round.new.draws.left c.if-round.false c.loop-round.invariant.ahead c.in_ok-round.ensures.as_rules;

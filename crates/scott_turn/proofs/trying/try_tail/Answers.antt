@@ -1,33 +1,43 @@
-use Rattle.std.proofs.Common.{◌+◌, sym, ap, arith}
+use Rattle.std.proofs.Common.{◌∙◌, ◌+◌, sym, ap, arith}
 use Rattle.std.proofs.lemmas.Result.{err_from_is_err_and}
 use Rattle.scott_rules.specs.Groups.{tail_action, tail_tried}
 use Rattle.scott_turn.specs.Heads.{tail_from}
 use Rattle.scott_turn.proofs.Showing.{after_part}
-use Rattle.adv_io.proofs.Along.{along_step, along_end, along_stop}
+use Rattle.adv_io.proofs.Along.{along_step, along_end, along_stop, along_value}
 use Rattle.scott_turn.proofs.Tries.{tail-on, tail-over, tail-prefix}
 use Rattle.scott_turn.proofs.trying.try_tail.Goals as goal
 
-pub returns-in_err-over-clause-spoken : goal.returns-in_err-over-clause-spoken
-returns-in_err-over-clause-spoken g c =
+pub returns-in_err-over : goal.returns-in_err-over
+returns-in_err-over g c =
     let game = c.args.game.now in
     let noun = c.args.noun.now in
     let line = c.loop-state.line in
     let t = tail_action game noun line c.loop-state.state in
     let p = err_from_is_err_and c.from_residual.result c.from_residual.ensures.1 in
-    rw (p.1)
-    (along_stop p.0 t.events (after_part t.value.over t (tail_tried game noun (tail_from game.db (line + 1)))) c.loop-state.invariant.along
-    (tail-prefix game noun line c.loop-state.state (rw c.db-in-loop-state.ensures at c.loop-state-test.ensures.1))
-    c.in_err-over.ensures.spoken)
+    record {
+      spoken = rw (p.1)
+          (along_stop p.0 t.events (after_part t.value.over t (tail_tried game noun (tail_from game.db (line + 1)))) c.loop-state.invariant.along
+          (tail-prefix game noun line c.loop-state.state (rw c.db-in-loop-state.ensures at c.loop-state-test.ensures.1))
+          c.in_err-over.ensures.spoken);
+      state = rw (p.1) tt;
+      over = rw (p.1) tt;
+      fits = c.try_tail_action.ensures.fits;
+    }
 
-pub returns-then-is_some-clause-spoken : goal.returns-then-is_some-clause-spoken
-returns-then-is_some-clause-spoken g c =
+pub returns-then-is_some : goal.returns-then-is_some
+returns-then-is_some g c =
     let game = c.args.game.now in
     let noun = c.args.noun.now in
     let line = c.loop-state.line in
     let t = tail_action game noun line c.loop-state.state in
-    along_end t.events c.loop-state.invariant.along
-    (ap (λ w. w.events) (tail-over game noun line c.loop-state.state c.in_ok-over.over c.in_ok-over.ensures.over (rw c.db-in-loop-state.ensures at c.loop-state-test.ensures.1) (sym c.if-is_some.ensures)))
-    c.in_ok-over.ensures.spoken
+    let last = tail-over game noun line c.loop-state.state c.in_ok-over.over c.in_ok-over.ensures.over (rw c.db-in-loop-state.ensures at c.loop-state-test.ensures.1) (sym c.if-is_some.ensures) in
+    let whole = along_value c.loop-state.invariant.along ∙ ap (λ w. w.value) last in
+    record {
+      spoken = along_end t.events c.loop-state.invariant.along (ap (λ w. w.events) last) c.in_ok-over.ensures.spoken;
+      state = c.in_ok-over.ensures.state ∙ sym (ap (λ v. v.state) whole);
+      over = c.in_ok-over.ensures.over ∙ sym (ap (λ v. v.over) whole);
+      fits = c.try_tail_action.ensures.fits;
+    }
 
 pub loop-state-preserved : goal.loop-state-preserved
 loop-state-preserved g c =
