@@ -1,12 +1,13 @@
 -- Groups and tails by the numbers of their lines.
-use Rattle.std.proofs.Common.{◌≡◌, ◌≢◌, ◌∙◌, ℕ, ◌+◌, ◌-◌, ◌≤◌, ◌<◌, List, [], Option, None, Some, ◌∷◌, Bool, true, false, cond, not, length, drop, refl, sym, ap, arith, add-one, drop-cons}
-use Rattle.std.proofs.lemmas.List.{drop_all}
+use Rattle.std.proofs.Common.{◌≡◌, ◌≢◌, ◌∙◌, ℕ, ◌+◌, ◌-◌, ◌≤◌, ◌<◌, ◌⊎◌, inl, inr, List, [], Option, None, Some, ◌∷◌, Bool, true, false, cond, not, length, get_or, set, drop, refl, sym, ap, subst, arith, add-one, drop-cons}
+use Rattle.std.proofs.lemmas.Bool.{cases_eq}
+use Rattle.std.proofs.lemmas.List.{drop_all, length-set, get_or-set_same, get_or-set_other}
 use Rattle.std.specs.Prelude.{◌==◌, ◌&&◌, filter}
 use Rattle.scott_types.specs.declared.parts.Action.{Action}
 use Rattle.scott_types.specs.Database.{Database, action_at}
 use Rattle.scott_types.specs.Action.{verb_of}
 use Rattle.scott_rules.specs.Groups.{Group, tail_of, groups_of, groups_from}
-use Rattle.scott_turn.specs.Heads.{tail_from, group_at, has_verb, groups_for, is_head_of, ComesNext, TailGoesOn, IsFirst, IsHead, line_of}
+use Rattle.scott_turn.specs.Heads.{tail_from, group_at, has_verb, groups_for, is_head_of, ComesNext, TailGoesOn, IsFirst, IsHead, HasFirsts, IsAfter, IsIndexFrom, line_of}
 
 -- the lines from one on begin with it
 lines_from : (db : Database) (line : ℕ) → line < length db.actions → drop line db.actions ≡ action_at db line ∷ drop (line + 1) db.actions
@@ -87,3 +88,35 @@ head_found db verb line (Some head) comes = (comes.there, comes.is_head)
 pub fewer_lines : (db : Database) (verb head : ℕ) (found : Option ℕ) → head < length db.actions → IsFirst db verb (head + 1) found → length db.actions - line_of db found < length db.actions - head
 fewer_lines db verb head None there none = omega arith
 fewer_lines db verb head (Some next) there comes = omega (arith, comes.from, comes.there)
+
+-- ---- an index of the heads, which is made from the last line on
+
+-- the line before one is there
+pub line_before : (db : Database) (lines : List Action) (line : ℕ) → lines ≡ db.actions → line ≤ length lines → 0 < line → line - 1 < length db.actions
+line_before db lines line all within some = omega (arith, ap length all)
+
+-- and the one after that is the line itself
+pub firsts_after : (db : Database) (line : ℕ) (firsts : ℕ → Option ℕ) → 0 < line → HasFirsts db line firsts → HasFirsts db ((line - 1) + 1) firsts
+firsts_after db line firsts some has =
+    let same : line ≡ (line - 1) + 1 = omega arith in
+    subst (λ n. HasFirsts db n firsts) same has
+
+-- one more line before those that are in the index
+pub index_step : (db : Database) (line : ℕ) (before after : ℕ → Option ℕ) (nexts : List (Option ℕ)) (next : Option ℕ) → 0 < line → line - 1 < length db.actions
+    → IsIndexFrom db line before nexts → HasFirsts db (line - 1) after → IsAfter db (line - 1) next
+    → IsIndexFrom db (line - 1) after (set nexts (line - 1) next)
+index_step db line before after nexts next some there index firsts is_next = record {
+  whole = length-set nexts (line - 1) next ∙ index.whole;
+  has_firsts = firsts;
+  has_nexts = λ head from head_there. by_place head from head_there (cases_eq head (line - 1));
+}
+  where
+    by_place : (head : ℕ) → line - 1 ≤ head → head < length db.actions → (head ≡ line - 1) ⊎ (head ≢ line - 1) → IsAfter db head (get_or (set nexts (line - 1) next) head None)
+    by_place head from head_there (inl same) = rw (same, get_or-set_same nexts (line - 1) next None (omega (arith, index.whole))) is_next
+    by_place head from head_there (inr other) = rw (get_or-set_other nexts (line - 1) head next None other) (index.has_nexts head (omega arith) head_there)
+
+-- no line is left before the first
+pub index_whole : (db : Database) (line : ℕ) (firsts : ℕ → Option ℕ) (nexts : List (Option ℕ)) → line ≤ 0 → IsIndexFrom db line firsts nexts → IsIndexFrom db 0 firsts nexts
+index_whole db line firsts nexts none index =
+    let first : line ≡ 0 = omega arith in
+    subst (λ n. IsIndexFrom db n firsts nexts) first index
