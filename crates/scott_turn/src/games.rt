@@ -86,8 +86,8 @@ fn index_heads(alloc: Global, db: &Db) -> Result<(IndexMap<u32, u16>, Vec<Option
     ensures { IfOk result (λ heads. IsIndex db.now (get nat_eq heads.0) heads.1.items) }
 {
     let lines = db.actions().len();
-    let mut firsts = IndexMap::new(alloc);
     let mut nexts: Vec<Option<u16>> = vec![in alloc; None; lines]?;
+    let mut firsts = IndexMap::new(alloc);
     for line in (0..lines).rev() {
         nexts[line] = put_first(alloc, &mut firsts, db, line as u16)?;
     }

@@ -1,4 +1,4 @@
-use Rattle.std.proofs.Common.{◌≡◌, sym, ap, arith}
+use Rattle.std.proofs.Common.{◌≡◌, ◌∙◌, sym, ap}
 use Rattle.std.proofs.lemmas.Result.{err_from_is_err_and, IfOk-weaker}
 use Rattle.scott_rules.specs.Rounds.{advance}
 use Rattle.scott_turn.specs.Rounds.{is_prompt}
@@ -39,6 +39,6 @@ returns-in-Some g c =
           (IfOk-weaker c.feed_line.result _ _
           (λ q e. left-some game c.args.position q c.args.state.now c.feed_line.new.state c.args.draws.now.left c.feed_line.new.draws.left line e)
           (rw (reached, state, draws) at c.feed_line.ensures.left));
-      taken = omega (arith, c.feed_line.ensures.taken, c.advance.ensures.taken);
+      taken = c.feed_line.ensures.taken ∙ c.advance.ensures.taken;
       fits = c.feed_line.ensures.fits;
     }

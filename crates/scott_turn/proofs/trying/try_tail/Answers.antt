@@ -1,4 +1,4 @@
-use Rattle.std.proofs.Common.{◌∙◌, ◌+◌, sym, ap, arith}
+use Rattle.std.proofs.Common.{◌∙◌, ◌+◌, sym, ap}
 use Rattle.std.proofs.lemmas.Result.{err_from_is_err_and}
 use Rattle.scott_rules.specs.Groups.{tail_action, tail_tried}
 use Rattle.scott_turn.specs.Heads.{tail_from}
@@ -46,7 +46,7 @@ loop-state-preserved g c =
     let line = c.loop-state.line in
     let t = tail_action game noun line c.loop-state.state in
     record {
-      few = omega arith;
+      few = c.loop-state.invariant.few;
       fits = c.try_tail_action.ensures.fits;
       along = along_step t.events (tail_tried game noun (tail_from game.db (line + 1)) c.try_tail_action.new.state) c.loop-state.invariant.along
           (tail-on game noun line c.loop-state.state c.in_ok-over.over c.in_ok-over.ensures.over (rw c.db-in-loop-state.ensures at c.loop-state-test.ensures.1) (sym c.if-is_some.ensures) c.try_tail_action.new.state c.in_ok-over.ensures.state)
