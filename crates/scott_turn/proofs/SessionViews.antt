@@ -69,7 +69,3 @@ module _ (old new : ConsoleView) (game : Game) (position : Position) (s : State)
   goes_on_ok (Some lines) reached why broken whole splits as_rules = λ more further.
       splits game position s lines more before.left further
       ∙ ap (λ v. after (go game position s lines before.left).events (go game v.position v.state ((go game position s lines before.left).value.lines ++ more) ((go game position s lines before.left).value.draws ++ further))) as_rules.leaves
-
-  pub goes_on_err : (lines : Option (List (List ℕ))) (P : List (List ℕ) → Type 0) (fault : ConsoleFault) → IfSome lines (λ ls. OnOk {T = Ending} (Err fault) (P ls))
-  goes_on_err None P fault = tt
-  goes_on_err (Some lines) P fault = tt

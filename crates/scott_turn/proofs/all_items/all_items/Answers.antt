@@ -6,27 +6,17 @@ use Rattle.adv_io.proofs.Along.{as_ok, along_step, along_end, along_stop, along_
 use Rattle.scott_turn.proofs.Items.{turn_of, after_item_turn, all_items-on, all_items-end, all_items-prefix}
 use Rattle.scott_turn.proofs.all_items.all_items.Goals as goal
 
-pub do_item_turn-requires : goal.do_item_turn-requires
-do_item_turn-requires g c = record {
-  fits = c.loop-i.invariant.fits;
-  there = rw (c.items-i-end.ensures.value, c.db.ensures) at c.loop-i-test.true;
-}
-
-pub returns-in_err-item_turn : goal.returns-in_err-item_turn
-returns-in_err-item_turn g c =
+pub returns-in_err-item_turn-clause-spoken : goal.returns-in_err-item_turn-clause-spoken
+returns-in_err-item_turn-clause-spoken g c =
     let game = c.args.game.now in
     let i = c.loop-i.i in
     let there : i < length game.db.items = rw (c.items-i-end.ensures.value, c.db.ensures) at c.loop-i-test.true in
     let t = turn_of c.args.transfer game c.args.typed.now i c.loop-i.state in
     let p = err_from_is_err_and c.from_residual.result c.from_residual.ensures.1 in
-    record {
-      spoken = rw (p.1)
-          (along_stop p.0 t.events (after_item_turn t.value.item_turn t (all_items c.args.transfer game c.args.typed.now (i + 1) (drop (i + 1) game.db.items))) c.loop-i.invariant.along
-          (all_items-prefix c.args.transfer game c.args.typed.now i c.loop-i.state there c.loop-i.any_taken)
-          c.in_err-item_turn.ensures.spoken);
-      left = rw (p.1) tt;
-      fits = c.do_item_turn.ensures.fits;
-    }
+    rw (p.1)
+    (along_stop p.0 t.events (after_item_turn t.value.item_turn t (all_items c.args.transfer game c.args.typed.now (i + 1) (drop (i + 1) game.db.items))) c.loop-i.invariant.along
+    (all_items-prefix c.args.transfer game c.args.typed.now i c.loop-i.state there c.loop-i.any_taken)
+    c.in_err-item_turn.ensures.spoken)
 
 pub returns-then-ends_all-clause-spoken : goal.returns-then-ends_all-clause-spoken
 returns-then-ends_all-clause-spoken g c =
