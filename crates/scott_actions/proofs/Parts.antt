@@ -1,5 +1,5 @@
 -- One part after another, said to a console.
-use Rattle.std.proofs.Common.{◌≡◌, ℕ, ◌-◌, ◌≤◌, List, [], ◌∷◌, length, drop, take, map, get_or, Option, Some, None, Result, Ok, Err, sym, ap, arith}
+use Rattle.std.proofs.Common.{◌≡◌, ℕ, ◌-◌, ◌<◌, ◌≤◌, List, [], ◌∷◌, length, drop, take, map, get_or, Option, Some, None, Result, Ok, Err, refl, sym, ap, arith}
 use Rattle.std.proofs.lemmas.List.{take_all}
 use Rattle.adv_io.specs.declared.events.Event.{Event}
 use Rattle.adv_io.specs.History.{says}
@@ -9,9 +9,14 @@ use Rattle.adv_io.proofs.Sayings.{cause_fails, speaks_then, speaks_stop}
 use Rattle.scott_types.specs.declared.states.State.{State}
 use Rattle.scott_types.specs.Style.{Game}
 use Rattle.scott_types.specs.Opcode.{opcode_of}
-use Rattle.adv_io.specs.Steps.{Traced, after}
-use Rattle.scott_rules.specs.Outcomes.{Outcome, and_then, then_if_on}
+use Rattle.adv_io.specs.Steps.{Traced, after, traced}
+use Rattle.scott_rules.specs.Outcomes.{Outcome, goes_on, and_then, then_if_on}
 use Rattle.scott_rules.specs.Opcodes.{op, takes, run_opcodes}
+
+-- without an opcode nothing is done
+pub run_opcodes-none : (game : Game) (noun opcodes params : List ℕ) (s : State) → length opcodes < 1 → run_opcodes game noun (map opcode_of opcodes) params s ≡ traced [] (goes_on s)
+run_opcodes-none game noun [] params s none = refl
+run_opcodes-none game noun (number ∷ others) params s none = absurd (omega arith)
 
 -- a run of opcodes is its first opcode, and the others after it
 pub run_opcodes-first : (game : Game) (noun opcodes params : List ℕ) (s : State) → 1 ≤ length opcodes

@@ -1,9 +1,20 @@
-use Rattle.std.proofs.Common.{◌≡◌, ◌∙◌, ◌-◌, length, map, drop, take, get_or, Some, None, sym}
+use Rattle.std.proofs.Common.{◌≡◌, ◌∙◌, ◌-◌, length, map, drop, take, get_or, Some, None, refl, sym}
+use Rattle.adv_io.proofs.Sayings.{nothing_said}
 use Rattle.scott_types.specs.Opcode.{opcode_of}
 use Rattle.scott_types.specs.Style.{in_style}
 use Rattle.scott_rules.specs.Opcodes.{op, takes, run_opcodes}
-use Rattle.scott_actions.proofs.Parts.{run_opcodes-first, and_then-on, and_then-over, part_stop, part_then}
+use Rattle.scott_actions.proofs.Parts.{run_opcodes-none, run_opcodes-first, and_then-on, and_then-over, part_stop, part_then}
 use Rattle.scott_actions.proofs.actions.+run_opcodes.Goals as goal
+
+pub returns-in-empty : goal.returns-in-empty
+returns-in-empty g t c =
+    let none = run_opcodes-none (in_style c.args.style c.args.db.now) c.args.noun.now c.args.opcodes.now c.args.parameters.now c.args.state.now c.in-empty.len_below in
+    record {
+      spoken = rw none (nothing_said (g.C.Console.seen c.args.console.now) None);
+      state = rw none refl;
+      over = rw none refl;
+      fits = c.requires;
+    }
 
 pub returns-in-Ok-None : goal.returns-in-Ok-None
 returns-in-Ok-None g t c =

@@ -1,4 +1,4 @@
-use Rattle.std.proofs.Common.{◌≡◌, ◌<◌, refl, arith}
+use Rattle.std.proofs.Common.{◌≡◌, ◌<◌, arith}
 use Rattle.adv_io.proofs.Sayings.{cause_again, cause_fails, cause_then}
 use Rattle.scott_turn.proofs.Playing.{next_ends, next_answered, next_part, next_fails}
 use Rattle.scott_turn.proofs.rounds.answer_next.Goals as goal
