@@ -1,2 +1,4 @@
 pub mod Choosing
+mod Darkness
 pub mod Joining
+mod Numbers

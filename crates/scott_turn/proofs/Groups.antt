@@ -55,6 +55,9 @@ groups_for-head db verb line a there is test = groups_for-at db verb line a true
 pub groups_for-end : (db : Database) (verb line : ℕ) → length db.actions ≤ line → groups_for db verb line ≡ []
 groups_for-end db verb line past = ap (λ lines. filter (has_verb verb) (groups_of line lines)) (drop_all line db.actions past)
 
+pub groups_for-none : (db : Database) (verb : ℕ) → groups_for db verb (length db.actions) ≡ []
+groups_for-none db verb = groups_for-end db verb (length db.actions) (omega arith)
+
 -- a head of a verb has it
 pub verb_of_head : (verb : ℕ) (a : Action) → is_head_of verb a ≡ true → verb_of a.vocab ≡ verb
 verb_of_head verb a test = grind (arith, test)

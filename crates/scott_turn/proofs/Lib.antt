@@ -1,3 +1,4 @@
+mod Entering
 pub mod Showing
 pub mod Groups
 pub mod Tries

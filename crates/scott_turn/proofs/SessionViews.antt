@@ -27,6 +27,11 @@ ending_known (Draw head) known = tt
 ending_known Line known = tt
 ending_known (Over ending) known = known
 
+-- what holds always holds of a value, if there is one
+pub IfSome_always : {A : Type 0} {P : Type 0} (o : Option A) → P → IfSome o (λ x. P)
+IfSome_always None p = tt
+IfSome_always (Some x) p = p
+
 module _ (old new : ConsoleView) (game : Game) (position : Position) (s : State) (before now : Supply) (last : State) where
   -- what a play leaves
   pub leaves_ok : (lines : List (List ℕ)) (reached : Position) (why : Ending) (broken : Bool) → PlaySpends → now.taken + length now.left ≡ before.taken + length before.left → why ≡ ending_of reached

@@ -6,8 +6,8 @@ use Rattle.adv_io.specs.Steps.{after}
 use Rattle.scott_rules.specs.Groups.{automatic}
 use Rattle.scott_turn.specs.Heads.{group_at, groups_for, line_of, IsFirst}
 use Rattle.scott_turn.specs.Turns.{auto_turn}
-use Rattle.adv_io.proofs.Along.{along_start, along_step, along_end, along_stop, along_value}
-use Rattle.scott_turn.proofs.Groups.{verb_of_head, vocab_of_head, comes_here, head_found, groups_for-found, fewer_lines}
+use Rattle.adv_io.proofs.Along.{along_start, along_step, along_done, along_end, along_stop, along_value}
+use Rattle.scott_turn.proofs.Groups.{verb_of_head, vocab_of_head, comes_here, head_found, groups_for-found, groups_for-none, fewer_lines}
 use Rattle.scott_turn.proofs.Turning.{automatic-for, automatic-on, automatic-stop, automatic-prefix, after_halt}
 use Rattle.scott_turn.proofs.automatic.automatic.Goals as goal
 
@@ -87,4 +87,17 @@ loop-next-preserved g c =
           c.auto_turn.new.state c.in_ok-halt.ensures.state c.auto_turn.new.draws.left c.in_ok-halt.ensures.draws
           ∙ ap (λ gs. after t.events (automatic game gs c.auto_turn.new.state c.auto_turn.new.draws.left)) (groups_for-found game.db 0 (head + 1) c.head_after-next.result rest))
           c.in_ok-halt.ensures.spoken;
+    }
+
+pub returns : goal.returns
+returns g c =
+    let game = c.args.game.now in
+    let db = game.db in
+    let along = rw c.in_default.is at c.loop-next.invariant.along in
+    let none = ap (λ gs. automatic game gs c.loop-next.state c.loop-next.draws.left) (groups_for-none db 0) in
+    record {
+      spoken = along_done _ along (ap (λ w. w.events) none);
+      left = along_value along ∙ ap (λ w. w.value) none;
+      taken = c.loop-next.invariant.taken;
+      fits = c.loop-next.invariant.fits;
     }

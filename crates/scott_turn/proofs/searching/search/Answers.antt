@@ -1,4 +1,4 @@
-use Rattle.std.proofs.Common.{◌∙◌, ◌+◌, refl, sym, ap}
+use Rattle.std.proofs.Common.{◌∙◌, ◌+◌, length, refl, sym, ap}
 use Rattle.scott_types.specs.Action.{verb_of}
 use Rattle.scott_types.specs.Database.{action_at}
 use Rattle.std.proofs.lemmas.Result.{err_from_is_err_and}
@@ -6,9 +6,9 @@ use Rattle.adv_io.specs.Steps.{after}
 use Rattle.scott_rules.specs.Search.{is_for_noun, search_result}
 use Rattle.scott_turn.specs.Heads.{group_at, groups_for, line_of, IsFirst}
 use Rattle.scott_turn.specs.Turns.{search_turn, at_least, with_before}
-use Rattle.adv_io.proofs.Along.{along_start, along_step, along_end, along_stop, along_value}
-use Rattle.scott_turn.proofs.Groups.{verb_of_head, vocab_of_head, comes_here, head_found, groups_for-found, fewer_lines}
-use Rattle.scott_turn.proofs.Turning.{search_result-for, search_result-on, search_result-end, search_result-prefix, at_least-begun, after_turn, noun_at}
+use Rattle.adv_io.proofs.Along.{along_start, along_step, along_done, along_end, along_stop, along_value}
+use Rattle.scott_turn.proofs.Groups.{verb_of_head, vocab_of_head, comes_here, head_found, groups_for-found, groups_for-none, fewer_lines}
+use Rattle.scott_turn.proofs.Turning.{search_result-for, search_result-on, search_result-end, search_result-none, search_result-prefix, at_least-begun, after_turn, noun_at}
 use Rattle.scott_turn.proofs.searching.search.Goals as goal
 
 pub loop-next-init : goal.loop-next-init
@@ -99,4 +99,16 @@ loop-next-preserved g c =
           c.search_turn.new.state c.in_ok-found.ensures.state
           ∙ ap (λ gs. after t.events (with_before (at_least found before) (search_result game typed verb noun gs c.search_turn.new.state))) (groups_for-found game.db verb (head + 1) c.head_after-next.result rest))
           c.in_ok-found.ensures.spoken);
+    }
+
+pub returns : goal.returns
+returns g c =
+    let game = c.args.game.now in
+    let verb = c.args.command.verb in
+    let along = rw c.in_default.is at c.loop-next.invariant.along in
+    let none = search_result-none game c.args.typed.now verb c.args.command.noun (length game.db.actions) c.loop-next.state c.loop-next.before (groups_for-none game.db verb) c.loop-next.invariant.begun in
+    record {
+      spoken = along_done _ along (ap (λ w. w.events) none);
+      left = along_value along ∙ ap (λ w. w.value) none;
+      fits = c.loop-next.invariant.fits;
     }

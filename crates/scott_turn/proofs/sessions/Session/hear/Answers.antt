@@ -1,4 +1,4 @@
-use Rattle.std.proofs.Common.{refl}
+use Rattle.std.proofs.Common.{rules, refl}
 use Rattle.scott_turn.specs.Fed.{given}
 use Rattle.adv_io.proofs.Along.{as_ok, as_err}
 use Rattle.scott_turn.proofs.SessionViews.{leaves_ok, ending_known}
@@ -20,5 +20,11 @@ returns-in-Ok g c =
           (ending_known c.in-Ok.position (rw c.in-Ok.ensures.left at (c.endings_are_three.ensures s.game s.position s.state lines c.args.draws.now.left c.self.invariant.1)));
     }
 
-pub returns-in-Err-clause-spoken : goal.returns-in-Err-clause-spoken
-returns-in-Err-clause-spoken g c = rw (← c.self.view_is) (as_err _ c.in-Err.ensures.spoken)
+pub returns-in-Err : goal.returns-in-Err
+returns-in-Err g c = record {
+  spoken = rw (← c.self.view_is) (as_err _ c.in-Err.ensures.spoken);
+  leaves = tt;
+  game = rw (← c.self.view_is) refl;
+  breaks = search rules;
+  three = tt;
+}

@@ -1,6 +1,6 @@
-use Rattle.std.proofs.Common.{true, refl}
+use Rattle.std.proofs.Common.{rules, true, refl}
 use Rattle.adv_io.proofs.Sayings.{cause_again, cause_fails}
-use Rattle.scott_turn.proofs.SessionViews.{plays_ok, plays_err, goes_on_ok, ending_known}
+use Rattle.scott_turn.proofs.SessionViews.{plays_ok, plays_err, goes_on_ok, IfSome_always, ending_known}
 use Rattle.scott_turn.proofs.sessions.Session.play.Goals as goal
 
 pub returns-in-Ok : goal.returns-in-Ok
@@ -21,13 +21,18 @@ returns-in-Ok g c =
       three = rw (c.ending_of.ensures) (ending_known c.in-Ok.position c.in-Ok.ensures.ends);
     }
 
-pub returns-in-Err-clause-plays : goal.returns-in-Err-clause-plays
-returns-in-Err-clause-plays g c =
+pub returns-in-Err : goal.returns-in-Err
+returns-in-Err g c =
     let seen = g.C.Console.seen in
     let s = c.self.inside in
-    rw (← c.self.view_is)
-    (plays_err (seen c.args.console.now) (seen c.play_on.new.console) s.game s.position s.state c.args.draws.now c.play_on.new.draws c.play_on.new.state
-    ((seen c.args.console.now).left) s.position true c.in-Err.fault c.in-Err.fault c.in-Err.ensures.as_rules)
-
-pub returns-in-Err-clause-cause : goal.returns-in-Err-clause-cause
-returns-in-Err-clause-cause g c = cause_fails _ c.in-Err.ensures.cause
+    record {
+      plays = rw (← c.self.view_is)
+          (plays_err (seen c.args.console.now) (seen c.play_on.new.console) s.game s.position s.state c.args.draws.now c.play_on.new.draws c.play_on.new.state
+          ((seen c.args.console.now).left) s.position true c.in-Err.fault c.in-Err.fault c.in-Err.ensures.as_rules);
+      goes_on = IfSome_always ((seen c.args.console.now).left) tt;
+      bounded = c.play_on.ensures.bounded;
+      cause = cause_fails _ c.in-Err.ensures.cause;
+      game = rw (← c.self.view_is) refl;
+      breaks = search rules;
+      three = tt;
+    }

@@ -1,0 +1,35 @@
+use Rattle.std.proofs.Common.{refl}
+use Rattle.adv_io.proofs.Sayings.{nothing_said}
+use Rattle.scott_turn.proofs.advancing.advance.Goals as goal
+
+pub returns-in-Fresh : goal.returns-in-Fresh
+returns-in-Fresh g c = record {
+  spoken = rw c.in-Fresh.is c.begin.ensures.spoken;
+  left = rw c.in-Fresh.is c.begin.ensures.left;
+  taken = c.begin.ensures.taken;
+  fits = c.begin.ensures.fits;
+}
+
+pub returns-in-Draw : goal.returns-in-Draw
+returns-in-Draw g c = record {
+  spoken = rw c.in-Draw.is c.advance_from.ensures.spoken;
+  left = rw c.in-Draw.is c.advance_from.ensures.left;
+  taken = c.advance_from.ensures.taken;
+  fits = c.advance_from.ensures.fits;
+}
+
+pub returns-in-Line : goal.returns-in-Line
+returns-in-Line g c = record {
+  spoken = rw c.in-Line.is (nothing_said _ _);
+  left = rw c.in-Line.is refl;
+  taken = refl;
+  fits = c.requires;
+}
+
+pub returns-in-Over : goal.returns-in-Over
+returns-in-Over g c = record {
+  spoken = rw c.in-Over.is (nothing_said _ _);
+  left = rw c.in-Over.is refl;
+  taken = refl;
+  fits = c.requires;
+}

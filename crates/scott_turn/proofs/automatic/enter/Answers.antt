@@ -1,0 +1,41 @@
+use Rattle.std.proofs.Common.{◌≡◌, ◌∙◌, true, false, refl, sym, ap}
+use Rattle.std.specs.Prelude.{nat_le}
+use Rattle.std.proofs.lemmas.Result.{err_from_is_err_and}
+use Rattle.adv_io.proofs.Along.{as_ok, as_err}
+use Rattle.adv_io.proofs.Sayings.{nothing_said}
+use Rattle.scott_types.specs.Action.{noun_of}
+use Rattle.scott_types.specs.Database.{action_at}
+use Rattle.scott_rules.specs.Groups.{over_of}
+use Rattle.scott_turn.specs.Turns.{halt_of}
+use Rattle.scott_turn.proofs.automatic.enter.Goals as goal
+
+pub returns-in_ok-ran : goal.returns-in_ok-ran
+returns-in_ok-ran g c =
+    let enters : nat_le c.args.draw (noun_of (action_at c.args.game.now.db c.args.head).vocab) ≡ true = sym (rw c.db.ensures at c.lets_in.ensures) ∙ c.if-lets_in.true in
+    record {
+      spoken = rw enters (as_ok _ c.in_ok-ran.ensures.spoken);
+      state = rw enters c.in_ok-ran.ensures.state;
+      halt = rw enters (c.halt_of.ensures ∙ ap (λ ran. halt_of (over_of ran)) c.in_ok-ran.ensures.ran);
+      fits = c.try_group.ensures.fits;
+    }
+
+pub returns-in_err-ran : goal.returns-in_err-ran
+returns-in_err-ran g c =
+    let enters : nat_le c.args.draw (noun_of (action_at c.args.game.now.db c.args.head).vocab) ≡ true = sym (rw c.db.ensures at c.lets_in.ensures) ∙ c.if-lets_in.true in
+    let p = err_from_is_err_and c.from_residual.result c.from_residual.ensures.1 in
+    record {
+      spoken = rw (p.1, enters) (as_err p.0 c.in_err-ran.ensures.spoken);
+      state = rw (p.1) tt;
+      halt = rw (p.1) tt;
+      fits = c.try_group.ensures.fits;
+    }
+
+pub returns-else-lets_in : goal.returns-else-lets_in
+returns-else-lets_in g c =
+    let out : nat_le c.args.draw (noun_of (action_at c.args.game.now.db c.args.head).vocab) ≡ false = sym (rw c.db.ensures at c.lets_in.ensures) ∙ c.if-lets_in.false in
+    record {
+      spoken = rw out (nothing_said _ _);
+      state = rw out refl;
+      halt = rw out refl;
+      fits = c.requires.fits;
+    }

@@ -1,0 +1,40 @@
+use Rattle.std.proofs.Common.{◌≡◌, ◌∙◌, true, false, refl, sym, ap}
+use Rattle.std.proofs.lemmas.Result.{err_from_is_err_and}
+use Rattle.adv_io.proofs.Along.{as_ok, as_err}
+use Rattle.adv_io.proofs.Sayings.{nothing_said}
+use Rattle.scott_types.specs.Action.{noun_of}
+use Rattle.scott_types.specs.Database.{action_at}
+use Rattle.scott_rules.specs.Search.{is_for_noun}
+use Rattle.scott_turn.specs.Turns.{found_of}
+use Rattle.scott_turn.proofs.searching.search_turn.Goals as goal
+
+pub returns-in_ok-ran : goal.returns-in_ok-ran
+returns-in_ok-ran g c =
+    let meant : is_for_noun (noun_of (action_at c.args.game.now.db c.args.head).vocab) c.args.noun ≡ true = sym (rw c.db.ensures at c.is_meant.ensures) ∙ c.if-is_meant.true in
+    record {
+      spoken = rw meant (as_ok _ c.in_ok-ran.ensures.spoken);
+      state = rw meant c.in_ok-ran.ensures.state;
+      found = rw meant (c.found_of.ensures ∙ ap found_of c.in_ok-ran.ensures.ran);
+      fits = c.try_group.ensures.fits;
+    }
+
+pub returns-in_err-ran : goal.returns-in_err-ran
+returns-in_err-ran g c =
+    let meant : is_for_noun (noun_of (action_at c.args.game.now.db c.args.head).vocab) c.args.noun ≡ true = sym (rw c.db.ensures at c.is_meant.ensures) ∙ c.if-is_meant.true in
+    let p = err_from_is_err_and c.from_residual.result c.from_residual.ensures.1 in
+    record {
+      spoken = rw (p.1, meant) (as_err p.0 c.in_err-ran.ensures.spoken);
+      state = rw (p.1) tt;
+      found = rw (p.1) tt;
+      fits = c.try_group.ensures.fits;
+    }
+
+pub returns-else-is_meant : goal.returns-else-is_meant
+returns-else-is_meant g c =
+    let other : is_for_noun (noun_of (action_at c.args.game.now.db c.args.head).vocab) c.args.noun ≡ false = sym (rw c.db.ensures at c.is_meant.ensures) ∙ c.if-is_meant.false in
+    record {
+      spoken = rw other (nothing_said _ _);
+      state = rw other refl;
+      found = rw other refl;
+      fits = c.requires.fits;
+    }
