@@ -11,3 +11,4 @@ pub mod Entries
 pub mod Whole
 pub mod Texts
 pub mod Wrongs
+pub mod ActionNumbers
