@@ -12,3 +12,4 @@ pub mod Whole
 pub mod Texts
 pub mod Wrongs
 pub mod ActionNumbers
+pub mod EightInARow
