@@ -47,6 +47,10 @@ pub one_more_text : {X : Type 0} (text : X → List ℕ) (xs : List X) (i : ℕ)
 one_more_text text xs i d start before after h so_far added =
     added ∙ rw (so_far, flat_map_more text start (take i xs) (get_or xs i d), sym (take_more xs i d h)) refl
 
+-- three texts that were written one after the other, from nothing on
+pub three_written : (start o₁ o₂ o₃ a b c : List ℕ) → start ≡ [] → o₁ ≡ start ++ a → o₂ ≡ o₁ ++ b → o₃ ≡ o₂ ++ c → o₃ ≡ a ++ (b ++ c)
+three_written start o₁ o₂ o₃ a b c none h₁ h₂ h₃ = h₃ ∙ rw (h₂, h₁, none) (append_assoc a b c)
+
 -- four texts that were written one after the other
 pub four_written : (start o₁ o₂ o₃ o₄ a b c d : List ℕ) → o₁ ≡ start ++ a → o₂ ≡ o₁ ++ b → o₃ ≡ o₂ ++ c → o₄ ≡ o₃ ++ d
     → o₄ ≡ start ++ (a ++ (b ++ (c ++ d)))

@@ -1,3 +1,4 @@
 pub mod Joined
 pub mod Taking
 pub mod Faultless
+pub mod Naming

@@ -2,7 +2,9 @@
 use Rattle.std.proofs.Common.{◌≡◌, Ok, refl}
 use Rattle.adv_text.specs.Reading.{Spot}
 use Rattle.scott_format.specs.Plan.{Plan, done, ◌>>=◌, run}
-use Rattle.scott_format.proofs.Plans.{run-then}
+use Rattle.scott_format.specs.Reading.{Stands}
+use Rattle.scott_format.specs.declared.faults.FormatFault.{FormatFault}
+use Rattle.scott_format.proofs.Plans.{run-then, Stands-then, Stands-after}
 
 module _ {A B C D E X : Type 0} where
   -- five plans give what is made of their five values
@@ -39,3 +41,77 @@ module _ {A X : Type 0} (p : Plan A) where
         run-then,
         h₈,
       ) refl
+
+module _ {A B X : Type 0} (p₁ : Plan A) (p₂ : Plan B) (made : A → B → X) where
+  -- two plans give what is made of their two values
+  pub two_read : (s s₁ s₂ : Spot) (a : A) (b : B) → run p₁ s ≡ Ok (a, s₁) → run p₂ s₁ ≡ Ok (b, s₂)
+      → run (p₁ >>= λ a. p₂ >>= λ b. done (made a b)) s ≡ Ok (made a b, s₂)
+  two_read s s₁ s₂ a b h₁ h₂ = rw (run-then, h₁, run-then, h₂) refl
+
+module _ {A B C X : Type 0} (p₁ : Plan A) (p₂ : Plan B) (p₃ : Plan C) (made : A → B → C → X) (s s₁ s₂ : Spot) (a : A) (b : B)
+    (h₁ : run p₁ s ≡ Ok (a, s₁)) (h₂ : run p₂ s₁ ≡ Ok (b, s₂)) where
+  -- three plans give what is made of their three values
+  pub three_read : (s₃ : Spot) (c : C) → run p₃ s₂ ≡ Ok (c, s₃) → run (p₁ >>= λ a. p₂ >>= λ b. p₃ >>= λ c. done (made a b c)) s ≡ Ok (made a b c, s₃)
+  three_read s₃ c h₃ = rw (run-then, h₁, run-then, h₂, run-then, h₃) refl
+
+  -- a fault of the third stands for all
+  pub three_stop : (fault : FormatFault) → Stands fault (run p₃ s₂) → Stands fault (run (p₁ >>= λ a. p₂ >>= λ b. p₃ >>= λ c. done (made a b c)) s)
+  three_stop fault h₃ =
+      Stands-after (λ a. p₂ >>= λ b. p₃ >>= λ c. done (made a b c)) p₁ s s₁ a fault h₁
+      (Stands-after (λ b. p₃ >>= λ c. done (made a b c)) p₂ s₁ s₂ b fault h₂ (Stands-then (λ c. done (made a b c)) p₃ s₂ fault h₃))
+
+-- five plans, and what is made of their values
+pub record Five (A B C D E X : Type 0) : Type 0 where
+  pub first : Plan A
+  pub second : Plan B
+  pub third : Plan C
+  pub fourth : Plan D
+  pub fifth : Plan E
+  pub made : A → B → C → D → E → X
+
+-- a fault of one of five plans, where those before it gave values, stands for all
+module _ {A B C D E X : Type 0} (p : Five A B C D E X) (s : Spot) (fault : FormatFault) where
+  abbrev from_fifth : A → B → C → D → Plan X
+  from_fifth a b c d = p.fifth >>= λ e. done (p.made a b c d e)
+
+  abbrev from_fourth : A → B → C → Plan X
+  from_fourth a b c = p.fourth >>= λ d. from_fifth a b c d
+
+  abbrev from_third : A → B → Plan X
+  from_third a b = p.third >>= λ c. from_fourth a b c
+
+  abbrev from_second : A → Plan X
+  from_second a = p.second >>= λ b. from_third a b
+
+  abbrev whole : Plan X
+  whole = p.first >>= λ a. from_second a
+
+  pub stops_first : Stands fault (run p.first s) → Stands fault (run whole s)
+  stops_first h₁ =
+      Stands-then from_second p.first s fault h₁
+
+  pub stops_second : {a : A} {s₁ : Spot} → run p.first s ≡ Ok (a, s₁) → Stands fault (run p.second s₁) → Stands fault (run whole s)
+  stops_second {a = a} {s₁ = s₁} h₁ h₂ =
+      Stands-after from_second p.first s s₁ a fault h₁
+      (Stands-then (from_third a) p.second s₁ fault h₂)
+
+  pub stops_third : {a : A} {s₁ : Spot} {b : B} {s₂ : Spot} → run p.first s ≡ Ok (a, s₁) → run p.second s₁ ≡ Ok (b, s₂) → Stands fault (run p.third s₂) → Stands fault (run whole s)
+  stops_third {a = a} {s₁ = s₁} {b = b} {s₂ = s₂} h₁ h₂ h₃ =
+      Stands-after from_second p.first s s₁ a fault h₁
+      (Stands-after (from_third a) p.second s₁ s₂ b fault h₂
+      (Stands-then (from_fourth a b) p.third s₂ fault h₃))
+
+  pub stops_fourth : {a : A} {s₁ : Spot} {b : B} {s₂ : Spot} {c : C} {s₃ : Spot} → run p.first s ≡ Ok (a, s₁) → run p.second s₁ ≡ Ok (b, s₂) → run p.third s₂ ≡ Ok (c, s₃) → Stands fault (run p.fourth s₃) → Stands fault (run whole s)
+  stops_fourth {a = a} {s₁ = s₁} {b = b} {s₂ = s₂} {c = c} {s₃ = s₃} h₁ h₂ h₃ h₄ =
+      Stands-after from_second p.first s s₁ a fault h₁
+      (Stands-after (from_third a) p.second s₁ s₂ b fault h₂
+      (Stands-after (from_fourth a b) p.third s₂ s₃ c fault h₃
+      (Stands-then (from_fifth a b c) p.fourth s₃ fault h₄)))
+
+  pub stops_fifth : {a : A} {s₁ : Spot} {b : B} {s₂ : Spot} {c : C} {s₃ : Spot} {d : D} {s₄ : Spot} → run p.first s ≡ Ok (a, s₁) → run p.second s₁ ≡ Ok (b, s₂) → run p.third s₂ ≡ Ok (c, s₃) → run p.fourth s₃ ≡ Ok (d, s₄) → Stands fault (run p.fifth s₄) → Stands fault (run whole s)
+  stops_fifth {a = a} {s₁ = s₁} {b = b} {s₂ = s₂} {c = c} {s₃ = s₃} {d = d} {s₄ = s₄} h₁ h₂ h₃ h₄ h₅ =
+      Stands-after from_second p.first s s₁ a fault h₁
+      (Stands-after (from_third a) p.second s₁ s₂ b fault h₂
+      (Stands-after (from_fourth a b) p.third s₂ s₃ c fault h₃
+      (Stands-after (from_fifth a b c) p.fourth s₃ s₄ d fault h₄
+      (Stands-then (λ e. done (p.made a b c d e)) p.fifth s₄ fault h₅))))

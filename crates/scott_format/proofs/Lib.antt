@@ -11,3 +11,5 @@ pub mod Entries
 pub mod Whole
 pub mod Texts
 pub mod Wrongs
+pub mod ActionNumbers
+pub mod EightInARow

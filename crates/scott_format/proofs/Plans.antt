@@ -72,4 +72,8 @@ module _ {X Y : Type 0} (f : X → Plan Y) where
       subst (λ (r : Result (Y × Spot) Fault). Stands fault r) (sym (run-then p s))
       (Stands-and_then next fault (run p s) h)
 
+  -- a fault of what follows stands for both
+  pub Stands-after : (p : Plan X) (s after : Spot) (x : X) (fault : FormatFault) → run p s ≡ Ok (x, after) → Stands fault (run (f x) after) → Stands fault (run (p >>= f) s)
+  Stands-after p s after x fault e h = subst (λ (r : Result (Y × Spot) Fault). Stands fault r) (sym (run-ok p s after x e)) h
+
 pub ruleset sections = (run-then, Stands-and_then)

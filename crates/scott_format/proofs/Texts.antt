@@ -1,7 +1,8 @@
 -- The text of a line, piece by piece as it is written.
-use Rattle.std.proofs.Common.{◌≡◌, ℕ, List, [], ◌∷◌, ◌++◌, length, map, take, get_or, ◌+◌, ◌<◌, ℤ, pos, refl, sym, ap, ◌∙◌, append_assoc, arith}
+use Rattle.std.proofs.Common.{◌≡◌, ℕ, List, [], ◌∷◌, ◌++◌, length, map, take, get_or, ◌+◌, ◌<◌, ◌≤◌, ℤ, pos, refl, sym, ap, ◌∙◌, append_assoc, arith}
 use Rattle.std.specs.List.{flat_map}
 use Rattle.std.proofs.lemmas.List.{map-append, flat_map_more, take_more}
+use Rattle.std.proofs.Math.Seq.{take-length}
 use Rattle.std.proofs.lemmas.List.Concat.{flat_map-cons}
 use Rattle.adv_text.specs.Writing.{number_text, quoted_text}
 use Rattle.scott_format.specs.Canon.{Token, num, str, token_text, line_text, number_and_space}
@@ -17,6 +18,13 @@ one_more {X = X} text out before after xs i x other there is so_far more =
     more ∙ ap (λ (t : List ℕ). t ++ text x) so_far ∙ flat_map_more text out (take i xs) x
     ∙ ap (λ (y : X). out ++ flat_map text (take i xs ++ y ∷ [])) is
     ∙ ap (λ (ys : List X). out ++ flat_map text ys) (sym (take_more xs i other there))
+
+-- the text of all entries, once none is left
+pub all_written : {X : Type 0} (text : X → List ℕ) (out now : List ℕ) (xs : List X) (i : ℕ) → i ≤ length xs → length xs ≤ i
+    → now ≡ out ++ flat_map text (take i xs) → now ≡ out ++ flat_map text xs
+all_written {X = X} text out now xs i some none so_far =
+    let end : i ≡ length xs = omega arith in
+    so_far ∙ ap (λ (ys : List X). out ++ flat_map text ys) (ap (λ (n : ℕ). take n xs) end ∙ take-length xs)
 
 -- numbers at the start of a line have a space after each
 pub numbers_first : {X : Type 0} (value : X → ℤ) (xs : List X) (u : Token) (us : List Token)

@@ -1,5 +1,6 @@
 -- A word that is put into an index.
-use Rattle.std.proofs.Common.{◌≡◌, ◌∙◌, ℕ, List, Bool, true, false, cond, Option, None, Some, unwrap_or, nat_eq, refl, ap}
+use Rattle.std.proofs.Common.{◌≡◌, ◌∙◌, ℕ, List, [], ◌∷◌, length, Bool, true, false, cond, Option, None, Some, unwrap_or, nat_eq, refl, ap}
+use Rattle.std.specs.Bool.{◌==◌}
 use Rattle.std.proofs.lemmas.Cmp.{nat_list_eq_equiv}
 use Rattle.std.specs.Cmp.Lexicographic.{pointwise}
 use Rattle.std.specs.HashMap.Eq.{lookup_congr}
@@ -15,6 +16,11 @@ same_letters a b = pointwise nat_eq a.items b.items
 
 abbrev pub key_of : ℕ → List ℕ → ArrayVec ℕ
 key_of size word = record { items = letters size word }
+
+-- a word that has a length isn't empty
+pub filled : (word : List ℕ) → false ≡ (length word == 0) → is_empty word ≡ false
+filled [] some = cc
+filled (byte ∷ word) some = refl
 
 -- a number that is put at a key where it has none
 put_at : (same : Bool) (old at_key : Option ℕ) (number : ℕ) → (same ≡ true → at_key ≡ old)

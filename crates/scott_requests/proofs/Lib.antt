@@ -1,1 +1,4 @@
 pub mod Numbers
+pub mod Prefixes
+pub mod Places
+pub mod Given

@@ -33,10 +33,10 @@ pub enum Request<'a> {
 fn check_form(words: &[String]) -> Option<Request<'_>>
     ensures { option_map request_of result ≡ check_form (map string_bytes words.now) }
 {
-    match words {
-        [game] => Some(Request::Check(file_name(game.as_str())?)),
-        _ => None,
-    }
+    let [game] = words else {
+        return None;
+    };
+    Some(Request::Check(file_name(game.as_str())?))
 }
 
 // The names of two files.

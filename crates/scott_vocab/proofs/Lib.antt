@@ -1,2 +1,4 @@
 pub mod Searching
 pub mod Alike
+pub mod Typed
+pub mod Hearing

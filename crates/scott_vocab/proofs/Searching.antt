@@ -29,6 +29,10 @@ pub which_from-at : (db : Database) (column : Column) (word : List ℕ) (base : 
 which_from-at db column word base k w text nearest there is by_column by_mark =
     rw (by_mark, by_column) (ap (entry_from db.header.length word base k) (entries_from (column_of column) db.words k w there is))
 
+-- a word names the base entry of this one, where it matches it
+pub found_here : (here : Bool) (base others from all : Option ℕ) → true ≡ here → from ≡ cond here base others → from ≡ all → base ≡ all
+found_here here base others from all matched one found = sym (one ∙ ap (λ b. cond b base others) (sym matched)) ∙ found
+
 -- ---- what is found is there
 
 -- one more entry, where the nearest base entry stands before the next
