@@ -36,7 +36,7 @@ impl Source {
     ghost use Rattle.adv_draws.specs.Source.{left_of, IsSound};
 
     // The next draw, where so many were taken, or none where all were.
-    fn draw_after(&mut self, taken: u64) -> Option<u8>
+    fn draw_at(&mut self, taken: u64) -> Option<u8>
         requires sound { IsSound self.old taken }
         ensures none { IfNone result ((left_of self.old taken ≡ []) × (self.new ≡ self.old)) }
         ensures given { IfSome result
@@ -120,7 +120,7 @@ impl Draws {
         ensures counted { IfSome result (λ _. self.new.taken ≡ self.old.taken + 1) }
         ensures range { IfSome result (λ draw. (1 ≤ draw) × (draw ≤ 100)) }
     {
-        let draw = self.source.draw_after(self.taken)?;
+        let draw = self.source.draw_at(self.taken)?;
         self.taken += 1;
         Some(draw)
     }

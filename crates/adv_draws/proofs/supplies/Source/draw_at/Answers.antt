@@ -1,7 +1,7 @@
 use Rattle.std.proofs.Common.{◌-◌, ◌+◌, ◌≤◌, ◌∷◌, ap, sym, ◌∙◌, arith}
 use Rattle.adv_draws.specs.Seeded.{rolls, draw_of_word}
 use Rattle.adv_draws.proofs.Rolls.{rolls-next, rolls-done}
-use Rattle.adv_draws.proofs.supplies.Source.draw_after.Goals as goal
+use Rattle.adv_draws.proofs.supplies.Source.draw_at.Goals as goal
 
 pub returns-then-taken-eq-SEEDED_DRAWS : goal.returns-then-taken-eq-SEEDED_DRAWS
 returns-then-taken-eq-SEEDED_DRAWS c = record {
