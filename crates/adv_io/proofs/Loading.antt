@@ -1,11 +1,12 @@
 -- What a load from a shelf in memory answers.
-use Rattle.std.proofs.Common.{◌≡◌, ◌∙◌, ℕ, ◌<◌, ◌≤◌, false, List, length, Option, Some, None, Ok, Err, Vec, Global, refl, ap, arith}
+use Rattle.std.proofs.Common.{◌≡◌, ◌∙◌, ◌↔◌, Bool, ℕ, ◌<◌, ◌≤◌, false, List, length, Option, Some, None, Ok, Err, Vec, Global, refl, ap, arith}
 use Rattle.std.proofs.lemmas.Bool.{le-leb, lt-leb}
+use Rattle.std.specs.Prelude.{IsTrue, IsErrOf}
 use Rattle.std.specs.FinMap.{get}
 use Rattle.adv_io.specs.CallCount.{fails_next}
 use Rattle.adv_io.specs.Shelf.{Loads}
 use Rattle.adv_io.specs.Shelved.{Shelved, stock_of, called, within, loaded}
-use Rattle.adv_io.specs.declared.faults.ShelfFault.TheVariants.{Absent, TooLong, Memory}
+use Rattle.adv_io.specs.declared.faults.ShelfFault.TheVariants.{Absent, Failed, TooLong, Memory}
 
 -- a call that doesn't fail answers by the file of that name
 pub loaded-file : (shelf : Shelved) (name : List ℕ) (limit : ℕ) (file : Option (List ℕ)) → fails_next shelf.calls ≡ false → get shelf.files name ≡ file → loaded shelf name limit ≡ within limit file
@@ -18,6 +19,20 @@ within-long limit bytes over = rw (lt-leb (length bytes) limit over) refl
 -- and any other is given
 pub within-fits : (limit : ℕ) (bytes : List ℕ) → length bytes ≤ limit → within limit (Some bytes) ≡ Ok bytes
 within-fits limit bytes fits = rw (le-leb (length bytes) limit fits) refl
+
+-- an answer other than that it failed, where the call doesn't fail
+module _ {X : Type 0} (fails : Bool) (goes : fails ≡ false) where
+  pub absent-answer : IsErrOf {T = X} (Err Absent) Failed ↔ IsTrue fails
+  absent-answer = (λ failed. absurd cc, λ fails. absurd cc)
+
+  pub long-answer : (n : ℕ) → IsErrOf {T = X} (Err (TooLong n)) Failed ↔ IsTrue fails
+  long-answer n = (λ failed. absurd cc, λ fails. absurd cc)
+
+  pub memory-answer : IsErrOf {T = X} (Err Memory) Failed ↔ IsTrue fails
+  memory-answer = (λ failed. absurd cc, λ fails. absurd cc)
+
+  pub file-answer : (x : X) → IsErrOf (Ok x) Failed ↔ IsTrue fails
+  file-answer x = (λ failed. absurd cc, λ fails. absurd cc)
 
 -- one more call that doesn't fail leaves the count of faults
 same_faults : (old new : Shelved) → fails_next old.calls ≡ false → new ≡ called old → new.calls.faults ≡ old.calls.faults
