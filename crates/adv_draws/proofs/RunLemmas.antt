@@ -8,7 +8,7 @@ use Rattle.std.proofs.lemmas.List.Sums.{take_while-cons}
 use Rattle.std.proofs.lemmas.List.{at_drop_more, at_drop_all}
 use Rattle.std.proofs.lemmas.Bool.{ne_eqb, lt-leb, le-leb, leb-true, and_from, and_parts}
 use Rattle.adv_io.specs.Text.{is_whitespace}
-use Rattle.adv_draws.specs.Run.{is_solid, draw_after, draw_of}
+use Rattle.adv_draws.specs.Run.{is_solid, is_draw, draw_after, draw_of}
 
 -- the run that begins at an offset of a text
 abbrev pub run_at : List ℕ → ℕ → List ℕ
@@ -77,7 +77,7 @@ draw_after-stuck number byte run why =
     elim why [ inl other ↦ draw_after-other number byte run other | inr large ↦ draw_after-large number (byte ∷ run) large ]
 
 -- a number that is a draw, with no more digits
-drawn : (number value : ℕ) → 1 ≤ number → number ≤ 100 → number ≡ value → draw_after number [] ≡ Some value
+pub drawn : (number value : ℕ) → 1 ≤ number → number ≤ 100 → number ≡ value → draw_after number [] ≡ Some value
 drawn number value least most same = rw (le-leb 1 number least, le-leb number 100 most) (ap Some same)
 
 -- a digit, from its bounds
@@ -89,9 +89,20 @@ pub digit_solid : (byte : ℕ) → 48 ≤ byte → is_whitespace byte ≡ false
 digit_solid byte least =
     rw (le-leb 9 byte (omega arith), lt-leb byte 13 (omega arith), ne_eqb byte 32 (λ same. omega arith)) refl
 
+-- a digit that isn't 0 is a draw
+pub one_digit : (digit : ℕ) → 49 ≤ digit → digit ≤ 57 → draw_of (digit ∷ []) ≡ Some (digit - 48)
+one_digit digit least most =
+    draw_after-digit 0 digit [] (digit_in digit (omega arith) most)
+    ∙ drawn (0 * 10 + (digit - 48)) (digit - 48) (omega arith) (omega arith) (omega arith)
+
 -- two digits, the first of which isn't 0, are a draw
 pub two_digits : (first second : ℕ) → 49 ≤ first → first ≤ 57 → 48 ≤ second → second ≤ 57 → draw_of (first ∷ second ∷ []) ≡ Some ((first - 48) * 10 + (second - 48))
 two_digits first second least most above below =
     draw_after-digit 0 first (second ∷ []) (digit_in first (omega arith) most)
     ∙ draw_after-digit (0 * 10 + (first - 48)) second [] (digit_in second above below)
     ∙ drawn ((0 * 10 + (first - 48)) * 10 + (second - 48)) ((first - 48) * 10 + (second - 48)) (omega arith) (omega arith) (omega arith)
+
+-- a number of 1..100 is a draw
+pub is_draw_in : (number : ℕ) → 1 ≤ number → number ≤ 100 → is_draw number ≡ true
+is_draw_in number least most =
+    and_from (nat_le 1 number) (nat_le number 100) (le-leb 1 number least) (le-leb number 100 most)

@@ -1,10 +1,12 @@
 -- How the runs of a text are walked, from space to space.
-use Rattle.std.proofs.Common.{◌≡◌, ℕ, suc, ◌+◌, ◌<◌, ◌≤◌, Bool, true, false, List, [], ◌∷◌, ◌++◌, length, drop, get_or, Some, Result, Ok, Err, append_assoc, length-drop, refl, ap, sym, ◌∙◌, arith}
-use Rattle.std.proofs.lemmas.List.{drop_more, drop-drop}
-use Rattle.std.proofs.lemmas.List.Folds.{length-prefix_len}
+use Rattle.std.proofs.Common.{◌≡◌, ℕ, suc, ◌+◌, ◌<◌, ◌≤◌, Bool, true, false, ◌&&◌, List, [], ◌∷◌, ◌++◌, length, drop, get_or, Some, None, Result, Ok, Err, append_assoc, length-drop, refl, ap, sym, ◌∙◌, arith}
+use Rattle.std.specs.List.{list_all}
+use Rattle.std.proofs.lemmas.Bool.{and_from}
+use Rattle.std.proofs.lemmas.List.{drop_more, drop-drop, at_drop_all, append-nil}
+use Rattle.std.proofs.lemmas.List.Folds.{length-prefix_len, list_all-append}
 use Rattle.std.proofs.lemmas.List.Sums.{prefix_len-le-length}
 use Rattle.adv_io.specs.Text.{is_whitespace}
-use Rattle.adv_draws.specs.Run.{is_solid, draw_of, first_run, runs_after}
+use Rattle.adv_draws.specs.Run.{is_solid, is_draw, AllDraws, draw_of, first_run, runs_after}
 use Rattle.adv_draws.specs.Listed.{with_draw, followed_by, draws_of}
 use Rattle.adv_draws.proofs.RunLemmas.{solid_first, space_first}
 
@@ -78,6 +80,32 @@ draw_step offset draw size bytes within solid drawn sized =
     ∙ first_step offset (get_or bytes offset 0) draw size (drop (offset + 1) bytes) solid (ap (λ text. draw_of (first_run text)) (sym here) ∙ drawn) (ap (λ text. length (first_run text)) (sym here) ∙ sized)
     ∙ ap (λ text. followed_by (draw ∷ []) (draws_of (runs_after 32 (offset + (size + 1)) (drop (size + 1) text)))) (sym here)
     ∙ ap (λ text. followed_by (draw ∷ []) (draws_of (runs_after 32 (offset + (size + 1)) text))) (drop-drop (size + 1) offset bytes)
+
+-- a run that begins here and gives no draw is the fault
+pub fault_step : (offset : ℕ) (bytes : List ℕ) → offset < length bytes → is_whitespace (get_or bytes offset 0) ≡ false → draw_of (first_run (drop offset bytes)) ≡ None → draws_of (runs_after 32 offset (drop offset bytes)) ≡ Err offset
+fault_step offset bytes within solid none =
+    let byte : ℕ = get_or bytes offset 0 in
+    let rest : List ℕ = drop (offset + 1) bytes in
+    let here = drop_more bytes offset 0 within in
+    let begins : draws_of (runs_after 32 offset (byte ∷ rest)) ≡ with_draw (draw_of (first_run (byte ∷ rest))) offset (draws_of (runs_after byte (offset + 1) rest)) = rw solid in
+    ap (λ text. draws_of (runs_after 32 offset text)) here
+    ∙ begins
+    ∙ ap (λ read. with_draw read offset (draws_of (runs_after byte (offset + 1) rest))) (sym (ap (λ text. draw_of (first_run text)) here) ∙ none)
+
+-- no draws before draws
+pub followed_by-none : (rest : Result (List ℕ) ℕ) → followed_by [] rest ≡ rest
+followed_by-none (Ok others) = refl
+followed_by-none (Err at) = refl
+
+-- at the end of a text no more draws follow
+pub end_step : (offset : ℕ) (draws bytes : List ℕ) → length bytes ≤ offset → followed_by draws (draws_of (runs_after 32 offset (drop offset bytes))) ≡ Ok draws
+end_step offset draws bytes past =
+    at_drop_all (λ text. followed_by draws (draws_of (runs_after 32 offset text))) bytes offset past ∙ ap Ok (append-nil draws)
+
+-- one more draw after draws
+pub AllDraws-more : (draws : List ℕ) (draw : ℕ) → AllDraws draws → is_draw draw ≡ true → AllDraws (draws ++ draw ∷ [])
+AllDraws-more draws draw all drawn =
+    list_all-append is_draw draws (draw ∷ []) ∙ and_from (list_all is_draw draws) (is_draw draw && true) all (and_from (is_draw draw) true drawn refl)
 
 -- draws before draws
 pub followed_by-one : (draws : List ℕ) (draw : ℕ) (rest : Result (List ℕ) ℕ) → followed_by draws (followed_by (draw ∷ []) rest) ≡ followed_by (draws ++ draw ∷ []) rest

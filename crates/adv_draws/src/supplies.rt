@@ -32,6 +32,30 @@ enum Source {
     Seeded(Lcg64Xsh32),
 }
 
+impl Source {
+    ghost use Rattle.adv_draws.specs.Source.{left_of, IsSound};
+
+    // The next draw, where so many were taken, or none where all were.
+    fn draw_at(&mut self, taken: u64) -> Option<u8>
+        requires sound { IsSound self.old taken }
+        ensures none { IfNone result ((left_of self.old taken ≡ []) × (self.new ≡ self.old)) }
+        ensures given { IfSome result
+            (λ draw. left_of self.old taken ≡ draw ∷ left_of self.new (taken + 1)) }
+        ensures sound { IfSome result (λ _. IsSound self.new (taken + 1)) }
+        ensures range { IfSome result (λ draw. (1 ≤ draw) × (draw ≤ 100)) }
+    {
+        match self {
+            Source::Listed(draws) => draws.get(taken as usize).copied(),
+            Source::Seeded(generator) => {
+                if taken == SEEDED_DRAWS {
+                    return None;
+                }
+                Some((generator.next_word() % 100) as u8 + 1)
+            }
+        }
+    }
+}
+
 impl Model for Draws {
     ghost use Rattle.adv_draws.specs.Run.{AllDraws};
     ghost use Rattle.adv_draws.specs.Supply.{Supply};
@@ -96,20 +120,9 @@ impl Draws {
         ensures counted { IfSome result (λ _. self.new.taken ≡ self.old.taken + 1) }
         ensures range { IfSome result (λ draw. (1 ≤ draw) × (draw ≤ 100)) }
     {
-        match &mut self.source {
-            Source::Listed(draws) => {
-                let draw = draws.get(self.taken as usize)?;
-                self.taken += 1;
-                Some(*draw)
-            }
-            Source::Seeded(generator) => {
-                if self.taken == SEEDED_DRAWS {
-                    return None;
-                }
-                self.taken += 1;
-                Some((generator.next_word() % 100) as u8 + 1)
-            }
-        }
+        let draw = self.source.draw_at(self.taken)?;
+        self.taken += 1;
+        Some(draw)
     }
 
     /// How many draws were taken.

@@ -8,3 +8,4 @@ pub mod Buffering
 pub mod Showing
 pub mod Along
 pub mod Spending
+pub mod Loading

@@ -1,3 +1,4 @@
 pub mod Tables
 pub mod FirstPlaces
 pub mod Starting
+pub mod RoomExits

@@ -1,5 +1,5 @@
 -- The first state fits its database.
-use Rattle.std.proofs.Common.{◌≡◌, true, List, [], ◌∷◌, length, map, replicate, refl, arith, nat_le}
+use Rattle.std.proofs.Common.{◌≡◌, ◌∙◌, ℕ, ap, true, false, ℤ, pos, List, [], ◌∷◌, length, map, replicate, refl, arith, nat_le}
 use Rattle.std.specs.Prelude.{IsTrue}
 use Rattle.std.specs.List.{list_all}
 use Rattle.std.proofs.lemmas.Bool.{and_parts, and_from, lt-ltb}
@@ -42,3 +42,22 @@ Fits-start db limits =
 -- and so does a state that is the same
 pub Fits-same : (db : Database) (s : State) → s ≡ start db → KeepsLimits db → Fits db s
 Fits-same db s e limits = rw e (Fits-start db limits)
+
+-- the first state, but for its light and its places
+abbrev pub first : Database → ℤ → List ℕ → State
+first db light places = record {
+  room = db.header.start;
+  saved = 0;
+  rooms = replicate 16 0;
+  counter = pos 0;
+  counters = replicate 16 (pos 0);
+  flags = replicate 32 false;
+  light = light;
+  places = record { items = places };
+  redraw = true;
+}
+
+-- it is the first state where they are
+pub first-start : (db : Database) (light : ℤ) (places : List ℕ) → light ≡ db.header.light → places ≡ map place_of_item db.items → first db light places ≡ start db
+first-start db light places same_light same_places =
+    ap (λ (light : ℤ). first db light places) same_light ∙ ap (first db db.header.light) same_places

@@ -64,7 +64,7 @@ first_number-above n h = grind (arith, nat_tests)
 opcode_of-message : (n : ℕ) → 1 ≤ n → n < 52 → opcode_of n ≡ Say n
 opcode_of-message n h k = rw (not_zero n h, below n 52 k) refl
 
-opcode_of-unused : (n : ℕ) → 90 ≤ n → n < 102 → opcode_of n ≡ Nothing
+pub opcode_of-unused : (n : ℕ) → 90 ≤ n → n < 102 → opcode_of n ≡ Nothing
 opcode_of-unused n h k = rw (not_zero n (omega arith), not_below n 52 (omega arith), not_below n 90 h, below n 102 k) refl
 
 opcode_of-late_message : (n : ℕ) → 102 ≤ n → opcode_of n ≡ Say (n - 50)

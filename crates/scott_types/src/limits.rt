@@ -1,5 +1,5 @@
 //! Whether parts keep the limits of a database.
-ghost use Rattle.std.specs.Prelude.{◌≡◌, ◌&&◌, ◌↔◌, IsTrue, nat_le};
+ghost use Rattle.std.specs.Prelude.{◌≡◌, ◌&&◌, ◌↔◌, IsTrue, length, nat_le};
 ghost use Rattle.std.specs.List.{list_all};
 ghost use Rattle.scott_types.specs.Database.{database_of};
 ghost use Rattle.scott_types.specs.Limits.{is_file_byte, is_file_text, is_number, is_natural, is_action, is_word, is_room, is_item, are_header_numbers, is_trailer, KeepsHeaderLimits, KeepsSizes, KeepsEntryLimits, KeepsLimits};
@@ -158,6 +158,13 @@ fn entries_fit(parts: &Parts) -> bool
         && texts_fit(&parts.comments)
 }
 
+// Each line of actions has its comment.
+fn comments_fit(parts: &Parts) -> bool
+    ensures { IsTrue result ↔ (length parts.now.comments.items ≡ length parts.now.actions.items) }
+{
+    parts.comments.len() == parts.actions.len()
+}
+
 fn trailer_fits(trailer: &Trailer) -> bool
     ensures { result ≡ is_trailer trailer.now }
 {
@@ -172,6 +179,6 @@ pub fn keeps_limits(parts: &Parts) -> bool
     header_fits(&parts.header, parts.rooms.len())
         && sizes_fit(parts)
         && entries_fit(parts)
-        && parts.comments.len() == parts.actions.len()
+        && comments_fit(parts)
         && trailer_fits(&parts.trailer)
 }
