@@ -5,6 +5,7 @@ use scott_actions::{Ran, perform};
 use scott_types::{State, Style};
 use std::process::Abort;
 use std::test::Fail;
+use test_support::expect;
 
 const HEADER: &[u8] = b"0 1 0 0 0 1 0 0 3 -1 1 0\n0 ";
 
@@ -51,8 +52,8 @@ fn expect_done<R: Abort + AllocGlobal>(
     let mut state = State::start(&db);
     let mut console = MemoryConsole::new(alloc, Vec::new(alloc), Vec::new(alloc), 500)?;
     let answer = perform(&db, Style::plain(), &mut state, 0, b"go", &mut console);
-    assert!(rt; answer == Ok(ran));
-    assert!(rt; console.said() == said.as_bytes(), "{said}");
+    expect!(rt; answer == Ok(ran));
+    expect!(rt; console.said() == said.as_bytes(), said);
     Ok(())
 }
 
@@ -72,9 +73,9 @@ fn refused_get_leaves_its_parameter(rt: HostRuntime) -> Result<(), Fail> {
     state.redraw = false;
     let mut console = MemoryConsole::new(alloc, Vec::new(alloc), Vec::new(alloc), 500)?;
     let answer = perform(&db, Style::plain(), &mut state, 0, b"", &mut console);
-    assert!(rt; answer == Ok(Ran::Passed(false)));
-    assert!(rt; console.said() == b"I've too much to carry! ".as_slice());
-    assert!(rt; state.places.as_slice() == [0, 255].as_slice());
-    assert!(rt; state.redraw);
+    expect!(rt; answer == Ok(Ran::Passed(false)));
+    expect!(rt; console.said() == b"I've too much to carry! ".as_slice());
+    expect!(rt; state.places.as_slice() == [0, 255].as_slice());
+    expect!(rt; state.redraw);
     Ok(())
 }

@@ -6,6 +6,7 @@ use std::fmt::Display;
 use std::io;
 use std::io::{BufRead, ErrorKind, Lines, Read};
 use std::test::Fail;
+use test_support::expect;
 
 // What was typed at a terminal, after which reading ends or fails.
 #[derive(Drop)]
@@ -103,7 +104,7 @@ fn standard_input_is_taken_by_lines(rt: HostRuntime) {
     };
     let mut console = StdConsole::new(&terminal);
     let mut line = Line::of(b"");
-    assert!(rt; console.say(b"lost") == Err(ConsoleFault::Failed));
+    expect!(rt; console.say(b"lost") == Err(ConsoleFault::Failed));
     for (answer, bytes) in [
         (Taken::Got, b"take lamp".as_slice()),
         (Taken::Got, b""),
@@ -119,7 +120,7 @@ fn standard_input_is_taken_by_lines(rt: HostRuntime) {
         is_closed: false,
     };
     let mut console = StdConsole::new(&terminal);
-    assert!(rt; console.say(b"said") == Ok(()));
+    expect!(rt; console.say(b"said") == Ok(()));
     expect_taken(&rt, &mut console, &mut line, Ok(Taken::Got), b"ended");
     expect_taken(&rt, &mut console, &mut line, Ok(Taken::End), b"ended");
 }

@@ -3,6 +3,7 @@ use adv_io::{Console, ConsoleFault, Line, MemoryConsole, ScriptConsole, Taken, s
 use std::alloc::Global;
 use std::process::Abort;
 use std::test::Fail;
+use test_support::expect;
 
 #[test]
 fn lines_keep_lower_case(rt: HostRuntime) {
@@ -14,8 +15,8 @@ fn lines_keep_lower_case(rt: HostRuntime) {
         (&[b'X'; 130], &[b'x'; 120]),
     ] {
         let line = Line::of(raw);
-        assert!(rt; line.bytes() == want);
-        assert!(rt; line.copied().bytes() == want);
+        expect!(rt; line.bytes() == want);
+        expect!(rt; line.copied().bytes() == want);
     }
 }
 
@@ -27,8 +28,8 @@ fn expect_said(
     answer: Result<(), ConsoleFault>,
     said: &[u8],
 ) {
-    assert!(rt; console.say(bytes) == answer);
-    assert!(rt; console.said() == said);
+    expect!(rt; console.say(bytes) == answer);
+    expect!(rt; console.said() == said);
 }
 
 /// Takes a line, and expects an answer and the line that is then lent.
@@ -39,8 +40,8 @@ pub fn expect_taken<C: Console>(
     answer: Result<Taken, ConsoleFault>,
     bytes: &[u8],
 ) {
-    assert!(rt; console.take(line) == answer);
-    assert!(rt; line.bytes() == bytes);
+    expect!(rt; console.take(line) == answer);
+    expect!(rt; line.bytes() == bytes);
 }
 
 #[test]
@@ -55,7 +56,7 @@ fn a_console_in_memory_keeps_its_history(rt: HostRuntime) -> Result<(), Fail> {
     expect_said(&rt, &mut console, b"x", failed, b"Hi");
     expect_said(&rt, &mut console, b" you, abc", failed, b"Hi you, ");
     expect_taken(&rt, &mut console, &mut line, Ok(Taken::End), b"go north");
-    assert!(rt; console.mark(0) == Some(2));
+    expect!(rt; console.mark(0) == Some(2));
     Ok(())
 }
 
@@ -64,14 +65,14 @@ fn a_script_gives_its_lines(rt: HostRuntime) {
     let lines = [Line::of(b"look"), Line::of(b"wait")];
     let mut console = ScriptConsole::new(&lines);
     let mut line = Line::of(b"");
-    assert!(rt; say_all(&mut console, &[b"any", b"thing"]) == Ok(()));
+    expect!(rt; say_all(&mut console, &[b"any", b"thing"]) == Ok(()));
     for (answer, bytes, left) in [
         (Taken::Got, b"look", 1),
         (Taken::Got, b"wait", 0),
         (Taken::End, b"wait", 0),
     ] {
         expect_taken(&rt, &mut console, &mut line, Ok(answer), bytes);
-        assert!(rt; console.left() == left);
+        expect!(rt; console.left() == left);
     }
 }
 
@@ -79,11 +80,11 @@ fn a_script_gives_its_lines(rt: HostRuntime) {
 fn pieces_are_said_in_order(rt: HostRuntime) -> Result<(), Fail> {
     let alloc = rt.alloc();
     let mut console = MemoryConsole::new(alloc, Vec::new(alloc), vec![in alloc; 2]?, 10)?;
-    assert!(rt; say_all(&mut console, &[]) == Ok(()));
-    assert!(rt; say_all(&mut console, &[b"a", b"", b"bc"]) == Ok(()));
-    assert!(rt; say_all(&mut console, &[b"d"]) == Err(ConsoleFault::Failed));
-    assert!(rt; say_all(&mut console, &[b"e", b"fghijklm", b"n"]) == Err(ConsoleFault::Failed));
-    assert!(rt; console.said() == b"abcefghijk".as_slice());
+    expect!(rt; say_all(&mut console, &[]) == Ok(()));
+    expect!(rt; say_all(&mut console, &[b"a", b"", b"bc"]) == Ok(()));
+    expect!(rt; say_all(&mut console, &[b"d"]) == Err(ConsoleFault::Failed));
+    expect!(rt; say_all(&mut console, &[b"e", b"fghijklm", b"n"]) == Err(ConsoleFault::Failed));
+    expect!(rt; console.said() == b"abcefghijk".as_slice());
     Ok(())
 }
 
@@ -97,9 +98,9 @@ fn expect_said_before(
 ) -> Result<(), Fail> {
     let failing = vec![in alloc; failing]?;
     let mut console = MemoryConsole::new(alloc, Vec::new(alloc), failing, 10_000)?;
-    assert!(rt; say_all(&mut console, pieces) == Ok(()));
-    assert!(rt; console.said().len() == size);
-    assert!(rt; say_all(&mut console, &[b"."]) == Err(ConsoleFault::Failed));
+    expect!(rt; say_all(&mut console, pieces) == Ok(()));
+    expect!(rt; console.said().len() == size);
+    expect!(rt; say_all(&mut console, &[b"."]) == Err(ConsoleFault::Failed));
     Ok(())
 }
 

@@ -2,13 +2,14 @@
 use adv_draws::{DrawFault, Draws};
 use std::process::Abort;
 use std::test::Fail;
+use test_support::expect;
 
 // Takes all that is expected, in order.
 fn expect_draws(rt: &impl Abort, draws: &mut Draws, wanted: &[u8]) {
     for draw in wanted {
-        assert!(rt; draws.next() == Some(*draw));
+        expect!(rt; draws.next() == Some(*draw));
     }
-    assert!(rt; draws.taken() == wanted.len() as u64);
+    expect!(rt; draws.taken() == wanted.len() as u64);
 }
 
 // Texts, and the draws that they list.
@@ -29,8 +30,8 @@ fn texts_list_draws(rt: HostRuntime) -> Result<(), Fail> {
     for (text, wanted) in LISTED {
         let mut draws = Draws::listed(rt.alloc(), text)?;
         expect_draws(&rt, &mut draws, wanted);
-        assert!(rt; draws.next() == None);
-        assert!(rt; draws.taken() == wanted.len() as u64);
+        expect!(rt; draws.next() == None);
+        expect!(rt; draws.taken() == wanted.len() as u64);
     }
     Ok(())
 }
@@ -56,7 +57,7 @@ const REFUSED: &[(&[u8], usize)] = &[
 fn runs_that_are_no_draws_are_refused(rt: HostRuntime) {
     for (text, offset) in REFUSED {
         let answer = Draws::listed(rt.alloc(), text).err();
-        assert!(rt; answer == Some(DrawFault::NotADraw(*offset)));
+        expect!(rt; answer == Some(DrawFault::NotADraw(*offset)));
     }
 }
 

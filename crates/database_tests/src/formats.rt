@@ -3,6 +3,7 @@ use scott_format::{Field, FormatFault, read_db, write_db};
 use std::alloc::{AllocError, Global};
 use std::process::Abort;
 use std::test::Fail;
+use test_support::expect;
 
 const HEADER: &[u8] = b"0 0 0 6 2 5 1 0 3 -1 0 0\n";
 
@@ -50,17 +51,17 @@ fn expect_written<R: Abort + AllocGlobal>(
     text: &[u8],
 ) -> Result<(), Fail> {
     let bytes = game(rt.alloc(), HEADER, ACTION, item, trailer)?;
-    assert!(rt; bytes.len() <= 1048576);
+    expect!(rt; bytes.len() <= 1048576);
     let db = read_db(rt.alloc(), &bytes)?;
     let written = write_db(rt.alloc(), &db)?;
-    assert!(rt; written.as_slice() == text);
+    expect!(rt; written.as_slice() == text);
     Ok(())
 }
 
 #[test]
 fn texts_are_read_and_written_back(rt: HostRuntime) -> Result<(), Fail> {
     let plain = game(rt.alloc(), HEADER, ACTION, ITEM, TRAILER)?;
-    assert!(rt; plain.len() == 209);
+    expect!(rt; plain.len() == 209);
     expect_written(&rt, ITEM, TRAILER, &plain)?;
     expect_written(&rt, ITEM, b"416 1", &plain)?;
     expect_written(&rt, ITEM, b"416 1 +00 0 and more", &plain)?;
@@ -73,7 +74,7 @@ fn parts_are_in_their_places(rt: HostRuntime) -> Result<(), Fail> {
     let header = b"-7 0 0 6 2 -5 1 +13 20 125 0 77\n";
     let action = b"151 1 2 3 4 5 6 7\n";
     let bytes = game(rt.alloc(), header, action, b"\"a\"\"b`\" 259 ", b"1 2 3 4")?;
-    assert!(rt; bytes.len() <= 1048576);
+    expect!(rt; bytes.len() <= 1048576);
     let db = read_db(rt.alloc(), &bytes)?;
     let parts = db.parts();
     let numbers = &parts.header;
@@ -84,16 +85,16 @@ fn parts_are_in_their_places(rt: HostRuntime) -> Result<(), Fail> {
         numbers.light,
         numbers.home,
     ];
-    assert!(rt; wide == [-7, -5, 13, 125, 77]);
-    assert!(rt; (numbers.start, numbers.length) == (1, 20));
+    expect!(rt; wide == [-7, -5, 13, 125, 77]);
+    expect!(rt; (numbers.start, numbers.length) == (1, 20));
     for line in &parts.actions {
-        assert!(rt; line.vocab == 151 && line.conds == [1, 2, 3, 4, 5] && line.pairs == [6, 7]);
+        expect!(rt; line.vocab == 151 && line.conds == [1, 2, 3, 4, 5] && line.pairs == [6, 7]);
     }
     for item in &parts.items {
-        assert!(rt; item.text.bytes() == b"a\"b\"".as_slice() && item.place == 3);
+        expect!(rt; item.text.bytes() == b"a\"b\"".as_slice() && item.place == 3);
     }
-    assert!(rt; (parts.words.len(), parts.rooms.len()) == (7, 3));
-    assert!(rt; (parts.trailer.version, parts.trailer.third) == (1, 3));
+    expect!(rt; (parts.words.len(), parts.rooms.len()) == (7, 3));
+    expect!(rt; (parts.trailer.version, parts.trailer.third) == (1, 3));
     Ok(())
 }
 
@@ -171,8 +172,8 @@ const REFUSED: &[(&[u8], &[u8], &[u8], FormatFault)] = &[
 
 // Expects that a text is refused, for this fault.
 fn expect_refused<R: Abort + AllocGlobal>(rt: &R, bytes: &[u8], fault: FormatFault) {
-    assert!(rt; bytes.len() <= 1048576);
-    assert!(rt; read_db(rt.alloc(), bytes).err() == Some(fault));
+    expect!(rt; bytes.len() <= 1048576);
+    expect!(rt; read_db(rt.alloc(), bytes).err() == Some(fault));
 }
 
 #[test]

@@ -7,6 +7,7 @@ use scott_types::{Db, State, Style};
 use std::alloc::{AllocError, Global};
 use std::process::Abort;
 use std::test::Fail;
+use test_support::expect;
 
 // A hall with a cave to the south.
 const ROOMS: &[u8] = b" 0 0 0 0 0 0 0 0 \"AUT\" \"ANY\"
@@ -35,7 +36,7 @@ fn console(alloc: Global) -> Result<MemoryConsole, Memory> {
 }
 
 fn expect_said(rt: &impl Abort, console: &MemoryConsole, said: &str) {
-    assert!(rt; console.said() == said.as_bytes(), "{said}");
+    expect!(rt; console.said() == said.as_bytes(), said);
 }
 
 // A state in a room, that is dark or not.
@@ -64,8 +65,8 @@ fn looks_are_said(rt: HostRuntime) -> Result<(), Fail> {
     for (room, dark, said) in LOOKS {
         let state = standing(&db, *room, *dark);
         let mut console = console(alloc)?;
-        assert!(rt; state.fits(&db));
-        assert!(rt; look(&db, Style::plain(), &state, &mut console) == Ok(()));
+        expect!(rt; state.fits(&db));
+        expect!(rt; look(&db, Style::plain(), &state, &mut console) == Ok(()));
         expect_said(&rt, &console, said);
     }
     Ok(())
@@ -84,9 +85,9 @@ fn a_text_is_said_before_a_look(rt: HostRuntime) -> Result<(), Fail> {
     for (dark, said) in LOOKS_AFTER {
         let state = standing(&db, 2, *dark);
         let mut console = console(alloc)?;
-        assert!(rt; state.fits(&db));
+        expect!(rt; state.fits(&db));
         let answer = look_after(b"Woe! ", &db, Style::plain(), &state, &mut console);
-        assert!(rt; answer == Ok(()));
+        expect!(rt; answer == Ok(()));
         expect_said(&rt, &console, said);
     }
     Ok(())
@@ -138,8 +139,8 @@ fn all_items_of_a_room_are_said(rt: HostRuntime) -> Result<(), Fail> {
     for count in [1, 3, 255] {
         let db = crowded(alloc, count)?;
         let mut console = MemoryConsole::new(alloc, Vec::new(alloc), Vec::new(alloc), 20_000)?;
-        assert!(rt; look(&db, Style::plain(), &State::start(&db), &mut console) == Ok(()));
-        assert!(rt; console.said() == things_seen(alloc, count)?.as_slice());
+        expect!(rt; look(&db, Style::plain(), &State::start(&db), &mut console) == Ok(()));
+        expect!(rt; console.said() == things_seen(alloc, count)?.as_slice());
     }
     Ok(())
 }
@@ -151,7 +152,7 @@ fn long_looks_alone_take_several_calls(rt: HostRuntime) -> Result<(), Fail> {
         let db = crowded(alloc, count)?;
         let failing = vec![in alloc; 2]?;
         let mut console = MemoryConsole::new(alloc, Vec::new(alloc), failing, 20_000)?;
-        assert!(rt; look(&db, Style::plain(), &State::start(&db), &mut console) == answer);
+        expect!(rt; look(&db, Style::plain(), &State::start(&db), &mut console) == answer);
     }
     Ok(())
 }
@@ -161,7 +162,7 @@ fn what_is_carried_is_said(rt: HostRuntime) -> Result<(), Fail> {
     let alloc = rt.alloc();
     let db = hall(alloc, (b"-1", b"0"))?;
     let mut console = console(alloc)?;
-    assert!(rt; inventory(&db, Style::plain(), &State::start(&db), &mut console) == Ok(()));
+    expect!(rt; inventory(&db, Style::plain(), &State::start(&db), &mut console) == Ok(()));
     expect_said(&rt, &console, "I'm carrying:\nPin - Bug.\n");
     Ok(())
 }
@@ -187,7 +188,7 @@ fn scores_are_said(rt: HostRuntime) -> Result<(), Fail> {
         let db = hall(alloc, (b"-1", home))?;
         let mut console = console(alloc)?;
         let answer = score(&db, Style::plain(), &State::start(&db), &mut console);
-        assert!(rt; answer == Ok(*all));
+        expect!(rt; answer == Ok(*all));
         expect_said(&rt, &console, said);
     }
     Ok(())
@@ -209,9 +210,9 @@ fn light_burns_down(rt: HostRuntime) -> Result<(), Fail> {
         let mut state = State::start(&db);
         let mut console = console(alloc)?;
         let answer = count_light(&db, Style::plain(), &mut state, &mut console);
-        assert!(rt; answer == Ok(()));
+        expect!(rt; answer == Ok(()));
         expect_said(&rt, &console, said);
-        assert!(rt; (state.light, state.flags[16]) == (*left, *out));
+        expect!(rt; (state.light, state.flags[16]) == (*left, *out));
     }
     Ok(())
 }
@@ -228,9 +229,9 @@ fn players_are_spoken_to(rt: HostRuntime) -> Result<(), Fail> {
     };
     let state = State::start(&db);
     let mut console = console(alloc)?;
-    assert!(rt; look(&db, you, &state, &mut console) == Ok(()));
-    assert!(rt; inventory(&db, you, &state, &mut console) == Ok(()));
-    assert!(rt; score(&db, you, &state, &mut console) == Ok(false));
+    expect!(rt; look(&db, you, &state, &mut console) == Ok(()));
+    expect!(rt; inventory(&db, you, &state, &mut console) == Ok(()));
+    expect!(rt; score(&db, you, &state, &mut console) == Ok(false));
     expect_said(
         &rt,
         &console,
@@ -264,10 +265,10 @@ fn turns_of_a_light_are_counted(rt: HostRuntime) -> Result<(), Fail> {
             counted: true,
             vanish: *vanish,
         };
-        assert!(rt; count_light(&db, style, &mut state, &mut console) == Ok(()));
+        expect!(rt; count_light(&db, style, &mut state, &mut console) == Ok(()));
         expect_said(&rt, &console, said);
-        assert!(rt; state.places.as_slice().get(9).copied() == Some(*place));
-        assert!(rt; !state.redraw);
+        expect!(rt; state.places.as_slice().get(9).copied() == Some(*place));
+        expect!(rt; !state.redraw);
     }
     Ok(())
 }

@@ -2,6 +2,7 @@
 use crate::games::game;
 use adv_check::{Part, Warning, What, report, warnings};
 use std::test::Fail;
+use test_support::expect;
 
 // Every exit, item place, condition and opcode of the first is as it should be, but one drop.
 const DROP: &[u8] = b"0 0 0 6 2 5 1 0 3 -1 0 0
@@ -29,7 +30,7 @@ fn drop_without_a_parameter(rt: HostRuntime) -> Result<(), Fail> {
         value: 0,
     };
     let found = warnings(rt.alloc(), &game(rt.alloc(), &[DROP])?)?;
-    assert!(rt; found.as_slice() == [warning].as_slice());
+    expect!(rt; found.as_slice() == [warning].as_slice());
     Ok(())
 }
 
@@ -67,7 +68,7 @@ fn each_fault_is_named(rt: HostRuntime) -> Result<(), Fail> {
         ),
     ] {
         let found = report(rt.alloc(), &game(rt.alloc(), &[text])?)?;
-        assert!(rt; found.as_slice() == said);
+        expect!(rt; found.as_slice() == said);
     }
     Ok(())
 }

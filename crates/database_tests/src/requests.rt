@@ -3,6 +3,7 @@ use scott_requests::{DrawSource, Request, request_in};
 use scott_types::Style;
 use std::process::Abort;
 use std::test::Fail;
+use test_support::expect;
 
 const PLAIN: Style = Style {
     you: false,
@@ -47,7 +48,7 @@ fn expect_asked<R: Abort + AllocGlobal>(
     for word in command.split(' ') {
         words.push(String::from_str(rt.alloc(), word)?)?;
     }
-    assert!(rt; request_in(&words) == wanted, "{command}");
+    expect!(rt; request_in(&words) == wanted, command);
     Ok(())
 }
 
@@ -56,7 +57,7 @@ fn words_are_requests(rt: HostRuntime) -> Result<(), Fail> {
     for (command, wanted) in WORDS {
         expect_asked(&rt, command, *wanted)?;
     }
-    assert!(rt; request_in(&[]) == None);
+    expect!(rt; request_in(&[]) == None);
     Ok(())
 }
 

@@ -2,6 +2,7 @@
 use adv_text::{Memory, Scan, TextFault, put_integer, put_number, put_quoted};
 use std::alloc::Global;
 use std::test::Fail;
+use test_support::expect;
 
 // Texts, the number that each begins with, and the place after it.
 const NUMBERS: &[(&[u8], i32, usize)] = &[
@@ -18,8 +19,8 @@ const NUMBERS: &[(&[u8], i32, usize)] = &[
 fn numbers_are_read(rt: HostRuntime) {
     for (bytes, number, at) in NUMBERS {
         let mut scan = Scan::new(bytes);
-        assert!(rt; scan.number() == Ok(*number));
-        assert!(rt; scan.at() == *at);
+        expect!(rt; scan.number() == Ok(*number));
+        expect!(rt; scan.at() == *at);
     }
 }
 
@@ -36,8 +37,8 @@ const NO_NUMBERS: &[(&[u8], TextFault)] = &[
 fn numbers_are_refused(rt: HostRuntime) {
     for (bytes, fault) in NO_NUMBERS {
         let mut scan = Scan::new(bytes);
-        assert!(rt; scan.number() == Err(*fault));
-        assert!(rt; scan.at() == 0);
+        expect!(rt; scan.number() == Err(*fault));
+        expect!(rt; scan.at() == 0);
     }
 }
 
@@ -45,8 +46,8 @@ fn numbers_are_refused(rt: HostRuntime) {
 fn strings_are_read(rt: HostRuntime) -> Result<(), Fail> {
     let mut scan = Scan::new(b" \"a\"\"b`c\r\nd\" 5");
     let text = scan.quoted(rt.alloc())?;
-    assert!(rt; text.as_slice() == b"a\"b\"c\nd".as_slice());
-    assert!(rt; scan.number() == Ok(5));
+    expect!(rt; text.as_slice() == b"a\"b\"c\nd".as_slice());
+    expect!(rt; scan.number() == Ok(5));
     Ok(())
 }
 
@@ -62,8 +63,8 @@ const STRINGS: &[(&[u8], &[u8], usize)] = &[
 fn plain_strings_are_read(rt: HostRuntime) -> Result<(), Fail> {
     for (bytes, text, at) in STRINGS {
         let mut scan = Scan::new(bytes);
-        assert!(rt; scan.quoted(rt.alloc())?.as_slice() == *text);
-        assert!(rt; scan.at() == *at);
+        expect!(rt; scan.quoted(rt.alloc())?.as_slice() == *text);
+        expect!(rt; scan.at() == *at);
     }
     Ok(())
 }
@@ -79,8 +80,8 @@ const NO_STRINGS: &[(&[u8], TextFault)] = &[
 fn strings_are_refused(rt: HostRuntime) {
     for (bytes, fault) in NO_STRINGS {
         let mut scan = Scan::new(bytes);
-        assert!(rt; scan.quoted(rt.alloc()) == Err(*fault));
-        assert!(rt; scan.at() == 0);
+        expect!(rt; scan.quoted(rt.alloc()) == Err(*fault));
+        expect!(rt; scan.at() == 0);
     }
 }
 
@@ -98,9 +99,9 @@ fn long_string(alloc: Global, length: u16) -> Result<Vec<u8>, Memory> {
 #[test]
 fn strings_end_at_the_limit(rt: HostRuntime) -> Result<(), Fail> {
     let most = long_string(rt.alloc(), 4096)?;
-    assert!(rt; Scan::new(&most).quoted(rt.alloc())?.len() == 4096);
+    expect!(rt; Scan::new(&most).quoted(rt.alloc())?.len() == 4096);
     let more = long_string(rt.alloc(), 4097)?;
-    assert!(rt; Scan::new(&more).quoted(rt.alloc()) == Err(TextFault::LongString(0)));
+    expect!(rt; Scan::new(&more).quoted(rt.alloc()) == Err(TextFault::LongString(0)));
     Ok(())
 }
 
@@ -111,6 +112,6 @@ fn written_texts(rt: HostRuntime) -> Result<(), Fail> {
     put_quoted(rt.alloc(), &mut out, b"a\"b")?;
     put_number(rt.alloc(), &mut out, 0)?;
     put_integer(rt.alloc(), &mut out, i64::MIN)?;
-    assert!(rt; out.as_slice() == b"-2147483648\"a\"\"b\"0-9223372036854775808".as_slice());
+    expect!(rt; out.as_slice() == b"-2147483648\"a\"\"b\"0-9223372036854775808".as_slice());
     Ok(())
 }

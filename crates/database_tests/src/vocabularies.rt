@@ -9,6 +9,7 @@ use scott_vocab::{
 };
 use std::alloc::Global;
 use std::test::Fail;
+use test_support::expect;
 
 // The verbs and the nouns, in the order of their numbers. Three bytes of a word count.
 const WORDS: &[u8] = b"
@@ -59,9 +60,9 @@ const NAMED: &[(Column, &str, Option<u16>)] = &[
 fn words_name_base_entries(rt: HostRuntime) -> Result<(), Fail> {
     let db = worded(rt.alloc())?;
     for (column, word, entry) in NAMED {
-        assert!(rt; which(&db, *column, word.as_bytes()) == *entry, "at {word}");
+        expect!(rt; which(&db, *column, word.as_bytes()) == *entry, word);
         let found = looked_up(rt.alloc(), &db, *column, word)?;
-        assert!(rt; found == *entry, "at {word}");
+        expect!(rt; found == *entry, word);
     }
     Ok(())
 }
@@ -73,7 +74,7 @@ fn first_number_of_a_word_stays(rt: HostRuntime) -> Result<(), Fail> {
         index.add(rt.alloc(), word.as_bytes(), number)?;
     }
     for (word, number) in [("LAMPS", Some(7)), ("lam", None), ("", None)] {
-        assert!(rt; index.find(word.as_bytes()) == number, "at {word}");
+        expect!(rt; index.find(word.as_bytes()) == number, word);
     }
     Ok(())
 }
@@ -90,7 +91,7 @@ const BASES: &[(Column, &str, Option<u16>)] = &[
 fn a_database_is_a_vocabulary(rt: HostRuntime) -> Result<(), Fail> {
     let db = worded(rt.alloc())?;
     for (column, word, base) in BASES {
-        assert!(rt; db.named(*column, word.as_bytes()) == *base, "at {word}");
+        expect!(rt; db.named(*column, word.as_bytes()) == *base, word);
     }
     Ok(())
 }
@@ -99,15 +100,15 @@ fn a_database_is_a_vocabulary(rt: HostRuntime) -> Result<(), Fail> {
 fn entries_stand_for_base_ones(rt: HostRuntime) -> Result<(), Fail> {
     let db = worded(rt.alloc())?;
     let entries = db.words().len();
-    assert!(rt; entries == 12);
+    expect!(rt; entries == 12);
     let run = entry_at(&db, Column::Verbs, 1, None);
-    assert!(rt; run.word == b"RUN".as_slice());
-    assert!(rt; run.base == None);
+    expect!(rt; run.word == b"RUN".as_slice());
+    expect!(rt; run.base == None);
     let walk = entry_at(&db, Column::Verbs, 3, Some(2));
-    assert!(rt; walk.word == b"WALK".as_slice());
-    assert!(rt; walk.base == Some(2));
+    expect!(rt; walk.word == b"WALK".as_slice());
+    expect!(rt; walk.base == Some(2));
     let lamp = entry_at(&db, Column::Nouns, 7, Some(6));
-    assert!(rt; lamp.base == Some(7));
+    expect!(rt; lamp.base == Some(7));
     Ok(())
 }
 
@@ -115,9 +116,9 @@ fn entries_stand_for_base_ones(rt: HostRuntime) -> Result<(), Fail> {
 fn nouns_have_texts(rt: HostRuntime) -> Result<(), Fail> {
     let db = worded(rt.alloc())?;
     let entries = db.parts().words.len();
-    assert!(rt; entries == 12);
-    assert!(rt; root(&db, 7) == b"LAMP".as_slice());
-    assert!(rt; root(&db, 8) == b"*LANT".as_slice());
+    expect!(rt; entries == 12);
+    expect!(rt; root(&db, 7) == b"LAMP".as_slice());
+    expect!(rt; root(&db, 8) == b"*LANT".as_slice());
     Ok(())
 }
 
@@ -135,12 +136,12 @@ fn lines_split_into_words(rt: HostRuntime) {
     for (typed, first, second, noun) in LINES {
         let line = Line::of(typed.as_bytes());
         let words = split(&line);
-        assert!(rt; words.first == *first, "at {typed}");
-        assert!(rt; words.second == *second, "at {typed}");
-        assert!(rt; typed_noun(&line) == noun.as_bytes(), "at {typed}");
+        expect!(rt; words.first == *first, typed);
+        expect!(rt; words.second == *second, typed);
+        expect!(rt; typed_noun(&line) == noun.as_bytes(), typed);
         if let Some((start, length)) = words.second {
             let word = word_at(&line, start, length);
-            assert!(rt; word == noun.as_bytes(), "at {typed}");
+            expect!(rt; word == noun.as_bytes(), typed);
         }
     }
 }
@@ -165,7 +166,7 @@ fn lines_are_commands(rt: HostRuntime) -> Result<(), Fail> {
     let db = worded(rt.alloc())?;
     for (typed, heard) in COMMANDS {
         let line = Line::of(typed.as_bytes());
-        assert!(rt; command(&db, &line) == *heard, "at {typed}");
+        expect!(rt; command(&db, &line) == *heard, typed);
     }
     Ok(())
 }
@@ -179,16 +180,16 @@ fn six_nouns_are_directions(rt: HostRuntime) {
 
 #[test]
 fn letters_are_lower_case_and_few(rt: HostRuntime) {
-    assert!(rt; letters(3, b"LAMP").as_slice() == b"lam".as_slice());
-    assert!(rt; letters(20, b"Lamp").as_slice() == b"lamp".as_slice());
-    assert!(rt; letters(0, b"lamp").as_slice() == b"".as_slice());
+    expect!(rt; letters(3, b"LAMP").as_slice() == b"lam".as_slice());
+    expect!(rt; letters(20, b"Lamp").as_slice() == b"lamp".as_slice());
+    expect!(rt; letters(0, b"lamp").as_slice() == b"".as_slice());
 }
 
 #[test]
 fn letters_that_count_match(rt: HostRuntime) {
-    assert!(rt; is_typed(3, b"LAMP", b"lamb"));
-    assert!(rt; !is_typed(4, b"LAMP", b"lamb"));
-    assert!(rt; is_typed(20, b"LAMP", b"lamp"));
-    assert!(rt; !is_typed(20, b"LAMP", b"lamps"));
-    assert!(rt; !is_typed(3, b"", b""));
+    expect!(rt; is_typed(3, b"LAMP", b"lamb"));
+    expect!(rt; !is_typed(4, b"LAMP", b"lamb"));
+    expect!(rt; is_typed(20, b"LAMP", b"lamp"));
+    expect!(rt; !is_typed(20, b"LAMP", b"lamps"));
+    expect!(rt; !is_typed(3, b"", b""));
 }

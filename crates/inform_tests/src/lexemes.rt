@@ -1,5 +1,6 @@
 //! The tables against the lists of the profile.
 use inform_lexemes::{Keyword, Symbol};
+use test_support::expect;
 
 // The symbols as the profile lists them, the longest of those that begin alike last.
 const SYMBOLS: &str = "; , : ( ) { } [ ] = == ~= < > <= >= && || ~~ + - * / % -> --> ++ --";
@@ -15,10 +16,10 @@ fn symbols_are_spelled(rt: HostRuntime) {
     for text in SYMBOLS.split(' ') {
         count = count.saturating_add(1);
         let found = Symbol::spelled(text.as_bytes()).map(|symbol| symbol.spelling());
-        assert!(rt; found == Some(text.as_bytes()), "at {text}");
+        expect!(rt; found == Some(text.as_bytes()), text);
     }
-    assert!(rt; count == 28);
-    assert!(rt; Symbol::spelled(b"<>").is_none());
+    expect!(rt; count == 28);
+    expect!(rt; Symbol::spelled(b"<>").is_none());
 }
 
 #[test]
@@ -28,9 +29,9 @@ fn keywords_are_spelled(rt: HostRuntime) {
         if !text.is_empty() {
             count = count.saturating_add(1);
             let found = Keyword::spelled(text.as_bytes()).map(|keyword| keyword.spelling());
-            assert!(rt; found == Some(text.as_bytes()), "at {text}");
+            expect!(rt; found == Some(text.as_bytes()), text);
         }
     }
-    assert!(rt; count == 23);
-    assert!(rt; Keyword::spelled(b"box").is_none());
+    expect!(rt; count == 23);
+    expect!(rt; Keyword::spelled(b"box").is_none());
 }

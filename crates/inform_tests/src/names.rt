@@ -6,6 +6,7 @@ use itoa::Buffer;
 use std::alloc::Global;
 use std::process::Abort;
 use std::test::Fail;
+use test_support::expect;
 
 // ---- what is said of a program
 
@@ -37,7 +38,7 @@ fn expect(
         text.extend_from_slice(part.as_bytes())?;
     }
     let found = judged(alloc, program_of(alloc, &text)?, width)?;
-    assert!(rt; found.as_slice() == said.as_bytes(), "at {}", parts[1]);
+    expect!(rt; found.as_slice() == said.as_bytes(), parts[1]);
     Ok(())
 }
 
@@ -300,7 +301,7 @@ fn array_without_entries(rt: HostRuntime) -> Result<(), Fail> {
     let word = Name::of(b"a".to_vec(alloc)?);
     let directives = vec![in alloc; Directive::Array(word, false, Vec::new(alloc))]?;
     let found = judged(alloc, Program { directives }, Width::W16)?;
-    assert!(rt; found.as_slice() == b"a has a wrong size".as_slice());
+    expect!(rt; found.as_slice() == b"a has a wrong size".as_slice());
     Ok(())
 }
 
@@ -332,11 +333,11 @@ fn value_of(names: &Names<'_>, word: &Name) -> Option<Value> {
 // What the look-ups of the accepted sample give.
 fn look_up(rt: &impl Abort, alloc: Global, accepted: &Accepted) -> Result<(), Fail> {
     let names = Names::of(alloc, accepted)?;
-    assert!(rt; names.accepted().program().directives.len() == 5);
-    assert!(rt; names.word(&Const::Minus(2)) == -2);
+    expect!(rt; names.accepted().program().directives.len() == 5);
+    expect!(rt; names.word(&Const::Minus(2)) == -2);
     let (at, main) = names.main();
-    assert!(rt; at == 4);
-    assert!(rt; main.name.bytes() == b"main".as_slice());
+    expect!(rt; at == 4);
+    expect!(rt; main.name.bytes() == b"main".as_slice());
     for (word, found, value) in [
         ("c", Some(-1), Some(Value::Word(-1))),
         ("g", Some(1), Some(Value::Global(1))),
@@ -345,8 +346,8 @@ fn look_up(rt: &impl Abort, alloc: Global, accepted: &Accepted) -> Result<(), Fa
         ("x", None, None),
     ] {
         let key = Name::of(word.as_bytes().to_vec(alloc)?);
-        assert!(rt; looked_up(&names, &key) == found, "at {word}");
-        assert!(rt; value_of(&names, &key) == value, "at {word}");
+        expect!(rt; looked_up(&names, &key) == found, word);
+        expect!(rt; value_of(&names, &key) == value, word);
     }
     Ok(())
 }
@@ -357,10 +358,10 @@ fn names_are_looked_up(rt: HostRuntime) -> Result<(), Fail> {
     for width in [Width::W16, Width::W32] {
         match accept(alloc, program_of(alloc, SAMPLE)?, width) {
             Ok(accepted) => {
-                assert!(rt; accepted.width() == width);
+                expect!(rt; accepted.width() == width);
                 look_up(&rt, alloc, &accepted)?;
             }
-            Err((_program, _fault)) => assert!(rt; false),
+            Err((_program, _fault)) => expect!(rt; false),
         }
     }
     Ok(())
@@ -378,8 +379,8 @@ fn is_global_alone(program: &Program) -> bool {
 fn refused_program_comes_back(rt: HostRuntime) -> Result<(), Fail> {
     let alloc = rt.alloc();
     match accept(alloc, program_of(alloc, b"Global g;")?, Width::W16) {
-        Ok(_accepted) => assert!(rt; false),
-        Err((program, _fault)) => assert!(rt; is_global_alone(&program)),
+        Ok(_accepted) => expect!(rt; false),
+        Err((program, _fault)) => expect!(rt; is_global_alone(&program)),
     }
     Ok(())
 }

@@ -5,6 +5,7 @@ use inform_tree::{Const, Directive, Expr, Program, Stmt};
 use itoa::Buffer;
 use std::alloc::{AllocError, Global};
 use std::test::Fail;
+use test_support::expect;
 
 // Each fault, with its place.
 const FAULTS: &[(&[u8], ParseFault)] = &[
@@ -73,7 +74,7 @@ fn fault_of(alloc: Global, bytes: &[u8]) -> Option<ParseFault> {
 #[test]
 fn faults_are_found(rt: HostRuntime) {
     for (bytes, fault) in FAULTS {
-        assert!(rt; fault_of(rt.alloc(), bytes) == Some(*fault));
+        expect!(rt; fault_of(rt.alloc(), bytes) == Some(*fault));
     }
 }
 
@@ -93,7 +94,7 @@ const PROGRAMS: &[&[u8]] = &[
 #[test]
 fn programs_are_read(rt: HostRuntime) {
     for bytes in PROGRAMS {
-        assert!(rt; fault_of(rt.alloc(), bytes).is_none());
+        expect!(rt; fault_of(rt.alloc(), bytes).is_none());
     }
 }
 
@@ -144,8 +145,8 @@ fn is_array(alloc: Global, bytes: &[u8]) -> bool {
 
 #[test]
 fn trees_are_given(rt: HostRuntime) {
-    assert!(rt; returns_minus_7(rt.alloc(), b"[ Main; return -7; ];"));
-    assert!(rt; is_array(rt.alloc(), b"Array a --> 3 (-4);"));
+    expect!(rt; returns_minus_7(rt.alloc(), b"[ Main; return -7; ];"));
+    expect!(rt; is_array(rt.alloc(), b"Array a --> 3 (-4);"));
 }
 
 // A text of one routine: what opens, so many times, then the middle, and what closes as often.
@@ -182,9 +183,9 @@ const OPENERS: &[(&[u8], &[u8], &[u8], u32, usize)] = &[
 fn openers_are_limited(rt: HostRuntime) -> Result<(), Fail> {
     for (opens, middle, closes, most, at) in OPENERS {
         let text = nested(rt.alloc(), *most, opens, middle, closes)?;
-        assert!(rt; fault_of(rt.alloc(), &text).is_none());
+        expect!(rt; fault_of(rt.alloc(), &text).is_none());
         let text = nested(rt.alloc(), 201, opens, middle, closes)?;
-        assert!(rt; fault_of(rt.alloc(), &text) == Some(ParseFault::TooDeep(*at)));
+        expect!(rt; fault_of(rt.alloc(), &text) == Some(ParseFault::TooDeep(*at)));
     }
     Ok(())
 }
@@ -206,10 +207,10 @@ fn bracketed(alloc: Global, count: u32) -> Result<Vec<u8>, AllocError> {
 #[test]
 fn round_brackets_are_limited(rt: HostRuntime) -> Result<(), Fail> {
     let text = bracketed(rt.alloc(), 200)?;
-    assert!(rt; fault_of(rt.alloc(), &text).is_none());
+    expect!(rt; fault_of(rt.alloc(), &text).is_none());
     let text = bracketed(rt.alloc(), 201)?;
-    assert!(rt; fault_of(rt.alloc(), &text) == Some(ParseFault::TooDeep(212)));
-    assert!(rt; fault_of(rt.alloc(), &[b'('; 201]) == Some(ParseFault::Unexpected(0)));
+    expect!(rt; fault_of(rt.alloc(), &text) == Some(ParseFault::TooDeep(212)));
+    expect!(rt; fault_of(rt.alloc(), &[b'('; 201]) == Some(ParseFault::Unexpected(0)));
     Ok(())
 }
 
@@ -232,7 +233,7 @@ fn faults_are_told(rt: HostRuntime) -> Result<(), Fail> {
         (ParseFault::Memory, ""),
     ] {
         let said = said(rt.alloc(), fault)?;
-        assert!(rt; said.as_slice() == text.as_bytes(), "at {text}");
+        expect!(rt; said.as_slice() == text.as_bytes(), text);
     }
     Ok(())
 }

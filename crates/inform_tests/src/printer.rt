@@ -7,6 +7,7 @@ use inform_tree::Program;
 use std::alloc::Global;
 use std::process::Abort;
 use std::test::Fail;
+use test_support::expect;
 
 // The printed text of a program, where it is well formed.
 fn printed(alloc: Global, program: &Program) -> Result<Vec<u8>, Fail> {
@@ -177,7 +178,7 @@ fn texts_are_printed(rt: HostRuntime) -> Result<(), Fail> {
     let alloc = rt.alloc();
     for (spelling, bytes) in TEXTS {
         expect_all(&rt, alloc, "[ main ;\nprint ", &[spelling], " ;\n] ;\n")?;
-        assert!(rt;
+        expect!(rt;
             reads_back(alloc, spelling.as_bytes(), bytes)?,
             "at {spelling}"
         );

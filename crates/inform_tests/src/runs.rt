@@ -9,6 +9,7 @@ use itoa::Buffer;
 use std::alloc::Global;
 use std::process::Abort;
 use std::test::Fail;
+use test_support::expect;
 
 // A program, the lines, the draws, the steps, the width of its words, and what it says, then why it
 // stops and how many steps it used.
@@ -401,7 +402,7 @@ fn outcome(alloc: Global, row: &Row) -> Result<Vec<u8>, Fail> {
 fn check(rt: &impl Abort, alloc: Global, rows: &[Row]) -> Result<(), Fail> {
     for row in rows {
         let said = outcome(alloc, row)?;
-        assert!(rt; said.as_slice() == row.outcome);
+        expect!(rt; said.as_slice() == row.outcome);
     }
     Ok(())
 }

@@ -4,6 +4,7 @@ use inform_lexer::{Glance, Kind, LexFault, glance, name, text, tokens};
 use itoa::Buffer;
 use std::alloc::Global;
 use std::test::Fail;
+use test_support::expect;
 
 // Each fault, with its place.
 const FAULTS: &[(&[u8], LexFault)] = &[
@@ -52,7 +53,7 @@ fn is_refused(alloc: Global, bytes: &[u8], fault: LexFault) -> bool {
 #[test]
 fn faults_are_found(rt: HostRuntime) {
     for (bytes, fault) in FAULTS {
-        assert!(rt; is_refused(rt.alloc(), bytes, *fault));
+        expect!(rt; is_refused(rt.alloc(), bytes, *fault));
     }
 }
 
@@ -76,8 +77,8 @@ fn faults_are_said(rt: HostRuntime) {
     for (fault, opening, place) in TEXTS_OF_FAULTS {
         let mut digits = Buffer::new();
         let pieces = fault.pieces(&mut digits);
-        assert!(rt; pieces[0] == *opening);
-        assert!(rt; pieces[1] == *place);
+        expect!(rt; pieces[0] == *opening);
+        expect!(rt; pieces[1] == *place);
     }
 }
 

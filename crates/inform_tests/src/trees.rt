@@ -5,6 +5,7 @@ use inform_tree::{
 };
 use std::alloc::{AllocError, Global};
 use std::test::Fail;
+use test_support::expect;
 
 // The reserved words, as the profile lists them.
 const LISTED: &str = "array attribute box break buffer char class constant continue default do \
@@ -18,10 +19,10 @@ fn words_are_reserved(rt: HostRuntime) {
     for word in LISTED.split(' ') {
         if !word.is_empty() {
             count = count.saturating_add(1);
-            assert!(rt; is_reserved(word.as_bytes()), "at {word}");
+            expect!(rt; is_reserved(word.as_bytes()), word);
         }
     }
-    assert!(rt; count == 55);
+    expect!(rt; count == 55);
 }
 
 #[test]
@@ -36,7 +37,7 @@ fn names_and_characters(rt: HostRuntime) {
         ("Main", false),
         ("switch", false),
     ] {
-        assert!(rt; is_name(word.as_bytes()) == fits, "at {word}");
+        expect!(rt; is_name(word.as_bytes()) == fits, word);
     }
     for (byte, fits) in [
         (b' ', true),
@@ -81,7 +82,7 @@ fn nested(alloc: Global, count: u32) -> Result<Vec<Stmt>, AllocError> {
 fn depth_64_is_the_limit(rt: HostRuntime) -> Result<(), Fail> {
     for (count, fits) in [(0, true), (63, true), (64, true), (65, false), (200, false)] {
         let deep = program(rt.alloc(), nested(rt.alloc(), count)?)?;
-        assert!(rt; depth_of(&deep) == count);
+        expect!(rt; depth_of(&deep) == count);
         assert!(rt; deep.well_formed() == fits, "at {count}");
     }
     Ok(())
@@ -134,8 +135,8 @@ fn statements(rt: HostRuntime) -> Result<(), Fail> {
     rows.push((counted_up(alloc, b"if")?, 1, false))?;
     for (statement, deep, fits) in rows {
         let one = program(alloc, vec![in alloc; statement]?)?;
-        assert!(rt; depth_of(&one) == deep);
-        assert!(rt; one.well_formed() == fits);
+        expect!(rt; depth_of(&one) == deep);
+        expect!(rt; one.well_formed() == fits);
     }
     Ok(())
 }
@@ -143,9 +144,9 @@ fn statements(rt: HostRuntime) -> Result<(), Fail> {
 #[test]
 fn texts_and_widths(rt: HostRuntime) -> Result<(), Fail> {
     let text = Text::of(b"a~b".to_vec(rt.alloc())?);
-    assert!(rt; text.bytes() == b"a~b".as_slice());
+    expect!(rt; text.bytes() == b"a~b".as_slice());
     let name = Name::of(b"lamp".to_vec(rt.alloc())?);
-    assert!(rt; name.bytes() == b"lamp".as_slice());
-    assert!(rt; Width::W16 != Width::W32);
+    expect!(rt; name.bytes() == b"lamp".as_slice());
+    expect!(rt; Width::W16 != Width::W32);
     Ok(())
 }

@@ -3,6 +3,7 @@ use adv_compiler::{CompileFault, compile};
 use source_reader::read_source;
 use std::alloc::{AllocError, Global};
 use std::test::Fail;
+use test_support::expect;
 
 const HEADER: &[u8] = b"header {
 unused 0;
@@ -69,20 +70,20 @@ fn a_source_means_its_database(rt: HostRuntime) -> Result<(), Fail> {
     let db = compile(rt.alloc(), &source)?;
     let parts = db.parts();
     let header = &parts.header;
-    assert!(rt; (header.unused, header.carry, header.start) == (0, 5, 1));
-    assert!(rt; (header.treasures, header.length) == (0, 3));
-    assert!(rt; (header.light, header.home) == (-1, 0));
-    assert!(rt; (parts.words.len(), parts.rooms.len()) == (7, 3));
-    assert!(rt; (parts.messages.len(), parts.items.len()) == (1, 1));
+    expect!(rt; (header.unused, header.carry, header.start) == (0, 5, 1));
+    expect!(rt; (header.treasures, header.length) == (0, 3));
+    expect!(rt; (header.light, header.home) == (-1, 0));
+    expect!(rt; (parts.words.len(), parts.rooms.len()) == (7, 3));
+    expect!(rt; (parts.messages.len(), parts.items.len()) == (1, 1));
     for item in &parts.items {
-        assert!(rt; item.place == 1);
-        assert!(rt; item.text.bytes() == b"Rug".as_slice());
+        expect!(rt; item.place == 1);
+        expect!(rt; item.text.bytes() == b"Rug".as_slice());
     }
     for comment in &parts.comments {
-        assert!(rt; comment.bytes() == b"".as_slice());
+        expect!(rt; comment.bytes() == b"".as_slice());
     }
     let trailer = &parts.trailer;
-    assert!(rt; (trailer.version, trailer.adventure, trailer.third) == (416, 1, 0));
+    expect!(rt; (trailer.version, trailer.adventure, trailer.third) == (416, 1, 0));
     Ok(())
 }
 
@@ -113,9 +114,9 @@ fn lines_mean_actions(rt: HostRuntime) -> Result<(), Fail> {
         let source = read_source(rt.alloc(), &bytes)?;
         let db = compile(rt.alloc(), &source)?;
         for action in &db.parts().actions {
-            assert!(rt; action.vocab == vocab);
-            assert!(rt; action.conds == conds);
-            assert!(rt; action.pairs == pairs);
+            expect!(rt; action.vocab == vocab);
+            expect!(rt; action.conds == conds);
+            expect!(rt; action.pairs == pairs);
         }
     }
     Ok(())
@@ -179,7 +180,7 @@ fn lines_are_refused(rt: HostRuntime) -> Result<(), Fail> {
     ] {
         let bytes = text_of(rt.alloc(), HEADER, ROOMS, line)?;
         let source = read_source(rt.alloc(), &bytes)?;
-        assert!(rt; compile(rt.alloc(), &source).err() == Some(fault));
+        expect!(rt; compile(rt.alloc(), &source).err() == Some(fault));
     }
     Ok(())
 }
@@ -210,7 +211,7 @@ fn headers_and_rooms_are_refused(rt: HostRuntime) -> Result<(), Fail> {
     ] {
         let bytes = text_of(rt.alloc(), header, rooms, NO_ACTION)?;
         let source = read_source(rt.alloc(), &bytes)?;
-        assert!(rt; compile(rt.alloc(), &source).err() == Some(fault));
+        expect!(rt; compile(rt.alloc(), &source).err() == Some(fault));
     }
     Ok(())
 }

@@ -4,6 +4,7 @@ use adv_decompiler::decompile;
 use source_reader::read_source;
 use std::alloc::Global;
 use std::test::Fail;
+use test_support::expect;
 
 const PLAIN: &[u8] = b"header {
 unused 0;
@@ -125,7 +126,7 @@ fn is_written(alloc: Global, line: &[u8], plain: &[u8]) -> Result<bool, Fail> {
 #[test]
 fn a_plain_text_is_written_again(rt: HostRuntime) -> Result<(), Fail> {
     let written = plain_of(rt.alloc(), PLAIN)?;
-    assert!(rt; written.as_slice() == PLAIN);
+    expect!(rt; written.as_slice() == PLAIN);
     Ok(())
 }
 
@@ -153,7 +154,7 @@ fn tests_and_heads_are_written(rt: HostRuntime) -> Result<(), Fail> {
             b"also { none_carried 5; some_carried 0; } { swap_room(3); picture(9); set(1); } \"\";".as_slice(),
         ),
     ] {
-        assert!(rt; is_written(rt.alloc(), line, plain)?);
+        expect!(rt; is_written(rt.alloc(), line, plain)?);
     }
     Ok(())
 }
@@ -186,7 +187,7 @@ fn brackets_are_written(rt: HostRuntime) -> Result<(), Fail> {
             b"also { carried i0; } { get(i0); drop(i0); } \"\";".as_slice(),
         ),
     ] {
-        assert!(rt; is_written(rt.alloc(), line, plain)?);
+        expect!(rt; is_written(rt.alloc(), line, plain)?);
     }
     Ok(())
 }
@@ -211,7 +212,7 @@ fn brackets_are_left_out(rt: HostRuntime) -> Result<(), Fail> {
             b"also { param 2; param 7; } { go; } \"\";".as_slice(),
         ),
     ] {
-        assert!(rt; is_written(rt.alloc(), line, plain)?);
+        expect!(rt; is_written(rt.alloc(), line, plain)?);
     }
     Ok(())
 }

@@ -2,6 +2,7 @@
 use source_reader::{Op, Ref, SourceFault, Spot, condition_word, opcode_word, read_source};
 use std::alloc::{AllocError, Global};
 use std::test::Fail;
+use test_support::expect;
 
 const FRONT: &[u8] = b"header {
 unused 0;
@@ -55,15 +56,15 @@ fn text_of(alloc: Global, lines: &[u8]) -> Result<Vec<u8>, AllocError> {
 fn header_and_ends_are_read(rt: HostRuntime) -> Result<(), Fail> {
     let bytes = text_of(rt.alloc(), LINES)?;
     let source = read_source(rt.alloc(), &bytes)?;
-    assert!(rt; (source.unused.at, source.unused.what) == (16, 0));
-    assert!(rt; (source.carry.at, source.carry.what) == (25, 5));
-    assert!(rt; (source.length.at, source.length.what) == (58, 3));
-    assert!(rt; (source.light.at, source.light.what) == (67, -1));
-    assert!(rt; (source.start.at, source.home.at) == (34, 76));
-    assert!(rt; (source.words.end, source.rooms.end) == (116, 190));
-    assert!(rt; (source.messages.end, source.items.end) == (226, 297));
-    assert!(rt; source.lines.end == 456);
-    assert!(rt; source.trailer == [416, 1, 0]);
+    expect!(rt; (source.unused.at, source.unused.what) == (16, 0));
+    expect!(rt; (source.carry.at, source.carry.what) == (25, 5));
+    expect!(rt; (source.length.at, source.length.what) == (58, 3));
+    expect!(rt; (source.light.at, source.light.what) == (67, -1));
+    expect!(rt; (source.start.at, source.home.at) == (34, 76));
+    expect!(rt; (source.words.end, source.rooms.end) == (116, 190));
+    expect!(rt; (source.messages.end, source.items.end) == (226, 297));
+    expect!(rt; source.lines.end == 456);
+    expect!(rt; source.trailer == [416, 1, 0]);
     Ok(())
 }
 
@@ -72,18 +73,18 @@ fn entries_are_read(rt: HostRuntime) -> Result<(), Fail> {
     let bytes = text_of(rt.alloc(), LINES)?;
     let source = read_source(rt.alloc(), &bytes)?;
     for word in source.words.entries.as_slice() {
-        assert!(rt; word.at != 102 || word.what.noun.as_slice() == b"NORTH".as_slice());
+        expect!(rt; word.at != 102 || word.what.noun.as_slice() == b"NORTH".as_slice());
     }
     for room in source.rooms.entries.as_slice() {
         let [north, _, _, west, _, _] = &room.what.exits;
-        assert!(rt; room.at == 126 || room.what.text.as_slice() == b"hall".as_slice());
-        assert!(rt; room.at == 126 || matches!(&north.what, Ref::Name(_)));
-        assert!(rt; room.at == 126 || matches!(&west.what, Ref::Number(7)));
+        expect!(rt; room.at == 126 || room.what.text.as_slice() == b"hall".as_slice());
+        expect!(rt; room.at == 126 || matches!(&north.what, Ref::Name(_)));
+        expect!(rt; room.at == 126 || matches!(&west.what, Ref::Number(7)));
     }
     for item in source.items.entries.as_slice() {
-        assert!(rt; item.what.name.is_some() == (item.at == 236));
-        assert!(rt; matches!(&item.what.place.what, Spot::Carried) == (item.at == 256));
-        assert!(rt; matches!(&item.what.place.what, Spot::Nowhere) == (item.at == 279));
+        expect!(rt; item.what.name.is_some() == (item.at == 236));
+        expect!(rt; matches!(&item.what.place.what, Spot::Carried) == (item.at == 256));
+        expect!(rt; matches!(&item.what.place.what, Spot::Nowhere) == (item.at == 279));
     }
     Ok(())
 }
@@ -98,10 +99,10 @@ fn lines_are_read(rt: HostRuntime) -> Result<(), Fail> {
             418 => 1,
             _ => 0,
         };
-        assert!(rt; line.what.ops.as_slice().len() == count);
+        expect!(rt; line.what.ops.as_slice().len() == count);
         for cond in line.what.conds.as_slice() {
             let found = (cond.at, cond.what.code);
-            assert!(rt; found == (321, 3) || found == (331, 0) || found == (428, 1));
+            expect!(rt; found == (321, 3) || found == (331, 0) || found == (428, 1));
         }
         for op in line.what.ops.as_slice() {
             let right = match &op.what {
@@ -114,7 +115,7 @@ fn lines_are_read(rt: HostRuntime) -> Result<(), Fail> {
                         || (op.at, *number, count) == (385, 53, 1)
                 }
             };
-            assert!(rt; right);
+            expect!(rt; right);
         }
     }
     Ok(())
@@ -159,7 +160,7 @@ fn texts_are_refused(rt: HostRuntime) -> Result<(), Fail> {
             SourceFault::OpenString(26),
         ),
     ] {
-        assert!(rt; read_source(rt.alloc(), bytes).err() == Some(fault));
+        expect!(rt; read_source(rt.alloc(), bytes).err() == Some(fault));
     }
     Ok(())
 }
@@ -214,7 +215,7 @@ fn lines_are_refused(rt: HostRuntime) -> Result<(), Fail> {
         ),
     ] {
         let bytes = text_of(rt.alloc(), lines)?;
-        assert!(rt; read_source(rt.alloc(), &bytes).err() == Some(fault));
+        expect!(rt; read_source(rt.alloc(), &bytes).err() == Some(fault));
     }
     Ok(())
 }
@@ -223,17 +224,17 @@ fn lines_are_refused(rt: HostRuntime) -> Result<(), Fail> {
 fn a_long_string_is_refused(rt: HostRuntime) -> Result<(), Fail> {
     let mut bytes = vec![in rt.alloc(); b'x'; 4098]?;
     bytes[0] = b'"';
-    assert!(rt; read_source(rt.alloc(), &bytes).err() == Some(SourceFault::LongString(0)));
+    expect!(rt; read_source(rt.alloc(), &bytes).err() == Some(SourceFault::LongString(0)));
     bytes[4097] = b'"';
-    assert!(rt; read_source(rt.alloc(), &bytes).err() == Some(SourceFault::Unexpected(0)));
+    expect!(rt; read_source(rt.alloc(), &bytes).err() == Some(SourceFault::Unexpected(0)));
     Ok(())
 }
 
 #[test]
 fn words_are_told_by_their_numbers(rt: HostRuntime) -> Result<(), Fail> {
-    assert!(rt; condition_word(0) == b"param".as_slice());
-    assert!(rt; condition_word(19) == b"counter_is".as_slice());
-    assert!(rt; opcode_word(52) == b"get".as_slice());
-    assert!(rt; opcode_word(89) == b"picture".as_slice());
+    expect!(rt; condition_word(0) == b"param".as_slice());
+    expect!(rt; condition_word(19) == b"counter_is".as_slice());
+    expect!(rt; opcode_word(52) == b"get".as_slice());
+    expect!(rt; opcode_word(89) == b"picture".as_slice());
     Ok(())
 }

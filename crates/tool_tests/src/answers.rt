@@ -11,6 +11,7 @@ use scott_tool::status_without_words;
 use std::io::ErrorKind;
 use std::process::Abort;
 use std::test::Fail;
+use test_support::expect;
 
 // Each case of these tables.
 fn expect_all<R: Abort + AllocGlobal>(rt: &R, tables: &[&[Case<'_>]]) -> Result<(), Fail> {
@@ -66,8 +67,8 @@ fn translations_are_played(rt: HostRuntime) -> Result<(), Fail> {
 fn arrays_have_an_entry_more(rt: HostRuntime) -> Result<(), Fail> {
     let shelf = expect_translated(&rt, &translations::CELL)?;
     let program = shelf.file("g.inf").ok_or("no program")?;
-    assert!(rt; is_in(b"\nArray item --> 0 0 ;\n", program));
-    assert!(rt; is_in(b"\nArray exits --> 0 0 0 0 0 0 0 ;\n", program));
+    expect!(rt; is_in(b"\nArray item --> 0 0 ;\n", program));
+    expect!(rt; is_in(b"\nArray exits --> 0 0 0 0 0 0 0 ;\n", program));
     Ok(())
 }
 
@@ -80,18 +81,18 @@ fn runs_are_answered(rt: HostRuntime) -> Result<(), Fail> {
         ..runs::DONE
     };
     let (status, console, _) = answer_of(rt.alloc(), &case)?;
-    assert!(rt; status == 0);
-    assert!(rt; console.said() == [b'a', b'"', b'b', b'\n', 200].as_slice());
+    expect!(rt; status == 0);
+    expect!(rt; console.said() == [b'a', b'"', b'b', b'\n', 200].as_slice());
     Ok(())
 }
 
 // Each prompt is said before its line is taken.
 #[test]
 fn lines_are_taken_in_their_places(rt: HostRuntime) -> Result<(), Fail> {
-    assert!(rt; T.text(rt.alloc())?.len() == 209);
+    expect!(rt; T.text(rt.alloc())?.len() == 209);
     let console = expect(&rt, &WALK)?;
     for (i, mark) in [(0, Some(79)), (1, Some(142)), (2, Some(226)), (3, None)] {
-        assert!(rt; console.mark(i) == mark);
+        expect!(rt; console.mark(i) == mark);
     }
     Ok(())
 }
@@ -110,10 +111,10 @@ fn long_files_and_no_words_are_refused(rt: HostRuntime) -> Result<(), Fail> {
     expect(&rt, &case)?;
     let mut shelf = MemoryShelf::new(Vec::new(alloc), Vec::new(alloc));
     let (status, console) = obeyed(alloc, &[], &NOTHING, &mut shelf)?;
-    assert!(rt; status == 1);
-    assert!(rt; console.said() == USAGE.as_bytes());
-    assert!(rt; status_without_words(ErrorKind::OutOfMemory) == 9);
-    assert!(rt; status_without_words(ErrorKind::InvalidData) == 12);
+    expect!(rt; status == 1);
+    expect!(rt; console.said() == USAGE.as_bytes());
+    expect!(rt; status_without_words(ErrorKind::OutOfMemory) == 9);
+    expect!(rt; status_without_words(ErrorKind::InvalidData) == 12);
     Ok(())
 }
 
@@ -128,19 +129,19 @@ fn expect_failures<R: Abort + AllocGlobal>(rt: &R, case: &Case<'_>) -> Result<u6
             ..*case
         };
         let (status, console, _) = answer_of(rt.alloc(), &failing)?;
-        assert!(rt; whole.said().starts_with(console.said()), "{number}");
+        assert!(rt; whole.said().starts_with(console.said()), "at {number}");
         if status == status_of_all {
-            assert!(rt; console.said() == whole.said());
+            expect!(rt; console.said() == whole.said());
             return Ok(number - 1);
         }
-        assert!(rt; status == 3, "{number}");
+        assert!(rt; status == 3, "at {number}");
     }
     panic!(rt; "a console that fails is never used up")
 }
 
 #[test]
 fn consoles_fail(rt: HostRuntime) -> Result<(), Fail> {
-    assert!(rt; 8 <= expect_failures(&rt, &WALK)?);
-    assert!(rt; 3 <= expect_failures(&rt, &runs::READING)?);
+    expect!(rt; 8 <= expect_failures(&rt, &WALK)?);
+    expect!(rt; 3 <= expect_failures(&rt, &runs::READING)?);
     Ok(())
 }

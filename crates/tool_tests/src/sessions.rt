@@ -6,8 +6,8 @@ use adv_io::Line;
 use scott_format::read_db;
 use scott_turn::Session;
 use scott_types::{Ending, Position, Style};
-use std::process::Abort;
 use std::test::Fail;
+use test_support::expect;
 
 // A session that is handed its lines says what a play of them says, and takes none from its
 // console.
@@ -15,7 +15,7 @@ use std::test::Fail;
 fn lines_are_handed_in(rt: HostRuntime) -> Result<(), Fail> {
     let alloc = rt.alloc();
     let text = T.text(alloc)?;
-    assert!(rt; text.len() <= 1_048_576);
+    expect!(rt; text.len() <= 1_048_576);
     let db = read_db(alloc, text.as_bytes()).ok().ok_or("no database")?;
     let Ok(mut session) = Session::open(alloc, &db, Style::plain()) else {
         return Err(Fail::from("no session"));
@@ -25,14 +25,14 @@ fn lines_are_handed_in(rt: HostRuntime) -> Result<(), Fail> {
     let Ok(first) = session.hear(&mut draws, None, &mut console) else {
         return Err(Fail::from("the console failed"));
     };
-    assert!(rt; first == Ending::NeedsLine);
-    assert!(rt; console.said().len() == 79);
+    expect!(rt; first == Ending::NeedsLine);
+    expect!(rt; console.said().len() == 79);
     let line = Line::of(b"GO NORTH");
     let second = session.hear(&mut draws, Some(&line), &mut console);
-    assert!(rt; second == Ok(Ending::NeedsLine));
-    assert!(rt; console.said().len() == 142);
-    assert!(rt; session.state().room == 2);
-    assert!(rt; session.position() == Position::Line);
-    assert!(rt; draws.taken() == 0);
+    expect!(rt; second == Ok(Ending::NeedsLine));
+    expect!(rt; console.said().len() == 142);
+    expect!(rt; session.state().room == 2);
+    expect!(rt; session.position() == Position::Line);
+    expect!(rt; draws.taken() == 0);
     Ok(())
 }

@@ -5,6 +5,7 @@ use scott_tool::scott;
 use std::alloc::Global;
 use std::process::Abort;
 use std::test::Fail;
+use test_support::expect;
 
 /// A file: none, these bytes, these pieces, or the text of a game.
 #[derive(Clone, Copy)]
@@ -141,8 +142,8 @@ fn expect_file<R: Abort + AllocGlobal>(
     file: &File<'_>,
 ) -> Result<(), Fail> {
     match bytes_of(rt.alloc(), file)? {
-        Some(bytes) => assert!(rt; shelf.file(name) == Some(bytes.as_slice()), "{name}"),
-        None => assert!(rt; shelf.file(name) == None, "{name}"),
+        Some(bytes) => expect!(rt; shelf.file(name) == Some(bytes.as_slice()), name),
+        None => expect!(rt; shelf.file(name) == None, name),
     }
     Ok(())
 }
@@ -165,11 +166,11 @@ pub fn expect_translated<R: Abort + AllocGlobal>(
     let played = expect(rt, &case.play)?;
     let mut shelf = shelf_of(alloc, &case.play)?;
     let (status, silent) = given(alloc, case.translate, &NOTHING, &mut shelf)?;
-    assert!(rt; status == 0, "{}", case.translate);
-    assert!(rt; silent.said().len() == 0, "{}", case.translate);
+    expect!(rt; status == 0, case.translate);
+    expect!(rt; silent.said().len() == 0, case.translate);
     let (status, console) = given(alloc, case.run, &case.play, &mut shelf)?;
-    assert!(rt; status == 0, "{}", case.run);
-    assert!(rt; console.said() == played.said(), "{}", case.run);
+    expect!(rt; status == 0, case.run);
+    expect!(rt; console.said() == played.said(), case.run);
     Ok(shelf)
 }
 
@@ -177,8 +178,8 @@ pub fn expect_translated<R: Abort + AllocGlobal>(
 pub fn expect<R: Abort + AllocGlobal>(rt: &R, case: &Case<'_>) -> Result<MemoryConsole, Fail> {
     let said = joined(rt.alloc(), case.said)?;
     let (status, console, shelf) = answer_of(rt.alloc(), case)?;
-    assert!(rt; status == case.status, "{}", case.command);
-    assert!(rt; console.said() == said.as_slice(), "{}", case.command);
+    expect!(rt; status == case.status, case.command);
+    expect!(rt; console.said() == said.as_slice(), case.command);
     for (name, file) in case.after {
         expect_file(rt, &shelf, name, file)?;
     }

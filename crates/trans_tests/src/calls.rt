@@ -5,8 +5,8 @@ use adv_io::Memory;
 use inform_tree::Width;
 use scott_types::{Db, Position, State, Style};
 use std::alloc::Global;
-use std::process::Abort;
 use std::test::Fail;
+use test_support::expect;
 use trans_commands::{commands, search};
 use trans_data::tables;
 use trans_programs::program;
@@ -23,12 +23,12 @@ fn routines_are_made(rt: HostRuntime) -> Result<(), Fail> {
     let alloc = rt.alloc();
     let db = smallest(alloc)?;
     let plain = Style::plain();
-    assert!(rt; sizes(alloc, &commands(alloc, &db, plain)?)?.as_slice() == COMMANDS);
-    assert!(rt; sizes(alloc, &search(alloc)?)?.as_slice() == [1].as_slice());
+    expect!(rt; sizes(alloc, &commands(alloc, &db, plain)?)?.as_slice() == COMMANDS);
+    expect!(rt; sizes(alloc, &search(alloc)?)?.as_slice() == [1].as_slice());
     // Five routines of a line, and two of each column.
-    assert!(rt; words(alloc, &db)?.len() == 9);
+    expect!(rt; words(alloc, &db)?.len() == 9);
     // Those of commands and the search, the automatic step, and seven of a round.
-    assert!(rt; turn(alloc, &db, plain, Position::Fresh)?.len() == 23);
+    expect!(rt; turn(alloc, &db, plain, Position::Fresh)?.len() == 23);
     Ok(())
 }
 
@@ -53,7 +53,7 @@ fn counts(alloc: Global, db: &Db) -> Result<[usize; 3], Memory> {
 #[test]
 fn programs_are_made(rt: HostRuntime) -> Result<(), Fail> {
     let db = smallest(rt.alloc())?;
-    assert!(rt; counts(rt.alloc(), &db)? == [49, 81, 81]);
-    assert!(rt; translate(rt.alloc(), &db, Style::plain(), Width::W16, None).is_ok());
+    expect!(rt; counts(rt.alloc(), &db)? == [49, 81, 81]);
+    expect!(rt; translate(rt.alloc(), &db, Style::plain(), Width::W16, None).is_ok());
     Ok(())
 }

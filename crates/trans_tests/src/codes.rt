@@ -4,6 +4,7 @@ use inform_codes::examples::{CALL, CARRIED, FORK, MESSAGE, NAMES, ROUTINES};
 use inform_codes::{before, body, fork, numbered, routines};
 use inform_tree::{Change, Cond, Expr, Head, Name, Relation, Stmt};
 use std::test::Fail;
+use test_support::expect;
 
 fn is(name: &Name, text: &str) -> bool {
     name.bytes() == text.as_bytes()
@@ -65,13 +66,13 @@ fn returns_count(statement: &Stmt) -> bool {
 #[test]
 fn carried_is_grown(rt: HostRuntime) -> Result<(), Fail> {
     let grown = body(rt.alloc(), &NAMES, &[9], &CARRIED)?;
-    assert!(rt; grown.len() == 2);
+    expect!(rt; grown.len() == 2);
     let turn = turn_of(&grown[0]).ok_or("no such loop")?;
-    assert!(rt; turn.len() == 1);
+    expect!(rt; turn.len() == 1);
     let (body, other) = branches_of(&turn[0]).ok_or("no such test")?;
-    assert!(rt; body.len() == 1);
-    assert!(rt; counts_up(&body[0]) && other.is_empty());
-    assert!(rt; returns_count(&grown[1]));
+    expect!(rt; body.len() == 1);
+    expect!(rt; counts_up(&body[0]) && other.is_empty());
+    expect!(rt; returns_count(&grown[1]));
     Ok(())
 }
 
@@ -79,16 +80,16 @@ fn carried_is_grown(rt: HostRuntime) -> Result<(), Fail> {
 fn calls_succeed(rt: HostRuntime) -> Result<(), Fail> {
     let alloc = rt.alloc();
     let table = routines(alloc, &NAMES, &[9], &ROUTINES)?;
-    assert!(rt; sizes(alloc, &table)?.as_slice() == [2, 3].as_slice());
+    expect!(rt; sizes(alloc, &table)?.as_slice() == [2, 3].as_slice());
     let name = numbered(alloc, b"msg_", 12)?;
-    assert!(rt; name.as_slice() == b"msg_12".as_slice());
+    expect!(rt; name.as_slice() == b"msg_12".as_slice());
     let names = [name.as_slice()];
     let message = body(alloc, &names, &[], &MESSAGE)?;
-    assert!(rt; message.len() == 2);
+    expect!(rt; message.len() == 2);
     let called = before(alloc, &names, &[], &CALL, message)?;
-    assert!(rt; called.len() == 3);
+    expect!(rt; called.len() == 3);
     let branches = (called, Vec::new(alloc));
     let forked = fork(alloc, &names, &[7], &FORK, branches, Vec::new(alloc))?;
-    assert!(rt; forked.len() == 1);
+    expect!(rt; forked.len() == 1);
     Ok(())
 }
