@@ -1,4 +1,5 @@
 pub mod Files
+pub mod Loaded
 pub mod Statuses
 pub mod Obeying
 pub mod Readings
