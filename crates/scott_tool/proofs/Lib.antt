@@ -1,6 +1,7 @@
 pub mod Files
 pub mod Loaded
 pub mod Statuses
+pub mod Declining
 pub mod Obeying
 pub mod Readings
 pub mod Promised

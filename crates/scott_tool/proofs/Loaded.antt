@@ -1,10 +1,10 @@
 -- That what a shelf answers of one file is what is expected of its files.
-use Rattle.std.proofs.Common.{◌≡◌, ◌<◌, ◌≤◌, ℕ, List, length, Option, Some, None, IfSome, Result, Ok, Err, Bool, true, false, refl, ap, arith}
+use Rattle.std.proofs.Common.{◌≡◌, ◌<◌, ◌≤◌, ℕ, List, length, Option, Some, None, IfSome, Ok, Err, Bool, true, false, refl, ap, arith}
 use Rattle.std.specs.Prelude.{nat_le, if◌then◌else◌, IsSomeAnd}
 use Rattle.std.specs.FinMap.{get}
 use Rattle.std.proofs.lemmas.Bool.Decides.{nat_tests}
 use Rattle.adv_io.specs.Shelf.{Files, IsFile, HasAtLeast, Lacks}
-use Rattle.scott_tool.specs.Refusal.{Refusal, unread, too_long}
+use Rattle.scott_tool.specs.Refusal.{unread, too_long}
 use Rattle.scott_tool.specs.Loading.{Load, within_limit, loaded}
 use Rattle.scott_tool.proofs.Files.{loaded-there}
 
