@@ -1,5 +1,8 @@
 pub mod Files
+pub mod Loaded
 pub mod Statuses
+pub mod Databases
+pub mod Declining
 pub mod Obeying
 pub mod Readings
 pub mod Promised
@@ -9,5 +12,6 @@ pub mod Promises
 pub mod Hill
 pub mod Playing
 pub mod Programs
+pub mod Routines
 pub mod Running
 pub mod Translating

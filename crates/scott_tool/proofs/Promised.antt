@@ -17,7 +17,8 @@ use Rattle.inform_tree.specs.declared.widths.Width.{Width}
 use Rattle.inform_tree.specs.Programs.{DirectiveTree}
 use Rattle.scott_tool.specs.Promises.{HasStatus, Completes, IsSeen, NameKeeps, KeepsFiles, HasChecked, HasCompiled, HasDecompiled, HasPlayed, HasTranslated, HasRun, IfKnown, SaysUnread, Counts}
 use Rattle.scott_tool.proofs.Statuses.{IsEnd, first}
-use Rattle.scott_tool.proofs.Readings.{Laws, EndsWith0, accepted}
+use Rattle.scott_tool.specs.Laws.{Laws}
+use Rattle.scott_tool.proofs.Readings.{EndsWith0, accepted}
 
 -- all clauses of the program
 pub record Promises (shelf shelf' : ShelfView) (console console' : ConsoleView) (asked : Option Request) (status : ℕ) : Type 0 where

@@ -2,7 +2,7 @@
 use Rattle.std.proofs.Common.{ℕ, Option, sym, ap, subst}
 use Rattle.adv_io.specs.Console.{ConsoleView}
 use Rattle.adv_io.specs.Shelf.{ShelfView}
-use Rattle.scott_tool.proofs.Readings.{Laws}
+use Rattle.scott_tool.specs.Laws.{Laws}
 use Rattle.scott_requests.specs.Request.{Request}
 use Rattle.scott_tool.specs.Obeying.{Handled, not_asked, not_loaded, worked}
 use Rattle.scott_tool.proofs.Promised.{Promises}

@@ -10,20 +10,18 @@ use Rattle.adv_compiler.specs.Faults as meaning
 use Rattle.adv_compiler.specs.Meaning.{meant}
 use Rattle.adv_decompiler.specs.Plain.{plain}
 use Rattle.scott_format.specs.Canon.{canon}
-use Rattle.scott_format.specs.Laws.{DatabaseIn, FaultIn}
 use Rattle.source_reader.specs.Faults as reading
-use Rattle.source_reader.specs.Laws.{SourceIn, FaultIn as SourceFaultIn}
 use Rattle.source_reader.specs.Text.{SourceText, source_in}
 use Rattle.source_reader.specs.declared.tree.Source.{Source}
 use Rattle.inform_tree.specs.declared.widths.Width.{Width}
 use Rattle.inform_tree.specs.Programs.{DirectiveTree}
 use Rattle.inform_reader.specs.Reading as reader
 use Rattle.inform_reader.specs.Reading.{IsProgram, IsFaulty, program_in}
-use Rattle.inform_reader.specs.Laws.{ProgramIn, FaultIn as ProgramFaultIn}
 use Rattle.scott_requests.specs.Settings.{DrawSource, listed, seeded}
 use Rattle.scott_requests.specs.Request.{Request, check, compile, decompile, play, translate, run}
 use Rattle.scott_types.specs.declared.styles.Style.{Style}
 use Rattle.scott_types.specs.Database.{Database}
+use Rattle.scott_tool.specs.Laws.{Laws}
 use Rattle.scott_tool.specs.Steps.{◌>>=◌}
 use Rattle.scott_tool.specs.Refusal.{Refusal, Unfit, refusing, content_status}
 use Rattle.scott_tool.specs.Loading.{Load, main_of, draws_of, draws_load, database_load, source_load, program_load, loaded, Texts}
@@ -37,15 +35,6 @@ use Rattle.scott_tool.specs.Run.{program_or_unfit, program_of_file, stop_after, 
 use Rattle.scott_tool.specs.Work.{Task, reporting, storing, playing, translating, running, work, expected}
 use Rattle.scott_tool.specs.Causes.{IsAccepted}
 use Rattle.scott_tool.proofs.Files.{bind-ok, bind-err, there-loaded, loaded-there}
-
--- what is known of reading
-pub record Laws : Type 0 where
-  pub database : DatabaseIn
-  pub database_fault : FaultIn
-  pub source : SourceIn
-  pub source_fault : SourceFaultIn
-  pub program : ProgramIn
-  pub program_fault : ProgramFaultIn
 
 -- ---- why a content is refused
 

@@ -15,7 +15,7 @@ use Rattle.scott_tool.specs.Promises.{IfKnown, SaysUnread}
 use Rattle.scott_tool.proofs.Files.{long_one}
 use Rattle.scott_tool.proofs.Statuses.{is_3, is_9, is_known, first, not_end}
 use Rattle.scott_tool.proofs.Obeying.{refusal_not, refused_not_0, refused_not_9, refused_not_end, refused_not_steady}
-use Rattle.scott_tool.proofs.Readings.{Laws}
+use Rattle.scott_tool.specs.Laws.{Laws}
 use Rattle.scott_tool.proofs.Promised.{Promises, for_files, from_files, for_lines, expected-err, name_keeps, complete_from}
 
 module _ (shelf shelf' : ShelfView) (console console' : ConsoleView) (status : ℕ) where

@@ -43,7 +43,8 @@ use Rattle.scott_tool.specs.Promises.{IfKnown, SaysUnread, NameKeeps}
 use Rattle.scott_tool.proofs.Files.{bind-ok, texts-loaded, there-loaded}
 use Rattle.scott_tool.proofs.Statuses.{IsEnd, only, is_2, is_3, is_9, is_content, is_end, task_end, not_end, Tells, of_task, of_fault, of_memory, of_console, of_shelf, tells}
 use Rattle.scott_tool.proofs.Obeying.{refusal_not, refused_not_0, refused_not_end}
-use Rattle.scott_tool.proofs.Readings.{Laws, Fails, bad_database, bad_source, bad_program, bad_line, bad_width, bad_draws, fails, run_request, translatable_same, main_is, meant_is, program_is, draws_are}
+use Rattle.scott_tool.specs.Laws.{Laws}
+use Rattle.scott_tool.proofs.Readings.{Fails, bad_database, bad_source, bad_program, bad_line, bad_width, bad_draws, fails, run_request, translatable_same, main_is, meant_is, program_is, draws_are}
 use Rattle.scott_tool.proofs.Promised.{Promises, from_files, from_lines, expected-ok, complete_from}
 
 module _ (shelf shelf' : ShelfView) (console console' : ConsoleView) (status : ℕ) where

@@ -14,4 +14,5 @@ pub mod Obeying
 pub mod Causes
 pub mod Promises
 pub mod Worked
+pub mod Laws
 pub mod Start

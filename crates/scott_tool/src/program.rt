@@ -2,6 +2,7 @@
 ghost use Rattle.std.specs.Prelude.{◌≡◌, ◌⊎◌, Some};
 ghost use Rattle.scott_requests.specs.Request.{asked_by};
 ghost use Rattle.scott_requests.specs.Views.{request_of};
+ghost use Rattle.scott_tool.specs.Laws.{Laws};
 ghost use Rattle.scott_tool.specs.Obeying.{Handled};
 ghost use Rattle.scott_tool.specs.Promises.{HasStatus, IsSeen, KeepsFiles, Completes, HasChecked, HasCompiled, HasDecompiled, HasPlayed, HasTranslated, HasRun, Counts};
 
@@ -45,6 +46,18 @@ fn handle<S: Shelf, C: Console>(
         Some(request) => obey(alloc, request, shelf, console),
         None => Refusal::NoRequest.end(console),
     }
+}
+
+// What is known of reading files.
+fn reading_laws()
+    ensures { Laws }
+{
+    database_in();
+    fault_in();
+    source_in();
+    source_fault_in();
+    program_in();
+    program_fault_in();
 }
 
 /// Does what the words ask for, with the files of a shelf, on a console, and answers a status.
@@ -102,11 +115,6 @@ pub fn scott<S: Shelf, C: Console>(
     ensures counts { Counts (S.seen shelf.old) (S.seen shelf.new)
         (C.seen console.old) (C.seen console.new) result }
 {
-    database_in();
-    fault_in();
-    source_in();
-    source_fault_in();
-    program_in();
-    program_fault_in();
+    reading_laws();
     handle(alloc, words, shelf, console)
 }
