@@ -13,3 +13,4 @@ pub mod Texts
 pub mod Wrongs
 pub mod ActionNumbers
 pub mod EightInARow
+pub mod SevenInARow

@@ -4,7 +4,7 @@ use Rattle.adv_text.specs.Reading.{Spot, number_at, quoted_at, no_number, big_nu
 use Rattle.adv_text.specs.Reading.{Fault as TextFault}
 use Rattle.scott_format.specs.Faults.{Fault}
 use Rattle.scott_format.specs.Plan.{Plan, done, check, number, quoted, perhaps, ◌>>=◌, onward, onward_perhaps, run}
-use Rattle.scott_format.specs.Reading.{Stands}
+use Rattle.scott_format.specs.Reading.{Gives, Stands}
 use Rattle.scott_format.specs.declared.faults.FormatFault.{FormatFault}
 use Rattle.scott_format.specs.declared.faults.FormatFault.TheVariants as answer
 
@@ -75,5 +75,10 @@ module _ {X Y : Type 0} (f : X → Plan Y) where
   -- a fault of what follows stands for both
   pub Stands-after : (p : Plan X) (s after : Spot) (x : X) (fault : FormatFault) → run p s ≡ Ok (x, after) → Stands fault (run (f x) after) → Stands fault (run (p >>= f) s)
   Stands-after p s after x fault e h = subst (λ (r : Result (Y × Spot) Fault). Stands fault r) (sym (run-ok p s after x e)) h
+
+  -- where the first gave a value, what follows gives what both give
+  pub Gives-after : {V : Type 0} (view : V → Y) (p : Plan X) (s after now : Spot) (x : X) (r : Result V FormatFault) → run p s ≡ Ok (x, after) → Gives view (f x) after r now → Gives view (p >>= f) s r now
+  Gives-after view p s after now x (Ok v) e gives = run-ok p s after x e ∙ gives
+  Gives-after view p s after now x (Err fault) e gives = Stands-after p s after x fault e gives
 
 pub ruleset sections = (run-then, Stands-and_then)

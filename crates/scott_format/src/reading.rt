@@ -5,7 +5,7 @@ ghost use Rattle.adv_text.specs.Reading.{spot};
 ghost use Rattle.scott_format.specs.Faults.{Fault, fault_answer};
 ghost use Rattle.scott_format.specs.Plan.{run};
 ghost use Rattle.scott_format.specs.Sections.{trailer};
-ghost use Rattle.scott_format.specs.File.{file, header_of, IsReadFrom, DatText, DatFault, database_in};
+ghost use Rattle.scott_format.specs.File.{file, body, header_of, IsReadFrom, DatText, DatFault, database_in};
 ghost use Rattle.scott_format.specs.Reading.{Follows, Gives, Stands, IsDb, IsErrOrMemory};
 
 use crate::faults::FormatFault;
@@ -47,14 +47,16 @@ fn header_of(sizes: Sizes, numbers: PlayNumbers, closing: Closing) -> Header
     }
 }
 
-// The parts of a database.
-#[tactic(auto, using(crate::proofs::Plans::sections), unfolding(crate::specs::File::file, crate::specs::File::body))]
-fn parts(alloc: Global, scan: &mut Scan) -> Result<Parts, FormatFault>
-    ensures { Gives database_of file scan.old result scan.new }
+// The parts of a database after the sections of its header.
+fn body(
+    alloc: Global,
+    scan: &mut Scan,
+    sizes: Sizes,
+    numbers: PlayNumbers,
+    closing: Closing,
+) -> Result<Parts, FormatFault>
+    ensures { Gives database_of (body sizes numbers closing) scan.old result scan.new }
 {
-    let sizes = Sizes::read(scan)?;
-    let numbers = PlayNumbers::read(scan, sizes.rooms)?;
-    let closing = Closing::read(scan)?;
     let actions = list(alloc, scan, sizes.actions)?;
     let words = list(alloc, scan, sizes.words)?;
     let rooms = list(alloc, scan, u16::from(sizes.rooms))?;
@@ -72,6 +74,16 @@ fn parts(alloc: Global, scan: &mut Scan) -> Result<Parts, FormatFault>
         comments,
         trailer,
     })
+}
+
+// The parts of a database.
+fn parts(alloc: Global, scan: &mut Scan) -> Result<Parts, FormatFault>
+    ensures { Gives database_of file scan.old result scan.new }
+{
+    let sizes = Sizes::read(scan)?;
+    let numbers = PlayNumbers::read(scan, sizes.rooms)?;
+    let closing = Closing::read(scan)?;
+    body(alloc, scan, sizes, numbers, closing)
 }
 
 // The database that the bytes are a text of, as the definition reads it.

@@ -58,6 +58,16 @@ groups_for-end db verb line past = ap (λ lines. filter (has_verb verb) (groups_
 pub groups_for-none : (db : Database) (verb : ℕ) → groups_for db verb (length db.actions) ≡ []
 groups_for-none db verb = groups_for-end db verb (length db.actions) (omega arith)
 
+-- a head that was found, where none stands before it, comes next
+pub comes_first : (db : Database) (verb from line : ℕ) (a : Action) → from ≤ line → line < length db.actions → action_at db line ≡ a → is_head_of verb a ≡ true
+    → groups_for db verb from ≡ groups_for db verb line → ComesNext db verb from line
+comes_first db verb from line a after there is test none = record {
+  from = after;
+  there = there;
+  is_head = ap (is_head_of verb) is ∙ test;
+  first = none ∙ groups_for-head db verb line a there is test;
+}
+
 -- a head of a verb has it
 pub verb_of_head : (verb : ℕ) (a : Action) → is_head_of verb a ≡ true → verb_of a.vocab ≡ verb
 verb_of_head verb a test = grind (arith, test)

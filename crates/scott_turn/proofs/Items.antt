@@ -1,7 +1,7 @@
 -- The walk over the items, turn by turn.
 use Rattle.std.specs.Prelude.{◌&&◌, not}
-use Rattle.std.proofs.Common.{◌≡◌, ◌∙◌, ℕ, suc, ◌+◌, ◌<◌, get_or, cond, Bool, true, false, List, [], ◌∷◌, ◌++◌, length, drop, Some, None, refl, sym, ap, add-one, drop-cons}
-use Rattle.std.proofs.lemmas.List.{append-nil}
+use Rattle.std.proofs.Common.{◌≡◌, ◌∙◌, ℕ, suc, ◌+◌, ◌<◌, ◌≤◌, get_or, cond, Bool, true, false, List, [], ◌∷◌, ◌++◌, length, drop, Some, None, refl, sym, ap, add-one, drop-cons}
+use Rattle.std.proofs.lemmas.List.{append-nil, drop_all}
 use Rattle.scott_types.specs.declared.parts.Item.{Item}
 use Rattle.scott_types.specs.declared.states.State.{State}
 use Rattle.scott_types.specs.declared.styles.Style.{Style}
@@ -124,6 +124,18 @@ module _ (t : Transfer) (game : Game) (typed : List ℕ) (i : ℕ) (s : State) (
       taken_before-events before (all_items t game typed i (drop i game.db.items) s)
       ∙ ap (λ w. w.events) all_items-turn
       ∙ by_item_turn-prefix (turn_of t game typed i s).value.item_turn (turn_of t game typed i s) (all_items t game typed (i + 1) (drop (i + 1) game.db.items))
+
+-- after the last item nothing is left
+taken_before-none : (before : Bool) (t : Transfer) (game : Game) (typed : List ℕ) (i : ℕ) (s : State)
+    → taken_before before (all_items t game typed i [] s) ≡ traced [] (record { state = s; over = None; any_taken = before })
+taken_before-none true t game typed i s = refl
+taken_before-none false t game typed i s = refl
+
+pub all_items-none : (t : Transfer) (game : Game) (typed : List ℕ) (i : ℕ) (s : State) → length game.db.items ≤ i → (before : Bool)
+    → taken_before before (all_items t game typed i (drop i game.db.items) s) ≡ traced [] (record { state = s; over = None; any_taken = before })
+all_items-none t game typed i s past before =
+    ap (λ items. taken_before before (all_items t game typed i items s)) (drop_all i game.db.items past)
+    ∙ taken_before-none before t game typed i s
 
 -- an item's lines leave what their search leaves
 pub lines-left : (o : SearchOutcome) (state : State) (found : Found) → o ≡ record { state = state; found = found } → outcome_of_search o ≡ record { state = state; over = ending_in found }

@@ -1,4 +1,5 @@
 use Rattle.std.proofs.Common.{◌++◌, ◌∙◌, List, ℕ, ap}
+use Rattle.std.proofs.lemmas.Result.{err_from_is_err_and}
 use Rattle.scott_types.specs.Database.{database_of}
 use Rattle.scott_format.specs.Canon.{line_text, lines_text, header_line, action_line, word_line, room_line, string_line, item_line, trailer_line, canon}
 use Rattle.scott_format.proofs.Texts.{eight_written}
@@ -18,3 +19,30 @@ returns c =
     (rw c.deref-5.ensures.value at c.in_ok-put_lines-5.ensures) (rw c.deref-6.ensures.value at c.in_ok-put_lines-6.ensures)
     c.in_ok-put_trailer.ensures
     ∙ ap (λ (out : List ℕ). out ++ canon db) c.new-out.ensures.items ∙ ap canon c.parts-parts.ensures.value
+
+pub put_header-requires : goal.put_header-requires
+put_header-requires c = rw c.parts-parts.ensures.value c.parts-parts.ensures.kept
+
+pub returns-in_err-put_header : goal.returns-in_err-put_header
+returns-in_err-put_header c = let p = err_from_is_err_and c.from_residual.result c.from_residual.ensures.1 in rw (p.1) tt
+
+pub returns-in_err-put_lines : goal.returns-in_err-put_lines
+returns-in_err-put_lines c = let p = err_from_is_err_and c.from_residual-in_err-put_lines.result c.from_residual-in_err-put_lines.ensures.1 in rw (p.1) tt
+
+pub returns-in_err-put_lines-2 : goal.returns-in_err-put_lines-2
+returns-in_err-put_lines-2 c = let p = err_from_is_err_and c.from_residual-in_err-put_lines-2.result c.from_residual-in_err-put_lines-2.ensures.1 in rw (p.1) tt
+
+pub returns-in_err-put_lines-3 : goal.returns-in_err-put_lines-3
+returns-in_err-put_lines-3 c = let p = err_from_is_err_and c.from_residual-in_err-put_lines-3.result c.from_residual-in_err-put_lines-3.ensures.1 in rw (p.1) tt
+
+pub returns-in_err-put_lines-4 : goal.returns-in_err-put_lines-4
+returns-in_err-put_lines-4 c = let p = err_from_is_err_and c.from_residual-in_err-put_lines-4.result c.from_residual-in_err-put_lines-4.ensures.1 in rw (p.1) tt
+
+pub returns-in_err-put_lines-5 : goal.returns-in_err-put_lines-5
+returns-in_err-put_lines-5 c = let p = err_from_is_err_and c.from_residual-in_err-put_lines-5.result c.from_residual-in_err-put_lines-5.ensures.1 in rw (p.1) tt
+
+pub returns-in_err-put_lines-6 : goal.returns-in_err-put_lines-6
+returns-in_err-put_lines-6 c = let p = err_from_is_err_and c.from_residual-in_err-put_lines-6.result c.from_residual-in_err-put_lines-6.ensures.1 in rw (p.1) tt
+
+pub returns-in_err-put_trailer : goal.returns-in_err-put_trailer
+returns-in_err-put_trailer c = let p = err_from_is_err_and c.from_residual-in_err-put_trailer.result c.from_residual-in_err-put_trailer.ensures.1 in rw (p.1) tt

@@ -1,3 +1,4 @@
+use Rattle.std.proofs.Common.{refl}
 use Rattle.std.proofs.lemmas.Result.{err_from_is_err_and}
 use Rattle.adv_io.specs.Steps.{said_steps}
 use Rattle.scott_rules.specs.Groups.{groups, automatic}
@@ -5,16 +6,32 @@ use Rattle.scott_rules.specs.Rounds.{look_due, unmarked, to_prompt}
 use Rattle.adv_io.proofs.Along.{steps_then, steps_stop}
 use Rattle.scott_turn.proofs.advancing.begin.Goals as goal
 
-pub returns-clause-spoken : goal.returns-clause-spoken
-returns-clause-spoken g c =
+pub look_if_due-requires : goal.look_if_due-requires
+look_if_due-requires g c = c.requires
+
+pub advance_from-requires : goal.advance_from-requires
+advance_from-requires g c = c.look_if_due.ensures.fits
+
+pub returns : goal.returns
+returns g c =
     let game = c.args.game.now in
     let s = c.args.state.now in
-    steps_then (said_steps (look_due game s)) (to_prompt game (automatic game (groups game.db) (unmarked s) c.args.draws.now.left)).events c.in_ok-look_if_due.ensures.spoken
-    (rw c.look_if_due.ensures.state at c.advance_from.ensures.spoken)
+    record {
+      spoken = steps_then (said_steps (look_due game s)) (to_prompt game (automatic game (groups game.db) (unmarked s) c.args.draws.now.left)).events c.in_ok-look_if_due.ensures.spoken
+          (rw c.look_if_due.ensures.state at c.advance_from.ensures.spoken);
+      left = rw c.look_if_due.ensures.state at c.advance_from.ensures.left;
+      taken = c.advance_from.ensures.taken;
+      fits = c.advance_from.ensures.fits;
+    }
 
-pub returns-in_err-look_if_due-clause-spoken : goal.returns-in_err-look_if_due-clause-spoken
-returns-in_err-look_if_due-clause-spoken g c =
+pub returns-in_err-look_if_due : goal.returns-in_err-look_if_due
+returns-in_err-look_if_due g c =
     let game = c.args.game.now in
     let s = c.args.state.now in
     let p = err_from_is_err_and c.from_residual.result c.from_residual.ensures.1 in
-    rw (p.1) (steps_stop p.0 (said_steps (look_due game s)) (to_prompt game (automatic game (groups game.db) (unmarked s) c.args.draws.now.left)).events c.in_err-look_if_due.ensures.spoken)
+    record {
+      spoken = rw (p.1) (steps_stop p.0 (said_steps (look_due game s)) (to_prompt game (automatic game (groups game.db) (unmarked s) c.args.draws.now.left)).events c.in_err-look_if_due.ensures.spoken);
+      left = rw (p.1) tt;
+      taken = refl;
+      fits = c.look_if_due.ensures.fits;
+    }

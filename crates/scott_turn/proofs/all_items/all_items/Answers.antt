@@ -1,40 +1,44 @@
-use Rattle.std.proofs.Common.{◌∙◌, ◌+◌, ◌<◌, length, drop, refl, sym, ap}
+use Rattle.std.proofs.Common.{◌∙◌, ◌+◌, ◌<◌, ◌≤◌, length, drop, refl, sym, ap}
 use Rattle.std.proofs.lemmas.Result.{err_from_is_err_and}
 use Rattle.scott_rules.specs.Transfer.{all_items}
 use Rattle.scott_turn.specs.ItemTurns.{taken_before, is_taken_by}
-use Rattle.adv_io.proofs.Along.{as_ok, along_step, along_end, along_stop, along_value}
-use Rattle.scott_turn.proofs.Items.{turn_of, after_item_turn, all_items-on, all_items-end, all_items-prefix}
+use Rattle.adv_io.proofs.Along.{as_ok, along_step, along_done, along_end, along_stop, along_value}
+use Rattle.scott_turn.proofs.Items.{turn_of, after_item_turn, all_items-on, all_items-end, all_items-none, all_items-prefix}
 use Rattle.scott_turn.proofs.all_items.all_items.Goals as goal
 
-pub returns-in_err-item_turn-clause-spoken : goal.returns-in_err-item_turn-clause-spoken
-returns-in_err-item_turn-clause-spoken g c =
+pub do_item_turn-requires : goal.do_item_turn-requires
+do_item_turn-requires g c = record {
+  fits = c.loop-i.invariant.fits;
+  there = rw (c.items-i-end.ensures.value, c.db.ensures) at c.loop-i-test.true;
+}
+
+pub returns-in_err-item_turn : goal.returns-in_err-item_turn
+returns-in_err-item_turn g c =
     let game = c.args.game.now in
     let i = c.loop-i.i in
     let there : i < length game.db.items = rw (c.items-i-end.ensures.value, c.db.ensures) at c.loop-i-test.true in
     let t = turn_of c.args.transfer game c.args.typed.now i c.loop-i.state in
     let p = err_from_is_err_and c.from_residual.result c.from_residual.ensures.1 in
-    rw (p.1)
-    (along_stop p.0 t.events (after_item_turn t.value.item_turn t (all_items c.args.transfer game c.args.typed.now (i + 1) (drop (i + 1) game.db.items))) c.loop-i.invariant.along
-    (all_items-prefix c.args.transfer game c.args.typed.now i c.loop-i.state there c.loop-i.any_taken)
-    c.in_err-item_turn.ensures.spoken)
+    record {
+      spoken = rw (p.1)
+          (along_stop p.0 t.events (after_item_turn t.value.item_turn t (all_items c.args.transfer game c.args.typed.now (i + 1) (drop (i + 1) game.db.items))) c.loop-i.invariant.along
+          (all_items-prefix c.args.transfer game c.args.typed.now i c.loop-i.state there c.loop-i.any_taken)
+          c.in_err-item_turn.ensures.spoken);
+      left = rw (p.1) tt;
+      fits = c.do_item_turn.ensures.fits;
+    }
 
-pub returns-then-ends_all-clause-spoken : goal.returns-then-ends_all-clause-spoken
-returns-then-ends_all-clause-spoken g c =
+pub returns-then-ends_all : goal.returns-then-ends_all
+returns-then-ends_all g c =
     let game = c.args.game.now in
     let i = c.loop-i.i in
     let there : i < length game.db.items = rw (c.items-i-end.ensures.value, c.db.ensures) at c.loop-i-test.true in
-    along_end (turn_of c.args.transfer game c.args.typed.now i c.loop-i.state).events c.loop-i.invariant.along
-    (ap (λ w. w.events) (all_items-end c.args.transfer game c.args.typed.now i c.loop-i.state there c.in_ok-item_turn.item_turn c.loop-i.any_taken c.do_item_turn.new.state c.in_ok-item_turn.ensures.left (sym c.if-ends_all.ensures)))
-    (as_ok _ c.in_ok-item_turn.ensures.spoken)
-
-pub returns-then-ends_all-clause-left : goal.returns-then-ends_all-clause-left
-returns-then-ends_all-clause-left g c =
-    let game = c.args.game.now in
-    let i = c.loop-i.i in
-    let there : i < length game.db.items = rw (c.items-i-end.ensures.value, c.db.ensures) at c.loop-i-test.true in
-    along_value c.loop-i.invariant.along
-    ∙ ap (λ w. w.value) (all_items-end c.args.transfer game c.args.typed.now i c.loop-i.state there c.in_ok-item_turn.item_turn c.loop-i.any_taken c.do_item_turn.new.state c.in_ok-item_turn.ensures.left (sym c.if-ends_all.ensures))
-    ∙ rw c.over_in.ensures refl
+    let last = all_items-end c.args.transfer game c.args.typed.now i c.loop-i.state there c.in_ok-item_turn.item_turn c.loop-i.any_taken c.do_item_turn.new.state c.in_ok-item_turn.ensures.left (sym c.if-ends_all.ensures) in
+    record {
+      spoken = along_end (turn_of c.args.transfer game c.args.typed.now i c.loop-i.state).events c.loop-i.invariant.along (ap (λ w. w.events) last) (as_ok _ c.in_ok-item_turn.ensures.spoken);
+      left = along_value c.loop-i.invariant.along ∙ ap (λ w. w.value) last ∙ rw c.over_in.ensures refl;
+      fits = c.do_item_turn.ensures.fits;
+    }
 
 pub loop-i-preserved : goal.loop-i-preserved
 loop-i-preserved g c =
@@ -49,4 +53,16 @@ loop-i-preserved g c =
           (taken_before (is_taken_by c.in_ok-item_turn.item_turn c.loop-i.any_taken) (all_items c.args.transfer game c.args.typed.now (i + 1) (drop (i + 1) game.db.items) c.do_item_turn.new.state)) c.loop-i.invariant.along
           (all_items-on c.args.transfer game c.args.typed.now i c.loop-i.state there c.in_ok-item_turn.item_turn c.loop-i.any_taken c.do_item_turn.new.state c.in_ok-item_turn.ensures.left (sym c.if-ends_all.ensures))
           c.in_ok-item_turn.ensures.spoken);
+    }
+
+pub returns : goal.returns
+returns g c =
+    let game = c.args.game.now in
+    let i = c.loop-i.i in
+    let past : length game.db.items ≤ i = rw (c.items-i-end.ensures.value, c.db.ensures) at c.loop-i-test.false in
+    let none = all_items-none c.args.transfer game c.args.typed.now i c.loop-i.state past c.loop-i.any_taken in
+    record {
+      spoken = along_done _ c.loop-i.invariant.along (ap (λ w. w.events) none);
+      left = along_value c.loop-i.invariant.along ∙ ap (λ w. w.value) none;
+      fits = c.loop-i.invariant.fits;
     }

@@ -1,4 +1,5 @@
 use Rattle.std.proofs.Common.{nat_eq}
+use Rattle.std.proofs.lemmas.Result.{err_from_is_err_and}
 use Rattle.indexmap.specs.IndexMap.{get}
 use Rattle.scott_turn.proofs.Groups.{line_before, firsts_after, index_step, index_whole}
 use Rattle.scott_turn.proofs.games.index_heads.Goals as goal
@@ -17,3 +18,9 @@ loop-line-preserved c =
 
 pub returns : goal.returns
 returns c = index_whole c.args.db.now c.loop-line.line (get nat_eq c.loop-line.firsts) c.loop-line.nexts.items c.loop-line-test.false c.loop-line.invariant
+
+pub returns-in_err-nexts : goal.returns-in_err-nexts
+returns-in_err-nexts c = let p = err_from_is_err_and c.from_residual.result c.from_residual.ensures.1 in rw (p.1) tt
+
+pub returns-in_err-nexts-2 : goal.returns-in_err-nexts-2
+returns-in_err-nexts-2 c = let p = err_from_is_err_and c.from_residual-in_err-nexts-2.result c.from_residual-in_err-nexts-2.ensures.1 in rw (p.1) tt

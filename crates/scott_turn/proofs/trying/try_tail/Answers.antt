@@ -3,7 +3,7 @@ use Rattle.std.proofs.lemmas.Result.{err_from_is_err_and}
 use Rattle.scott_rules.specs.Groups.{tail_action, tail_tried}
 use Rattle.scott_turn.specs.Heads.{tail_from}
 use Rattle.scott_turn.proofs.Showing.{after_part}
-use Rattle.adv_io.proofs.Along.{along_step, along_end, along_stop, along_value}
+use Rattle.adv_io.proofs.Along.{along_step, along_done, along_end, along_stop, along_value}
 use Rattle.scott_turn.proofs.Tries.{tail-on, tail-over, tail-prefix}
 use Rattle.scott_turn.proofs.trying.try_tail.Goals as goal
 
@@ -51,4 +51,17 @@ loop-state-preserved g c =
       along = along_step t.events (tail_tried game noun (tail_from game.db (line + 1)) c.try_tail_action.new.state) c.loop-state.invariant.along
           (tail-on game noun line c.loop-state.state c.in_ok-over.over c.in_ok-over.ensures.over (rw c.db-in-loop-state.ensures at c.loop-state-test.ensures.1) (sym c.if-is_some.ensures) c.try_tail_action.new.state c.in_ok-over.ensures.state)
           c.in_ok-over.ensures.spoken;
+    }
+
+pub returns : goal.returns
+returns g c =
+    let game = c.args.game.now in
+    let noun = c.args.noun.now in
+    let none = ap (λ lines. tail_tried game noun lines c.loop-state.state) (rw c.db-in-loop-state.ensures at c.loop-state-test.ensures) in
+    let whole = along_value c.loop-state.invariant.along ∙ ap (λ w. w.value) none in
+    record {
+      spoken = along_done _ c.loop-state.invariant.along (ap (λ w. w.events) none);
+      state = sym (ap (λ v. v.state) whole);
+      over = sym (ap (λ v. v.over) whole);
+      fits = c.loop-state.invariant.fits;
     }
