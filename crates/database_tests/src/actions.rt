@@ -1,8 +1,8 @@
 //! What actions do, in a hall with a rug and a pin that is carried, where one item can be carried.
+use crate::consoles::console;
 use crate::games::game;
-use adv_io::MemoryConsole;
 use scott_actions::{Ran, perform};
-use scott_types::{State, Style};
+use scott_types::{Db, State, Style};
 use std::process::Abort;
 use std::test::Fail;
 use test_support::expect;
@@ -40,41 +40,37 @@ const ACTIONS: &[(&[u8], Ran, &str)] = &[
     ),
 ];
 
-// Expects what becomes of an action, and what it says.
+// Expects what becomes of an action in a room that was described, and what it says. Gives the state
+// after it.
 fn expect_done<R: Abort + AllocGlobal>(
     rt: &R,
-    action: &[u8],
+    db: &Db,
     ran: Ran,
     said: &str,
-) -> Result<(), Fail> {
-    let alloc = rt.alloc();
-    let db = game(alloc, &[HEADER, action, LISTS])?;
-    let mut state = State::start(&db);
-    let mut console = MemoryConsole::new(alloc, Vec::new(alloc), Vec::new(alloc), 500)?;
-    let answer = perform(&db, Style::plain(), &mut state, 0, b"go", &mut console);
-    expect!(rt; answer == Ok(ran));
+) -> Result<State, Fail> {
+    let _limits = db.parts();
+    let mut state = State::start(db);
+    state.redraw = false;
+    let mut console = console(rt.alloc(), &[], 500)?;
+    let answer = perform(db, Style::plain(), &mut state, 0, b"go", &mut console);
+    expect!(rt; answer == Ok(ran), said);
     expect!(rt; console.said() == said.as_bytes(), said);
-    Ok(())
+    Ok(state)
 }
 
 #[test]
 fn actions_do_their_opcodes(rt: HostRuntime) -> Result<(), Fail> {
     for (action, ran, said) in ACTIONS {
-        expect_done(&rt, action, *ran, said)?;
+        let db = game(rt.alloc(), &[HEADER, action, LISTS])?;
+        expect_done(&rt, &db, *ran, said)?;
     }
     Ok(())
 }
 
 #[test]
 fn refused_get_leaves_its_parameter(rt: HostRuntime) -> Result<(), Fail> {
-    let alloc = rt.alloc();
-    let db = game(alloc, &[HEADER, b"0 20 0 0 0 7859 0", LISTS])?;
-    let mut state = State::start(&db);
-    state.redraw = false;
-    let mut console = MemoryConsole::new(alloc, Vec::new(alloc), Vec::new(alloc), 500)?;
-    let answer = perform(&db, Style::plain(), &mut state, 0, b"", &mut console);
-    expect!(rt; answer == Ok(Ran::Passed(false)));
-    expect!(rt; console.said() == b"I've too much to carry! ".as_slice());
+    let db = game(rt.alloc(), &[HEADER, b"0 20 0 0 0 7859 0", LISTS])?;
+    let state = expect_done(&rt, &db, Ran::Passed(false), "I've too much to carry! ")?;
     expect!(rt; state.places.as_slice() == [0, 255].as_slice());
     expect!(rt; state.redraw);
     Ok(())
