@@ -24,8 +24,7 @@ const TYPED: &[(&[u8], &[u8])] = &[
 fn lines_keep_lower_case(rt: HostRuntime) {
     for (raw, want) in TYPED {
         let line = Line::of(raw);
-        expect!(rt; line.bytes() == *want);
-        expect!(rt; line.copied().bytes() == *want);
+        expect!(rt; (line.bytes(), line.copied().bytes()) == (*want, *want));
     }
 }
 
@@ -37,8 +36,7 @@ fn expect_said(
     answer: Result<(), ConsoleFault>,
     said: &[u8],
 ) {
-    expect!(rt; console.say(bytes) == answer);
-    expect!(rt; console.said() == said);
+    expect!(rt; (console.say(bytes), console.said()) == (answer, said));
 }
 
 /// Takes a line, and expects an answer and the line that is then lent.
@@ -49,8 +47,7 @@ pub fn expect_taken<C: Console>(
     answer: Result<Taken, ConsoleFault>,
     bytes: &[u8],
 ) {
-    expect!(rt; console.take(line) == answer);
-    expect!(rt; line.bytes() == bytes);
+    expect!(rt; (console.take(line), line.bytes()) == (answer, bytes));
 }
 
 // A console with a line, room for eight bytes, and a third call that fails.
@@ -130,8 +127,7 @@ const BEFORE: &[(&[&[u8]], u64, usize)] = &[
 
 // Says pieces, all of them before a call that fails.
 fn expect_said_before(rt: &impl Abort, console: &mut MemoryConsole, pieces: &[&[u8]], size: usize) {
-    expect!(rt; say_all(console, pieces) == Ok(()));
-    expect!(rt; console.said().len() == size);
+    expect!(rt; (say_all(console, pieces), console.said().len()) == (Ok(()), size));
     expect!(rt; say_all(console, &[b"."]) == Err(ConsoleFault::Failed));
 }
 
