@@ -1,8 +1,8 @@
 //! What actions do, in a hall with a rug and a pin that is carried, where one item can be carried.
+use crate::consoles::console;
 use crate::games::game;
-use adv_io::MemoryConsole;
 use scott_actions::{Ran, perform};
-use scott_types::{State, Style};
+use scott_types::{Db, State, Style};
 use std::process::Abort;
 use std::test::Fail;
 use test_support::expect;
@@ -12,70 +12,70 @@ const HEADER: &[u8] = b"0 1 0 0 0 1 0 0 3 -1 1 0\n0 ";
 const LISTS: &[u8] = b" \"AUT\" \"ANY\" 0 0 0 0 0 0 \"hall\" \"\" \"Hello\"
 \"Rug\" 0 \"Pin\" 255 \"\" 1 1 0";
 
-// An action's numbers, what becomes of it, and what it says.
-const ACTIONS: &[(&[u8], Ran, &str)] = &[
-    (b"0 0 0 0 0 0 0", Ran::Passed(false), ""),
-    (b"0 0 0 0 0 73 150", Ran::Passed(true), "Hello\n"),
+// An action's numbers, what becomes of it, whether the room is described next, and what is said.
+const ACTIONS: &[(&[u8], Ran, bool, &str)] = &[
+    (b"0 0 0 0 0 0 0", Ran::Passed(false), false, ""),
+    (b"0 0 0 0 0 73 150", Ran::Passed(true), false, "Hello\n"),
     (
         b"655340 20 0 0 0 11932 11786",
         Ran::Passed(false),
+        false,
         "32767\n",
     ),
-    (b"0 0 0 0 0 12685 0", Ran::Passed(false), "gogo\n"),
-    (b"22 0 0 0 0 150 0", Ran::Not, ""),
+    (b"0 0 0 0 0 12685 0", Ran::Passed(false), false, "gogo\n"),
+    (b"22 0 0 0 0 150 0", Ran::Not, false, ""),
     (
         b"0 0 0 0 0 9971 0",
         Ran::Passed(false),
+        false,
         "I'm carrying:\nPin.\n[Saving is left out.]\n",
     ),
     (
         b"0 0 0 0 0 9813 150",
         Ran::Over(1),
+        false,
         "I've stored 0 treasures.  On a scale of 0 to 100, that rates 0.\nThe game is now over.\n",
     ),
     (
         b"0 0 0 0 0 9150 0",
         Ran::Passed(false),
+        false,
         "I am dead.\nI'm in a hall\nObvious exits: none.\n\nI can also see: Rug\n",
+    ),
+    // A refused get leaves its parameter to the next opcode.
+    (
+        b"0 20 0 0 0 7859 0",
+        Ran::Passed(false),
+        true,
+        "I've too much to carry! ",
     ),
 ];
 
-// Expects what becomes of an action, and what it says.
+// Expects what becomes of an action in a room that was described, and what it says. It moves no
+// item.
 fn expect_done<R: Abort + AllocGlobal>(
     rt: &R,
-    action: &[u8],
+    db: &Db,
     ran: Ran,
+    redraw: bool,
     said: &str,
 ) -> Result<(), Fail> {
-    let alloc = rt.alloc();
-    let db = game(alloc, &[HEADER, action, LISTS])?;
-    let mut state = State::start(&db);
-    let mut console = MemoryConsole::new(alloc, Vec::new(alloc), Vec::new(alloc), 500)?;
-    let answer = perform(&db, Style::plain(), &mut state, 0, b"go", &mut console);
-    expect!(rt; answer == Ok(ran));
+    let _limits = db.parts();
+    let mut state = State::start(db);
+    state.redraw = false;
+    let mut console = console(rt.alloc(), &[], 500)?;
+    let answer = perform(db, Style::plain(), &mut state, 0, b"go", &mut console);
+    expect!(rt; (answer, state.redraw) == (Ok(ran), redraw), said);
+    expect!(rt; state.places.as_slice() == [0, 255].as_slice(), said);
     expect!(rt; console.said() == said.as_bytes(), said);
     Ok(())
 }
 
 #[test]
 fn actions_do_their_opcodes(rt: HostRuntime) -> Result<(), Fail> {
-    for (action, ran, said) in ACTIONS {
-        expect_done(&rt, action, *ran, said)?;
+    for (action, ran, redraw, said) in ACTIONS {
+        let db = game(rt.alloc(), &[HEADER, action, LISTS])?;
+        expect_done(&rt, &db, *ran, *redraw, said)?;
     }
-    Ok(())
-}
-
-#[test]
-fn refused_get_leaves_its_parameter(rt: HostRuntime) -> Result<(), Fail> {
-    let alloc = rt.alloc();
-    let db = game(alloc, &[HEADER, b"0 20 0 0 0 7859 0", LISTS])?;
-    let mut state = State::start(&db);
-    state.redraw = false;
-    let mut console = MemoryConsole::new(alloc, Vec::new(alloc), Vec::new(alloc), 500)?;
-    let answer = perform(&db, Style::plain(), &mut state, 0, b"", &mut console);
-    expect!(rt; answer == Ok(Ran::Passed(false)));
-    expect!(rt; console.said() == b"I've too much to carry! ".as_slice());
-    expect!(rt; state.places.as_slice() == [0, 255].as_slice());
-    expect!(rt; state.redraw);
     Ok(())
 }

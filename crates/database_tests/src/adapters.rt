@@ -1,10 +1,11 @@
 //! Standard input and output, over terminals that are made here.
 use crate::consoles::expect_taken;
 use adv_io::{Console, ConsoleFault, Line, StdConsole, Taken};
-use std::alloc::Allocator;
+use std::alloc::{AllocError, Allocator, Global};
 use std::fmt::Display;
 use std::io;
 use std::io::{BufRead, ErrorKind, Lines, Read};
+use std::process::Abort;
 use std::test::Fail;
 use test_support::expect;
 
@@ -79,70 +80,104 @@ impl<'a> Print for Typed<'a> {
     }
 }
 
-// A read that fails in mid-line is a failure, and neither a line nor the end of the lines.
-#[test]
-fn input_that_fails_is_no_end(rt: HostRuntime) {
-    let failed = Err(ConsoleFault::Failed);
-    let terminal = Typed {
-        bytes: b"look\nget la",
-        is_broken: true,
-        is_closed: false,
-    };
-    let mut console = StdConsole::new(&terminal);
-    let mut line = Line::of(b"");
-    expect_taken(&rt, &mut console, &mut line, Ok(Taken::Got), b"look");
-    expect_taken(&rt, &mut console, &mut line, failed, b"look");
-    expect_taken(&rt, &mut console, &mut line, failed, b"look");
+// What taking a line answers, and the line that is then lent.
+type Take = (Result<Taken, ConsoleFault>, &'static [u8]);
+
+// A terminal, what saying answers there, and its takes.
+const TERMINALS: &[(Typed<'static>, Result<(), ConsoleFault>, &[Take])] = &[
+    (
+        Typed {
+            bytes: b"Take LAMP\n\n look",
+            is_broken: false,
+            is_closed: true,
+        },
+        Err(ConsoleFault::Failed),
+        &[
+            (Ok(Taken::Got), b"take lamp"),
+            (Ok(Taken::Got), b""),
+            (Ok(Taken::Got), b" look"),
+            (Ok(Taken::End), b" look"),
+            (Ok(Taken::End), b" look"),
+        ],
+    ),
+    (
+        Typed {
+            bytes: b"ended\n",
+            is_broken: false,
+            is_closed: false,
+        },
+        Ok(()),
+        &[(Ok(Taken::Got), b"ended"), (Ok(Taken::End), b"ended")],
+    ),
+    // A read that fails in mid-line is a failure, and neither a line nor the end of the lines.
+    (
+        Typed {
+            bytes: b"look\nget la",
+            is_broken: true,
+            is_closed: false,
+        },
+        Ok(()),
+        &[
+            (Ok(Taken::Got), b"look"),
+            (Err(ConsoleFault::Failed), b"look"),
+            (Err(ConsoleFault::Failed), b"look"),
+        ],
+    ),
+];
+
+// Says something at a terminal, and takes its lines.
+fn expect_session(
+    rt: &impl Abort,
+    terminal: &Typed<'_>,
+    said: Result<(), ConsoleFault>,
+    takes: &[Take],
+) {
+    let mut console = StdConsole::new(terminal);
+    let mut line = Line::of(b"before");
+    expect!(rt; console.say(b"said") == said);
+    for (answer, bytes) in takes {
+        expect_taken(rt, &mut console, &mut line, *answer, bytes);
+    }
 }
 
 #[test]
-fn standard_input_is_taken_by_lines(rt: HostRuntime) {
-    let terminal = Typed {
-        bytes: b"Take LAMP\n\n look",
-        is_broken: false,
-        is_closed: true,
-    };
-    let mut console = StdConsole::new(&terminal);
-    let mut line = Line::of(b"");
-    expect!(rt; console.say(b"lost") == Err(ConsoleFault::Failed));
-    for (answer, bytes) in [
-        (Taken::Got, b"take lamp".as_slice()),
-        (Taken::Got, b""),
-        (Taken::Got, b" look"),
-        (Taken::End, b" look"),
-        (Taken::End, b" look"),
-    ] {
-        expect_taken(&rt, &mut console, &mut line, Ok(answer), bytes);
+fn standard_input_is_taken_by_lines_until_it_ends_or_fails(rt: HostRuntime) {
+    for (terminal, said, takes) in TERMINALS {
+        expect_session(&rt, terminal, *said, takes);
     }
-    let terminal = Typed {
-        bytes: b"ended\n",
-        is_broken: false,
-        is_closed: false,
-    };
-    let mut console = StdConsole::new(&terminal);
-    expect!(rt; console.say(b"said") == Ok(()));
-    expect_taken(&rt, &mut console, &mut line, Ok(Taken::Got), b"ended");
-    expect_taken(&rt, &mut console, &mut line, Ok(Taken::End), b"ended");
 }
+
+fn long_line(alloc: Global, length: usize) -> Result<Vec<u8>, AllocError> {
+    let mut bytes = vec![in alloc; b'A'; length]?;
+    bytes.push(b'\n')?;
+    Ok(bytes)
+}
+
+const KEPT: &[u8] = &[b'a'; 120];
+
+// How many bytes a line has, and the takes of it. After a line that is too long the next take goes
+// on after the bytes that were read.
+const LONG_LINES: &[(usize, &[Take])] = &[
+    (65_536, &[(Ok(Taken::Got), KEPT), (Ok(Taken::End), KEPT)]),
+    (
+        65_537,
+        &[
+            (Err(ConsoleFault::Failed), b"before"),
+            (Ok(Taken::Got), b""),
+        ],
+    ),
+];
 
 #[test]
 fn a_line_of_standard_input_has_a_limit(rt: HostRuntime) -> Result<(), Fail> {
-    let alloc = rt.alloc();
-    let mut line = Line::of(b"before");
-    for (length, answer, rest) in [
-        (65_536, Ok(Taken::Got), Taken::End),
-        (65_537, Err(ConsoleFault::Failed), Taken::Got),
-    ] {
-        let mut bytes = vec![in alloc; b'A'; length]?;
-        bytes.push(b'\n')?;
+    for (length, takes) in LONG_LINES {
+        let bytes = long_line(rt.alloc(), *length)?;
         let terminal = Typed {
-            bytes: bytes.as_slice(),
+            bytes: &bytes,
             is_broken: false,
             is_closed: false,
         };
-        let mut console = StdConsole::new(&terminal);
-        assert!(rt; console.take(&mut line) == answer, "at {length}");
-        assert!(rt; console.take(&mut line) == Ok(rest), "after {length}");
+        expect_session(&rt, &terminal, Ok(()), takes);
     }
     Ok(())
 }

@@ -5,18 +5,26 @@ use std::process::Abort;
 use std::test::Fail;
 use test_support::expect;
 
+/// A console without lines, which fails at the calls of these numbers.
+pub fn console(alloc: Global, failing: &[u64], room: usize) -> Result<MemoryConsole, Fail> {
+    let failing = failing.to_vec(alloc)?;
+    Ok(MemoryConsole::new(alloc, Vec::new(alloc), failing, room)?)
+}
+
+// What is typed, and what a line keeps of it.
+const TYPED: &[(&[u8], &[u8])] = &[
+    (b"", b""),
+    (b"Go NORTH", b"go north"),
+    (b"say \"Hi~\"\r", b"say \"hi~\" "),
+    (b"\x00\t\x7f\x80\xff", b"     "),
+    (&[b'X'; 130], &[b'x'; 120]),
+];
+
 #[test]
 fn lines_keep_lower_case(rt: HostRuntime) {
-    for (raw, want) in [
-        (b"".as_slice(), b"".as_slice()),
-        (b"Go NORTH", b"go north"),
-        (b"say \"Hi~\"\r", b"say \"hi~\" "),
-        (b"\x00\t\x7f\x80\xff", b"     "),
-        (&[b'X'; 130], &[b'x'; 120]),
-    ] {
+    for (raw, want) in TYPED {
         let line = Line::of(raw);
-        expect!(rt; line.bytes() == want);
-        expect!(rt; line.copied().bytes() == want);
+        expect!(rt; (line.bytes(), line.copied().bytes()) == (*want, *want));
     }
 }
 
@@ -28,8 +36,7 @@ fn expect_said(
     answer: Result<(), ConsoleFault>,
     said: &[u8],
 ) {
-    expect!(rt; console.say(bytes) == answer);
-    expect!(rt; console.said() == said);
+    expect!(rt; (console.say(bytes), console.said()) == (answer, said));
 }
 
 /// Takes a line, and expects an answer and the line that is then lent.
@@ -40,15 +47,19 @@ pub fn expect_taken<C: Console>(
     answer: Result<Taken, ConsoleFault>,
     bytes: &[u8],
 ) {
-    expect!(rt; console.take(line) == answer);
-    expect!(rt; line.bytes() == bytes);
+    expect!(rt; (console.take(line), line.bytes()) == (answer, bytes));
+}
+
+// A console with a line, room for eight bytes, and a third call that fails.
+fn narrow_console(alloc: Global) -> Result<MemoryConsole, Fail> {
+    let lines = vec![in alloc; Line::of(b"GO North")]?;
+    let failing = vec![in alloc; 3]?;
+    Ok(MemoryConsole::new(alloc, lines, failing, 8)?)
 }
 
 #[test]
 fn a_console_in_memory_keeps_its_history(rt: HostRuntime) -> Result<(), Fail> {
-    let alloc = rt.alloc();
-    let lines = vec![in alloc; Line::of(b"GO North")]?;
-    let mut console = MemoryConsole::new(alloc, lines, vec![in alloc; 3]?, 8)?;
+    let mut console = narrow_console(rt.alloc())?;
     let mut line = Line::of(b"before");
     let failed = Err(ConsoleFault::Failed);
     expect_said(&rt, &mut console, b"Hi", Ok(()), b"Hi");
@@ -60,47 +71,40 @@ fn a_console_in_memory_keeps_its_history(rt: HostRuntime) -> Result<(), Fail> {
     Ok(())
 }
 
+// What taking a line answers, the line that is then lent, and how many lines are left.
+const TAKEN: &[(Taken, &[u8], usize)] = &[
+    (Taken::Got, b"look", 1),
+    (Taken::Got, b"wait", 0),
+    (Taken::End, b"wait", 0),
+];
+
 #[test]
 fn a_script_gives_its_lines(rt: HostRuntime) {
     let lines = [Line::of(b"look"), Line::of(b"wait")];
     let mut console = ScriptConsole::new(&lines);
     let mut line = Line::of(b"");
     expect!(rt; say_all(&mut console, &[b"any", b"thing"]) == Ok(()));
-    for (answer, bytes, left) in [
-        (Taken::Got, b"look", 1),
-        (Taken::Got, b"wait", 0),
-        (Taken::End, b"wait", 0),
-    ] {
-        expect_taken(&rt, &mut console, &mut line, Ok(answer), bytes);
-        expect!(rt; console.left() == left);
+    for (answer, bytes, left) in TAKEN {
+        expect_taken(&rt, &mut console, &mut line, Ok(*answer), bytes);
+        expect!(rt; console.left() == *left);
     }
 }
 
+// Pieces that are said one after another, with room for ten bytes, where the second call fails.
+const IN_ORDER: &[(&[&[u8]], Result<(), ConsoleFault>)] = &[
+    (&[], Ok(())),
+    (&[b"a", b"", b"bc"], Ok(())),
+    (&[b"d"], Err(ConsoleFault::Failed)),
+    (&[b"e", b"fghijklm", b"n"], Err(ConsoleFault::Failed)),
+];
+
 #[test]
 fn pieces_are_said_in_order(rt: HostRuntime) -> Result<(), Fail> {
-    let alloc = rt.alloc();
-    let mut console = MemoryConsole::new(alloc, Vec::new(alloc), vec![in alloc; 2]?, 10)?;
-    expect!(rt; say_all(&mut console, &[]) == Ok(()));
-    expect!(rt; say_all(&mut console, &[b"a", b"", b"bc"]) == Ok(()));
-    expect!(rt; say_all(&mut console, &[b"d"]) == Err(ConsoleFault::Failed));
-    expect!(rt; say_all(&mut console, &[b"e", b"fghijklm", b"n"]) == Err(ConsoleFault::Failed));
+    let mut console = console(rt.alloc(), &[2], 10)?;
+    for (pieces, answer) in IN_ORDER {
+        expect!(rt; say_all(&mut console, pieces) == *answer);
+    }
     expect!(rt; console.said() == b"abcefghijk".as_slice());
-    Ok(())
-}
-
-// Says pieces, all of them before a call that fails.
-fn expect_said_before(
-    rt: &impl Abort,
-    alloc: Global,
-    pieces: &[&[u8]],
-    failing: u64,
-    size: usize,
-) -> Result<(), Fail> {
-    let failing = vec![in alloc; failing]?;
-    let mut console = MemoryConsole::new(alloc, Vec::new(alloc), failing, 10_000)?;
-    expect!(rt; say_all(&mut console, pieces) == Ok(()));
-    expect!(rt; console.said().len() == size);
-    expect!(rt; say_all(&mut console, &[b"."]) == Err(ConsoleFault::Failed));
     Ok(())
 }
 
@@ -112,12 +116,26 @@ const MORE: &[u8] = &[b'z'; 25];
 
 const HUGE: &[u8] = &[b'h'; 5000];
 
+// Pieces, all of them said before this call, which fails, and their size.
+const BEFORE: &[(&[&[u8]], u64, usize)] = &[
+    (&[b"", b""], 1, 0),
+    (&[LONG, REST], 2, 1024),
+    (&[LONG, MORE], 3, 1025),
+    (&[HUGE, b"b"], 3, 5001),
+    (&[b"a", HUGE, b"b", b"c"], 4, 5003),
+];
+
+// Says pieces, all of them before a call that fails.
+fn expect_said_before(rt: &impl Abort, console: &mut MemoryConsole, pieces: &[&[u8]], size: usize) {
+    expect!(rt; (say_all(console, pieces), console.said().len()) == (Ok(()), size));
+    expect!(rt; say_all(console, &[b"."]) == Err(ConsoleFault::Failed));
+}
+
 #[test]
 fn pieces_are_said_in_as_few_calls_as_may_be(rt: HostRuntime) -> Result<(), Fail> {
-    let alloc = rt.alloc();
-    expect_said_before(&rt, alloc, &[b"", b""], 1, 0)?;
-    expect_said_before(&rt, alloc, &[LONG, REST], 2, 1024)?;
-    expect_said_before(&rt, alloc, &[LONG, MORE], 3, 1025)?;
-    expect_said_before(&rt, alloc, &[HUGE, b"b"], 3, 5001)?;
-    expect_said_before(&rt, alloc, &[b"a", HUGE, b"b", b"c"], 4, 5003)
+    for (pieces, failing, size) in BEFORE {
+        let mut console = console(rt.alloc(), &[*failing], 10_000)?;
+        expect_said_before(&rt, &mut console, pieces, *size);
+    }
+    Ok(())
 }

@@ -30,8 +30,7 @@ fn texts_list_draws(rt: HostRuntime) -> Result<(), Fail> {
     for (text, wanted) in LISTED {
         let mut draws = Draws::listed(rt.alloc(), text)?;
         expect_draws(&rt, &mut draws, wanted);
-        expect!(rt; draws.next() == None);
-        expect!(rt; draws.taken() == wanted.len() as u64);
+        expect!(rt; (draws.next(), draws.taken()) == (None, wanted.len() as u64));
     }
     Ok(())
 }

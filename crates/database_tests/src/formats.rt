@@ -1,6 +1,8 @@
 //! Texts of databases that are read and written back, and those that are refused.
+use crate::games::{game, joined};
 use scott_format::{Field, FormatFault, read_db, write_db};
-use std::alloc::{AllocError, Global};
+use scott_types::{Action, Header, Item, Parts};
+use std::alloc::Global;
 use std::process::Abort;
 use std::test::Fail;
 use test_support::expect;
@@ -24,60 +26,44 @@ const LISTS: &[u8] = b"\"AUT\" \"ANY\"
 
 const ITEM: &[u8] = b"\"Rug\" 1\n";
 
-const TRAILER: &[u8] = b"416 1 0\n";
+// A comment and the trailer.
+const END: &[u8] = b"\"\"\n416 1 0\n";
 
-// A game of these parts, between the lists and the comment that stay.
-fn game(
-    alloc: Global,
-    header: &[u8],
-    action: &[u8],
-    item: &[u8],
-    trailer: &[u8],
-) -> Result<Vec<u8>, AllocError> {
-    let mut bytes = Vec::from_slice(alloc, header)?;
-    bytes.extend_from_slice(action)?;
-    bytes.extend_from_slice(LISTS)?;
-    bytes.extend_from_slice(item)?;
-    bytes.extend_from_slice(b"\"\"\n")?;
-    bytes.extend_from_slice(trailer)?;
-    Ok(bytes)
+// An item, the end of a game, and the item as it is written back.
+const TEXTS: &[(&[u8], &[u8], &[u8])] = &[
+    (ITEM, END, ITEM),
+    (ITEM, b"\"\"\n416 1", ITEM),
+    (ITEM, b"\"\"\n416 1 +00 0 and more", ITEM),
+    (b"  \"Rug\"\r\n-1 ", END, b"\"Rug\" 255\n"),
+];
+
+// A game with these parts, read and written back.
+fn rewritten(alloc: Global, item: &[u8], end: &[u8]) -> Result<Vec<u8>, Fail> {
+    let db = game(alloc, &[HEADER, ACTION, LISTS, item, end])?;
+    Ok(write_db(alloc, &db)?)
 }
 
-// Expects that a game of these parts is read, and written back as this text.
+// Expects that a game of these parts is read, and written back with this item.
 fn expect_written<R: Abort + AllocGlobal>(
     rt: &R,
     item: &[u8],
-    trailer: &[u8],
-    text: &[u8],
+    end: &[u8],
+    written: &[u8],
 ) -> Result<(), Fail> {
-    let bytes = game(rt.alloc(), HEADER, ACTION, item, trailer)?;
-    expect!(rt; bytes.len() <= 1048576);
-    let db = read_db(rt.alloc(), &bytes)?;
-    let written = write_db(rt.alloc(), &db)?;
-    expect!(rt; written.as_slice() == text);
+    let text = joined(rt.alloc(), &[HEADER, ACTION, LISTS, written, END])?;
+    expect!(rt; rewritten(rt.alloc(), item, end)?.as_slice() == text.as_slice());
     Ok(())
 }
 
 #[test]
 fn texts_are_read_and_written_back(rt: HostRuntime) -> Result<(), Fail> {
-    let plain = game(rt.alloc(), HEADER, ACTION, ITEM, TRAILER)?;
-    expect!(rt; plain.len() == 209);
-    expect_written(&rt, ITEM, TRAILER, &plain)?;
-    expect_written(&rt, ITEM, b"416 1", &plain)?;
-    expect_written(&rt, ITEM, b"416 1 +00 0 and more", &plain)?;
-    let carried = game(rt.alloc(), HEADER, ACTION, b"\"Rug\" 255\n", TRAILER)?;
-    expect_written(&rt, b"  \"Rug\"\r\n-1 ", TRAILER, &carried)
+    for (item, end, written) in TEXTS {
+        expect_written(&rt, item, end, written)?;
+    }
+    Ok(())
 }
 
-#[test]
-fn parts_are_in_their_places(rt: HostRuntime) -> Result<(), Fail> {
-    let header = b"-7 0 0 6 2 -5 1 +13 20 125 0 77\n";
-    let action = b"151 1 2 3 4 5 6 7\n";
-    let bytes = game(rt.alloc(), header, action, b"\"a\"\"b`\" 259 ", b"1 2 3 4")?;
-    expect!(rt; bytes.len() <= 1048576);
-    let db = read_db(rt.alloc(), &bytes)?;
-    let parts = db.parts();
-    let numbers = &parts.header;
+fn expect_numbers(rt: &impl Abort, numbers: &Header) {
     let wide = [
         numbers.unused,
         numbers.carry,
@@ -87,87 +73,109 @@ fn parts_are_in_their_places(rt: HostRuntime) -> Result<(), Fail> {
     ];
     expect!(rt; wide == [-7, -5, 13, 125, 77]);
     expect!(rt; (numbers.start, numbers.length) == (1, 20));
-    for line in &parts.actions {
+}
+
+fn expect_lines(rt: &impl Abort, lines: &[Action]) {
+    for line in lines {
         expect!(rt; line.vocab == 151 && line.conds == [1, 2, 3, 4, 5] && line.pairs == [6, 7]);
     }
-    for item in &parts.items {
+}
+
+fn expect_items(rt: &impl Abort, items: &[Item]) {
+    for item in items {
         expect!(rt; item.text.bytes() == b"a\"b\"".as_slice() && item.place == 3);
     }
+}
+
+fn expect_parts(rt: &impl Abort, parts: &Parts) {
+    expect_numbers(rt, &parts.header);
+    expect_lines(rt, &parts.actions);
+    expect_items(rt, &parts.items);
     expect!(rt; (parts.words.len(), parts.rooms.len()) == (7, 3));
     expect!(rt; (parts.trailer.version, parts.trailer.third) == (1, 3));
+}
+
+#[test]
+fn parts_are_in_their_places(rt: HostRuntime) -> Result<(), Fail> {
+    let header = b"-7 0 0 6 2 -5 1 +13 20 125 0 77\n151 1 2 3 4 5 6 7\n".as_slice();
+    let rest = b"\"a\"\"b`\" 259 \"\"\n1 2 3 4".as_slice();
+    let db = game(rt.alloc(), &[header, LISTS, rest])?;
+    expect_parts(&rt, db.parts());
     Ok(())
 }
 
-// A header, an action line, a trailer, and the first fault of the game that they make.
+// A header, an action line, the end of a game, and the first fault of the game that they make.
 const REFUSED: &[(&[u8], &[u8], &[u8], FormatFault)] = &[
     (
         b"0 0 0 6 255 5 1 0 3 -1 0 0\n",
         ACTION,
-        TRAILER,
+        END,
         FormatFault::Limit(Field::HighestRoom, 255),
     ),
     (
         b"0 255 x",
         ACTION,
-        TRAILER,
+        END,
         FormatFault::Limit(Field::HighestItem, 255),
     ),
     (
         b"0 0 -1 0 0 0 3 0 3 -1 0 0\n",
         ACTION,
-        TRAILER,
+        END,
         FormatFault::Limit(Field::HighestAction, -1),
     ),
     (
         b"0 0 0 1000 ",
         ACTION,
-        TRAILER,
+        END,
         FormatFault::Limit(Field::HighestWord, 1000),
     ),
     (
         b"0 0 0 6 2 5 3 0 3 -1 0 0\n",
         ACTION,
-        TRAILER,
+        END,
         FormatFault::NoStart(3),
     ),
     (
         b"0 0 0 6 2 5 1 0 0 -1 0 0\n",
         ACTION,
-        TRAILER,
+        END,
         FormatFault::Limit(Field::WordLength, 0),
     ),
     (
         b"0 0 0 6 2 5 1 0 3 -2 0 0\n",
         ACTION,
-        TRAILER,
+        END,
         FormatFault::Limit(Field::LightTime, -2),
     ),
     (
         b"0 0 0 6 2 5 1 0 3 -1 1000 0\n",
         ACTION,
-        TRAILER,
+        END,
         FormatFault::Limit(Field::HighestMessage, 1000),
     ),
-    (b" x", ACTION, TRAILER, FormatFault::NoNumber(1)),
+    (b" x", ACTION, END, FormatFault::NoNumber(1)),
     (
         HEADER,
         b"0 0 0 0 0 0 0 -1\n",
-        TRAILER,
+        END,
         FormatFault::NegativeAction(0),
     ),
     (
         HEADER,
         b"0 0 0 0 0 0 0 0 0\n",
-        TRAILER,
+        END,
         FormatFault::NoQuote(41),
     ),
     (
         HEADER,
         ACTION,
-        b"416 1 2147483648",
+        b"\"\"\n416 1 2147483648",
         FormatFault::BigNumber(207),
     ),
-    (HEADER, ACTION, b"416 x", FormatFault::NoNumber(205)),
+    (HEADER, ACTION, b"\"\"\n416 x", FormatFault::NoNumber(205)),
+    // A comment that is cut off after its quote.
+    (HEADER, ACTION, b"\"", FormatFault::OpenString(198)),
 ];
 
 // Expects that a text is refused, for this fault.
@@ -178,18 +186,10 @@ fn expect_refused<R: Abort + AllocGlobal>(rt: &R, bytes: &[u8], fault: FormatFau
 
 #[test]
 fn parts_are_refused(rt: HostRuntime) -> Result<(), Fail> {
-    for (header, action, trailer, fault) in REFUSED {
-        let bytes = game(rt.alloc(), header, action, ITEM, trailer)?;
+    for (header, action, end, fault) in REFUSED {
+        let bytes = joined(rt.alloc(), &[header, action, LISTS, ITEM, end])?;
         expect_refused(&rt, &bytes, *fault);
     }
-    Ok(())
-}
-
-#[test]
-fn cut_comment_is_open(rt: HostRuntime) -> Result<(), Fail> {
-    let mut bytes = game(rt.alloc(), HEADER, ACTION, ITEM, TRAILER)?;
-    bytes.truncate(199);
-    expect_refused(&rt, &bytes, FormatFault::OpenString(198));
     expect_refused(&rt, b"", FormatFault::NoNumber(0));
     Ok(())
 }

@@ -1,6 +1,9 @@
 //! What a console gets by a look, a list, the score and the light.
+ghost use Rattle.scott_types.specs.State.{Fits};
+
+use crate::consoles::console;
 use crate::games::game;
-use adv_io::{ConsoleFault, Memory, MemoryConsole};
+use adv_io::{ConsoleFault, MemoryConsole};
 use itoa::Buffer;
 use scott_light::{count_light, inventory, look, look_after, score};
 use scott_types::{Db, State, Style};
@@ -25,16 +28,12 @@ const ITEMS: &[u8] = b"\"*Gold bar*/GOLD/\" 1 \"Pin\" 255 \"Bug\" 255
 const TRAILER: &[u8] = b"\"\" 1 1 0";
 
 // The game, with how long the light lasts and the treasure room.
-fn hall(alloc: Global, light_and_home: (&[u8], &[u8])) -> Result<Db, Fail> {
-    let (light, home) = light_and_home;
+fn hall(alloc: Global, light: &[u8], home: &[u8]) -> Result<Db, Fail> {
     let header = b"0 9 0 0 2 5 1 1 3 ".as_slice();
     game(alloc, &[header, light, b" 0 ", home, ROOMS, ITEMS, TRAILER])
 }
 
-fn console(alloc: Global) -> Result<MemoryConsole, Memory> {
-    MemoryConsole::new(alloc, Vec::new(alloc), Vec::new(alloc), 500)
-}
-
+// Expects what was said.
 fn expect_said(rt: &impl Abort, console: &MemoryConsole, said: &str) {
     expect!(rt; console.said() == said.as_bytes(), said);
 }
@@ -47,48 +46,163 @@ fn standing(db: &Db, room: u8, dark: bool) -> State {
     state
 }
 
-// A room, whether it is dark, and what a look says.
-const LOOKS: &[(u8, bool, &str)] = &[
+// What is asked for.
+#[derive(Clone, Copy)]
+enum Asked {
+    Look,
+    LookAfter(&'static [u8]),
+    Inventory,
+    Score,
+}
+
+// Has what is asked for said. It answers whether that ends the game.
+fn tell(
+    asked: Asked,
+    db: &Db,
+    style: Style,
+    state: &State,
+    console: &mut MemoryConsole,
+) -> Result<bool, ConsoleFault>
+    requires { Fits db.now state.now }
+{
+    match asked {
+        Asked::Look => look(db, style, state, console)?,
+        Asked::LookAfter(text) => look_after(text, db, style, state, console)?,
+        Asked::Inventory => inventory(db, style, state, console)?,
+        Asked::Score => return score(db, style, state, console),
+    }
+    Ok(false)
+}
+
+const PLAIN: Style = Style {
+    you: false,
+    counted: false,
+    vanish: false,
+};
+
+const YOU: Style = Style {
+    you: true,
+    counted: false,
+    vanish: false,
+};
+
+// What is asked for, in which style, the treasure room, the room and whether it is dark, whether
+// the game ends, and what is said.
+const TOLD: &[(Asked, Style, &[u8], (u8, bool), bool, &str)] = &[
     (
-        1,
+        Asked::Look,
+        PLAIN,
+        b"0",
+        (1, false),
         false,
         "I'm in a hall\nObvious exits: South, Up.\n\nI can also see: *Gold bar* - Lamp\n",
     ),
-    (2, false, "A cave\nObvious exits: none.\n"),
-    (2, true, "I can't see. It is too dark!\n"),
+    (
+        Asked::Look,
+        PLAIN,
+        b"0",
+        (2, false),
+        false,
+        "A cave\nObvious exits: none.\n",
+    ),
+    (
+        Asked::Look,
+        PLAIN,
+        b"0",
+        (2, true),
+        false,
+        "I can't see. It is too dark!\n",
+    ),
+    (
+        Asked::LookAfter(b"Woe! "),
+        PLAIN,
+        b"0",
+        (2, false),
+        false,
+        "Woe! A cave\nObvious exits: none.\n",
+    ),
+    (
+        Asked::LookAfter(b"Woe! "),
+        PLAIN,
+        b"0",
+        (2, true),
+        false,
+        "Woe! I can't see. It is too dark!\n",
+    ),
+    (
+        Asked::Inventory,
+        PLAIN,
+        b"0",
+        (1, false),
+        false,
+        "I'm carrying:\nPin - Bug.\n",
+    ),
+    (
+        Asked::Score,
+        PLAIN,
+        b"0",
+        (1, false),
+        false,
+        "I've stored 0 treasures.  On a scale of 0 to 100, that rates 0.\n",
+    ),
+    (
+        Asked::Score,
+        PLAIN,
+        b"1",
+        (1, false),
+        true,
+        "I've stored 1 treasures.  On a scale of 0 to 100, that rates 100.\nWell done.\nThe game is now over.\n",
+    ),
+    // The texts of the second person, each where it is said.
+    (
+        Asked::Look,
+        YOU,
+        b"0",
+        (1, false),
+        false,
+        "You are in a hall\nObvious exits: South, Up.\n\nYou can also see: *Gold bar* - Lamp\n",
+    ),
+    (
+        Asked::Inventory,
+        YOU,
+        b"0",
+        (1, false),
+        false,
+        "You are carrying:\nPin - Bug.\n",
+    ),
+    (
+        Asked::Score,
+        YOU,
+        b"0",
+        (1, false),
+        false,
+        "You have stored 0 treasures.  On a scale of 0 to 100, that rates 0.\n",
+    ),
 ];
 
-#[test]
-fn looks_are_said(rt: HostRuntime) -> Result<(), Fail> {
-    let alloc = rt.alloc();
-    let db = hall(alloc, (b"-1", b"0"))?;
-    for (room, dark, said) in LOOKS {
-        let state = standing(&db, *room, *dark);
-        let mut console = console(alloc)?;
-        expect!(rt; state.fits(&db));
-        expect!(rt; look(&db, Style::plain(), &state, &mut console) == Ok(()));
-        expect_said(&rt, &console, said);
-    }
+// Expects what is said in a state, and whether that ends the game.
+fn expect_told<R: Abort + AllocGlobal>(
+    rt: &R,
+    asked: Asked,
+    style: Style,
+    db: &Db,
+    place: (u8, bool),
+    over: bool,
+    said: &str,
+) -> Result<(), Fail> {
+    let state = standing(db, place.0, place.1);
+    let mut console = console(rt.alloc(), &[], 500)?;
+    expect!(rt; state.fits(db), said);
+    expect!(rt; tell(asked, db, style, &state, &mut console) == Ok(over), said);
+    expect_said(rt, &console, said);
     Ok(())
 }
 
-// Whether the room is dark, and what is said.
-const LOOKS_AFTER: &[(bool, &str)] = &[
-    (false, "Woe! A cave\nObvious exits: none.\n"),
-    (true, "Woe! I can't see. It is too dark!\n"),
-];
-
 #[test]
-fn a_text_is_said_before_a_look(rt: HostRuntime) -> Result<(), Fail> {
-    let alloc = rt.alloc();
-    let db = hall(alloc, (b"-1", b"0"))?;
-    for (dark, said) in LOOKS_AFTER {
-        let state = standing(&db, 2, *dark);
-        let mut console = console(alloc)?;
-        expect!(rt; state.fits(&db));
-        let answer = look_after(b"Woe! ", &db, Style::plain(), &state, &mut console);
-        expect!(rt; answer == Ok(()));
-        expect_said(&rt, &console, said);
+fn players_are_told_what_they_ask_for(rt: HostRuntime) -> Result<(), Fail> {
+    for (asked, style, home, place, over, said) in TOLD {
+        let db = hall(rt.alloc(), b"-1", home)?;
+        expect_told(&rt, *asked, *style, &db, *place, *over, said)?;
     }
     Ok(())
 }
@@ -133,142 +247,105 @@ fn things_seen(alloc: Global, count: u8) -> Result<Vec<u8>, AllocError> {
     Ok(bytes)
 }
 
+// How many things there are, the calls of the console that fail, and what a look answers.
+const CROWDS: &[(u8, &[u64], Result<(), ConsoleFault>)] = &[
+    (1, &[], Ok(())),
+    (3, &[], Ok(())),
+    (255, &[], Ok(())),
+    // Only a long look takes several calls.
+    (3, &[2], Ok(())),
+    (255, &[2], Err(ConsoleFault::Failed)),
+];
+
+// Looks at so many things, and expects all of them where the console doesn't fail.
+fn expect_seen<R: Abort + AllocGlobal>(
+    rt: &R,
+    db: &Db,
+    count: u8,
+    failing: &[u64],
+    answer: Result<(), ConsoleFault>,
+) -> Result<(), Fail> {
+    let mut console = console(rt.alloc(), failing, 20_000)?;
+    expect!(rt; look(db, PLAIN, &State::start(db), &mut console) == answer);
+    let seen = things_seen(rt.alloc(), count)?;
+    expect!(rt; answer.is_err() || console.said() == seen.as_slice());
+    Ok(())
+}
+
 #[test]
 fn all_items_of_a_room_are_said(rt: HostRuntime) -> Result<(), Fail> {
-    let alloc = rt.alloc();
-    for count in [1, 3, 255] {
-        let db = crowded(alloc, count)?;
-        let mut console = MemoryConsole::new(alloc, Vec::new(alloc), Vec::new(alloc), 20_000)?;
-        expect!(rt; look(&db, Style::plain(), &State::start(&db), &mut console) == Ok(()));
-        expect!(rt; console.said() == things_seen(alloc, count)?.as_slice());
+    for (count, failing, answer) in CROWDS {
+        let db = crowded(rt.alloc(), *count)?;
+        expect_seen(&rt, &db, *count, failing, *answer)?;
     }
     Ok(())
 }
 
-#[test]
-fn long_looks_alone_take_several_calls(rt: HostRuntime) -> Result<(), Fail> {
-    let alloc = rt.alloc();
-    for (count, answer) in [(3, Ok(())), (255, Err(ConsoleFault::Failed))] {
-        let db = crowded(alloc, count)?;
-        let failing = vec![in alloc; 2]?;
-        let mut console = MemoryConsole::new(alloc, Vec::new(alloc), failing, 20_000)?;
-        expect!(rt; look(&db, Style::plain(), &State::start(&db), &mut console) == answer);
-    }
-    Ok(())
-}
+const COUNTED: Style = Style {
+    you: false,
+    counted: true,
+    vanish: false,
+};
 
-#[test]
-fn what_is_carried_is_said(rt: HostRuntime) -> Result<(), Fail> {
-    let alloc = rt.alloc();
-    let db = hall(alloc, (b"-1", b"0"))?;
-    let mut console = console(alloc)?;
-    expect!(rt; inventory(&db, Style::plain(), &State::start(&db), &mut console) == Ok(()));
-    expect_said(&rt, &console, "I'm carrying:\nPin - Bug.\n");
-    Ok(())
-}
+const VANISHING: Style = Style {
+    you: false,
+    counted: true,
+    vanish: true,
+};
 
-// The treasure room, whether that ends the game, and what is said.
-const SCORES: &[(&[u8], bool, &str)] = &[
+// How long the light lasts before a turn, and in which style; how long after it, whether it is out
+// and where the lamp is then, and what is said.
+const LIGHTS: &[(&[u8], Style, (i32, bool, u8), &str)] = &[
+    (b"-1", PLAIN, (-1, false, 1), ""),
+    (b"26", PLAIN, (25, false, 1), ""),
+    (b"21", PLAIN, (20, false, 1), "Your light is growing dim. "),
+    (b"1", PLAIN, (0, true, 1), "Your light has run out. "),
+    (b"26", VANISHING, (25, false, 1), ""),
     (
-        b"0",
-        false,
-        "I've stored 0 treasures.  On a scale of 0 to 100, that rates 0.\n",
+        b"25",
+        VANISHING,
+        (24, false, 1),
+        "Your light runs out in 24 turns. ",
     ),
     (
-        b"1",
-        true,
-        "I've stored 1 treasures.  On a scale of 0 to 100, that rates 100.\nWell done.\nThe game is now over.\n",
+        b"21",
+        COUNTED,
+        (20, false, 1),
+        "Your light runs out in 20 turns. ",
     ),
+    (
+        b"2",
+        VANISHING,
+        (1, false, 1),
+        "Your light runs out in 1 turns. ",
+    ),
+    (b"1", COUNTED, (0, true, 1), "Your light has run out. "),
+    (b"1", VANISHING, (0, true, 0), "Your light has run out. "),
 ];
 
-#[test]
-fn scores_are_said(rt: HostRuntime) -> Result<(), Fail> {
-    let alloc = rt.alloc();
-    for (home, all, said) in SCORES {
-        let db = hall(alloc, (b"-1", home))?;
-        let mut console = console(alloc)?;
-        let answer = score(&db, Style::plain(), &State::start(&db), &mut console);
-        expect!(rt; answer == Ok(*all));
-        expect_said(&rt, &console, said);
-    }
+// Expects what becomes of the light and the lamp in a turn, and what is said.
+fn expect_burnt<R: Abort + AllocGlobal>(
+    rt: &R,
+    db: &Db,
+    style: Style,
+    left: (i32, bool, u8),
+    said: &str,
+) -> Result<(), Fail> {
+    let mut state = State::start(db);
+    state.redraw = false;
+    let mut console = console(rt.alloc(), &[], 500)?;
+    expect!(rt; count_light(db, style, &mut state, &mut console) == Ok(()), said);
+    expect_said(rt, &console, said);
+    expect!(rt; (state.light, state.flags[16], state.place(9)) == left, said);
+    expect!(rt; !state.redraw, said);
     Ok(())
 }
 
-// How long the light lasts before a turn and after it, whether it is out, and what is said.
-const LIGHTS: &[(&[u8], i32, bool, &str)] = &[
-    (b"-1", -1, false, ""),
-    (b"26", 25, false, ""),
-    (b"21", 20, false, "Your light is growing dim. "),
-    (b"1", 0, true, "Your light has run out. "),
-];
-
 #[test]
-fn light_burns_down(rt: HostRuntime) -> Result<(), Fail> {
-    let alloc = rt.alloc();
-    for (light, left, out, said) in LIGHTS {
-        let db = hall(alloc, (light, b"0"))?;
-        let mut state = State::start(&db);
-        let mut console = console(alloc)?;
-        let answer = count_light(&db, Style::plain(), &mut state, &mut console);
-        expect!(rt; answer == Ok(()));
-        expect_said(&rt, &console, said);
-        expect!(rt; (state.light, state.flags[16]) == (*left, *out));
-    }
-    Ok(())
-}
-
-// The texts of the second person, each where it is said.
-#[test]
-fn players_are_spoken_to(rt: HostRuntime) -> Result<(), Fail> {
-    let alloc = rt.alloc();
-    let db = hall(alloc, (b"-1", b"0"))?;
-    let you = Style {
-        you: true,
-        counted: false,
-        vanish: false,
-    };
-    let state = State::start(&db);
-    let mut console = console(alloc)?;
-    expect!(rt; look(&db, you, &state, &mut console) == Ok(()));
-    expect!(rt; inventory(&db, you, &state, &mut console) == Ok(()));
-    expect!(rt; score(&db, you, &state, &mut console) == Ok(false));
-    expect_said(
-        &rt,
-        &console,
-        "You are in a hall\nObvious exits: South, Up.\n\nYou can also see: *Gold bar* - Lamp\n\
-         You are carrying:\nPin - Bug.\n\
-         You have stored 0 treasures.  On a scale of 0 to 100, that rates 0.\n",
-    );
-    Ok(())
-}
-
-// How long the light lasts, whether a spent one goes, where it is after a turn, and what is said.
-const COUNTED: &[(&[u8], bool, u8, &str)] = &[
-    (b"26", true, 1, ""),
-    (b"25", true, 1, "Your light runs out in 24 turns. "),
-    (b"21", false, 1, "Your light runs out in 20 turns. "),
-    (b"2", true, 1, "Your light runs out in 1 turns. "),
-    (b"1", false, 1, "Your light has run out. "),
-    (b"1", true, 0, "Your light has run out. "),
-];
-
-#[test]
-fn turns_of_a_light_are_counted(rt: HostRuntime) -> Result<(), Fail> {
-    let alloc = rt.alloc();
-    for (light, vanish, place, said) in COUNTED {
-        let db = hall(alloc, (light, b"0"))?;
-        let mut state = State::start(&db);
-        state.redraw = false;
-        let mut console = console(alloc)?;
-        let style = Style {
-            you: false,
-            counted: true,
-            vanish: *vanish,
-        };
-        expect!(rt; count_light(&db, style, &mut state, &mut console) == Ok(()));
-        expect_said(&rt, &console, said);
-        expect!(rt; state.places.as_slice().get(9).copied() == Some(*place));
-        expect!(rt; !state.redraw);
+fn light_burns_down_and_is_counted(rt: HostRuntime) -> Result<(), Fail> {
+    for (light, style, left, said) in LIGHTS {
+        let db = hall(rt.alloc(), light, b"0")?;
+        expect_burnt(&rt, &db, *style, *left, said)?;
     }
     Ok(())
 }

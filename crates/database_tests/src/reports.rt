@@ -34,41 +34,43 @@ fn drop_without_a_parameter(rt: HostRuntime) -> Result<(), Fail> {
     Ok(())
 }
 
+// Games, and the report on each.
+const REPORTS: &[(&[u8], &[u8])] = &[
+    (
+        DROP,
+        b"rooms 3, items 1, lines 1, words 7, messages 1\n\
+        line 0, opcode 1: no parameter left\n\
+        warnings 1\n",
+    ),
+    (
+        FAULTS,
+        b"rooms 2, items 2, lines 3, words 1, messages 1\n\
+        line 0, condition 1: no item 2\n\
+        line 0, condition 2: no room 2\n\
+        line 0, condition 3: no flag 32\n\
+        line 0, opcode 1: no message 1\n\
+        line 0, opcode 2: unused 90\n\
+        line 0, opcode 3: no parameter left\n\
+        line 0, opcode 4: unused 101\n\
+        line 1, opcode 1: no item 2\n\
+        line 1, opcode 2: no room 2\n\
+        line 1, opcode 3: no flag 32\n\
+        line 1, opcode 4: no backup 16\n\
+        line 2, opcode 1: no room 254\n\
+        line 2, opcode 3: no message 150\n\
+        line 2, opcode 4: no parameter left\n\
+        room 0, exit 3: no room 2\n\
+        room 0, exit 4: no room -1\n\
+        item 0: no room 2\n\
+        warnings 17\n",
+    ),
+];
+
 #[test]
 fn each_fault_is_named(rt: HostRuntime) -> Result<(), Fail> {
-    for (text, said) in [
-        (
-            DROP,
-            b"rooms 3, items 1, lines 1, words 7, messages 1\n\
-            line 0, opcode 1: no parameter left\n\
-            warnings 1\n"
-                .as_slice(),
-        ),
-        (
-            FAULTS,
-            b"rooms 2, items 2, lines 3, words 1, messages 1\n\
-            line 0, condition 1: no item 2\n\
-            line 0, condition 2: no room 2\n\
-            line 0, condition 3: no flag 32\n\
-            line 0, opcode 1: no message 1\n\
-            line 0, opcode 2: unused 90\n\
-            line 0, opcode 3: no parameter left\n\
-            line 0, opcode 4: unused 101\n\
-            line 1, opcode 1: no item 2\n\
-            line 1, opcode 2: no room 2\n\
-            line 1, opcode 3: no flag 32\n\
-            line 1, opcode 4: no backup 16\n\
-            line 2, opcode 1: no room 254\n\
-            line 2, opcode 3: no message 150\n\
-            line 2, opcode 4: no parameter left\n\
-            room 0, exit 3: no room 2\n\
-            room 0, exit 4: no room -1\n\
-            item 0: no room 2\n\
-            warnings 17\n",
-        ),
-    ] {
+    for (text, said) in REPORTS {
         let found = report(rt.alloc(), &game(rt.alloc(), &[text])?)?;
-        expect!(rt; found.as_slice() == said);
+        expect!(rt; found.as_slice() == *said);
     }
     Ok(())
 }

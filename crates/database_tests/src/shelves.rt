@@ -6,51 +6,74 @@ use std::process::Abort;
 use std::test::Fail;
 use test_support::expect;
 
-// Loads a file, and expects its bytes or a fault.
-fn expect_loaded<S: Shelf>(
-    rt: &impl Abort,
-    alloc: Global,
-    shelf: &mut S,
-    name: &str,
-    limit: usize,
-    want: Result<&[u8], ShelfFault>,
-) {
-    match shelf.load(alloc, name, limit) {
-        Ok(bytes) => expect!(rt; Ok(bytes.as_slice()) == want),
-        Err(fault) => expect!(rt; Err(fault) == want),
+// Whether what was loaded is this.
+fn is_loaded(loaded: Result<Vec<u8>, ShelfFault>, want: Result<&[u8], ShelfFault>) -> bool {
+    match loaded {
+        Ok(bytes) => Ok(bytes.as_slice()) == want,
+        Err(fault) => Err(fault) == want,
     }
 }
 
+// What is done with a file, and what that answers: bytes are stored, or at most so many are loaded.
+enum Step {
+    Store(&'static [u8], Result<(), ShelfFault>),
+    Load(usize, Result<&'static [u8], ShelfFault>),
+}
+
+// Does this with the file of this name.
+fn expect_step<S: Shelf>(rt: &impl Abort, alloc: Global, shelf: &mut S, name: &str, step: &Step) {
+    match step {
+        Step::Store(bytes, want) => expect!(rt; shelf.store(alloc, name, bytes) == *want, name),
+        Step::Load(limit, want) => {
+            expect!(rt; is_loaded(shelf.load(alloc, name, *limit), *want), name)
+        }
+    }
+}
+
+// Takes these steps, each with the file of a name.
+fn expect_steps<S: Shelf>(rt: &impl Abort, alloc: Global, shelf: &mut S, steps: &[(&str, Step)]) {
+    for (name, step) in steps {
+        expect_step(rt, alloc, shelf, name, step);
+    }
+}
+
+const IN_MEMORY: &[(&str, Step)] = &[
+    ("t.dat", Step::Store(b"first", Ok(()))),
+    ("t.dat", Step::Store(b"new", Ok(()))),
+    ("t.dat", Step::Load(3, Ok(b"new"))),
+    ("u.dat", Step::Load(3, Err(ShelfFault::Absent))),
+];
+
 #[test]
-fn a_shelf_in_memory_keeps_its_files(rt: HostRuntime) -> Result<(), Fail> {
+fn a_shelf_in_memory_keeps_its_files(rt: HostRuntime) {
     let alloc = rt.alloc();
     let mut shelf = MemoryShelf::new(Vec::new(alloc), Vec::new(alloc));
-    expect!(rt; shelf.store(alloc, "t.dat", b"first") == Ok(()));
-    expect!(rt; shelf.store(alloc, "t.dat", b"new") == Ok(()));
-    expect_loaded(&rt, alloc, &mut shelf, "t.dat", 3, Ok(b"new"));
-    expect_loaded(&rt, alloc, &mut shelf, "u.dat", 3, Err(ShelfFault::Absent));
+    expect_steps(&rt, alloc, &mut shelf, IN_MEMORY);
     expect!(rt; shelf.file("t.dat") == Some(b"new".as_slice()));
-    Ok(())
 }
+
+const NAME: &str = "shelf_test.tmp";
+
+const ON_DISK: &[(&str, Step)] = &[
+    (NAME, Step::Load(9, Err(ShelfFault::Failed))),
+    (NAME, Step::Store(b"first and longer", Ok(()))),
+    (NAME, Step::Store(b"second", Ok(()))),
+    (NAME, Step::Load(6, Ok(b"second"))),
+    (NAME, Step::Load(5, Err(ShelfFault::TooLong(6)))),
+    (
+        "no_such_folder/a.tmp",
+        Step::Store(b"", Err(ShelfFault::Failed)),
+    ),
+    // A file that can be opened and not read, a folder, and a disk that is full.
+    ("/proc/self/mem", Step::Load(9, Err(ShelfFault::Failed))),
+    (".", Step::Load(9, Err(ShelfFault::Failed))),
+    ("/dev/full", Step::Store(b"lost", Err(ShelfFault::Failed))),
+];
 
 #[test]
 fn a_shelf_of_real_files_stores_and_loads(rt: HostRuntime) -> Result<(), Fail> {
-    let alloc = rt.alloc();
-    let name = "shelf_test.tmp";
-    let _ = fs::remove_file(&rt, name);
-    let mut shelf = DiskShelf::new(&rt);
-    expect_loaded(&rt, alloc, &mut shelf, name, 9, Err(ShelfFault::Failed));
-    expect!(rt; shelf.store(alloc, name, b"first and longer") == Ok(()));
-    expect!(rt; shelf.store(alloc, name, b"second") == Ok(()));
-    expect_loaded(&rt, alloc, &mut shelf, name, 6, Ok(b"second"));
-    expect_loaded(&rt, alloc, &mut shelf, name, 5, Err(ShelfFault::TooLong(6)));
-    let failed = Err(ShelfFault::Failed);
-    expect!(rt; shelf.store(alloc, "no_such_folder/a.tmp", b"") == failed);
-    // A file that can be opened and not read, a folder, and a disk that is full.
-    for unread in ["/proc/self/mem", "."] {
-        expect_loaded(&rt, alloc, &mut shelf, unread, 9, Err(ShelfFault::Failed));
-    }
-    expect!(rt; shelf.store(alloc, "/dev/full", b"lost") == failed);
-    fs::remove_file(&rt, name)?;
+    let _ = fs::remove_file(&rt, NAME);
+    expect_steps(&rt, rt.alloc(), &mut DiskShelf::new(&rt), ON_DISK);
+    fs::remove_file(&rt, NAME)?;
     Ok(())
 }

@@ -4,10 +4,11 @@ use adv_io::Line;
 use scott_index::WordIndex;
 use scott_types::Db;
 use scott_vocab::{
-    Column, Heard, Vocabulary, command, entry_at, is_direction, is_typed, letters, root, split,
-    typed_noun, which, word_at,
+    Column, Entry, Heard, Vocabulary, command, entry_at, is_direction, is_typed, letters, root,
+    split, typed_noun, which, word_at,
 };
 use std::alloc::Global;
+use std::process::Abort;
 use std::test::Fail;
 use test_support::expect;
 
@@ -54,71 +55,84 @@ const NAMED: &[(Column, &str, Option<u16>)] = &[
     (Column::Nouns, "any", None),
     (Column::Nouns, "lantern", Some(7)),
     (Column::Nouns, "nothing", Some(9)),
+    (Column::Nouns, "NORTHWARD", Some(1)),
+    (Column::Nouns, "lant", Some(7)),
+    (Column::Verbs, "walk", Some(2)),
 ];
+
+fn expect_number(rt: &impl Abort, found: Option<u16>, want: Option<u16>, word: &str) {
+    expect!(rt; found == want, word);
+}
+
+// A database finds the entry of a word, as a vocabulary too, and so does an index of the column.
+fn expect_named<R: Abort + AllocGlobal>(
+    rt: &R,
+    db: &Db,
+    column: Column,
+    word: &str,
+    entry: Option<u16>,
+) -> Result<(), Fail> {
+    expect_number(rt, which(db, column, word.as_bytes()), entry, word);
+    expect_number(rt, db.named(column, word.as_bytes()), entry, word);
+    expect_number(rt, looked_up(rt.alloc(), db, column, word)?, entry, word);
+    Ok(())
+}
 
 #[test]
 fn words_name_base_entries(rt: HostRuntime) -> Result<(), Fail> {
     let db = worded(rt.alloc())?;
     for (column, word, entry) in NAMED {
-        expect!(rt; which(&db, *column, word.as_bytes()) == *entry, word);
-        let found = looked_up(rt.alloc(), &db, *column, word)?;
-        expect!(rt; found == *entry, word);
+        expect_named(&rt, &db, *column, word, *entry)?;
     }
     Ok(())
+}
+
+// An index of words of four letters, to which these are added with their numbers.
+fn numbered(alloc: Global) -> Result<WordIndex, Fail> {
+    let mut index = WordIndex::empty(alloc, 4, 2)?;
+    index.add(alloc, b"Lamp", 7)?;
+    index.add(alloc, b"lamps", 8)?;
+    index.add(alloc, b"", 9)?;
+    Ok(index)
 }
 
 #[test]
 fn first_number_of_a_word_stays(rt: HostRuntime) -> Result<(), Fail> {
-    let mut index = WordIndex::empty(rt.alloc(), 4, 2)?;
-    for (word, number) in [("Lamp", 7), ("lamps", 8), ("", 9)] {
-        index.add(rt.alloc(), word.as_bytes(), number)?;
-    }
-    for (word, number) in [("LAMPS", Some(7)), ("lam", None), ("", None)] {
-        expect!(rt; index.find(word.as_bytes()) == number, word);
-    }
+    let index = numbered(rt.alloc())?;
+    expect_number(&rt, index.find(b"LAMPS"), Some(7), "LAMPS");
+    expect_number(&rt, index.find(b"lam"), None, "lam");
+    expect_number(&rt, index.find(b""), None, "no letter");
     Ok(())
 }
 
-// A column, a word, and the base entry that a database finds.
-const BASES: &[(Column, &str, Option<u16>)] = &[
-    (Column::Nouns, "NORTHWARD", Some(1)),
-    (Column::Nouns, "lant", Some(7)),
-    (Column::Nouns, "any", None),
-    (Column::Verbs, "walk", Some(2)),
-];
+fn expect_text(rt: &impl Abort, text: &[u8], want: &str) {
+    expect!(rt; text == want.as_bytes(), want);
+}
 
-#[test]
-fn a_database_is_a_vocabulary(rt: HostRuntime) -> Result<(), Fail> {
-    let db = worded(rt.alloc())?;
-    for (column, word, base) in BASES {
-        expect!(rt; db.named(*column, word.as_bytes()) == *base, word);
-    }
-    Ok(())
+fn expect_entry(rt: &impl Abort, entry: &Entry<'_>, word: &str, base: Option<u16>) {
+    expect_text(rt, entry.word, word);
+    expect_number(rt, entry.base, base, word);
 }
 
 #[test]
-fn entries_stand_for_base_ones(rt: HostRuntime) -> Result<(), Fail> {
+fn entries_stand_for_base_ones_and_have_texts(rt: HostRuntime) -> Result<(), Fail> {
     let db = worded(rt.alloc())?;
-    let entries = db.words().len();
-    expect!(rt; entries == 12);
-    let run = entry_at(&db, Column::Verbs, 1, None);
-    expect!(rt; run.word == b"RUN".as_slice());
-    expect!(rt; run.base == None);
-    let walk = entry_at(&db, Column::Verbs, 3, Some(2));
-    expect!(rt; walk.word == b"WALK".as_slice());
-    expect!(rt; walk.base == Some(2));
-    let lamp = entry_at(&db, Column::Nouns, 7, Some(6));
-    expect!(rt; lamp.base == Some(7));
-    Ok(())
-}
-
-#[test]
-fn nouns_have_texts(rt: HostRuntime) -> Result<(), Fail> {
-    let db = worded(rt.alloc())?;
-    let entries = db.parts().words.len();
-    expect!(rt; entries == 12);
-    expect!(rt; root(&db, 7) == b"LAMP".as_slice());
-    expect!(rt; root(&db, 8) == b"*LANT".as_slice());
+    expect!(rt; db.words().len() == 12);
+    expect_entry(&rt, &entry_at(&db, Column::Verbs, 1, None), "RUN", None);
+    expect_entry(
+        &rt,
+        &entry_at(&db, Column::Verbs, 3, Some(2)),
+        "WALK",
+        Some(2),
+    );
+    expect_entry(
+        &rt,
+        &entry_at(&db, Column::Nouns, 7, Some(6)),
+        "LAMP",
+        Some(7),
+    );
+    expect_text(&rt, root(&db, 7), "LAMP");
+    expect_text(&rt, root(&db, 8), "*LANT");
     Ok(())
 }
 
@@ -131,18 +145,27 @@ const LINES: &[(&str, Option<(u8, u8)>, Option<(u8, u8)>, &str)] = &[
     (" Get LAMP now", Some((1, 3)), Some((5, 4)), "lamp"),
 ];
 
+// A line is split into these words, of which the second is the noun.
+fn expect_split(
+    rt: &impl Abort,
+    typed: &str,
+    first: Option<(u8, u8)>,
+    second: Option<(u8, u8)>,
+    noun: &str,
+) {
+    let line = Line::of(typed.as_bytes());
+    let words = split(&line);
+    expect!(rt; (words.first, words.second) == (first, second), typed);
+    expect!(rt; typed_noun(&line) == noun.as_bytes(), typed);
+    if let Some((start, length)) = words.second {
+        expect!(rt; word_at(&line, start, length) == noun.as_bytes(), typed);
+    }
+}
+
 #[test]
 fn lines_split_into_words(rt: HostRuntime) {
     for (typed, first, second, noun) in LINES {
-        let line = Line::of(typed.as_bytes());
-        let words = split(&line);
-        expect!(rt; words.first == *first, typed);
-        expect!(rt; words.second == *second, typed);
-        expect!(rt; typed_noun(&line) == noun.as_bytes(), typed);
-        if let Some((start, length)) = words.second {
-            let word = word_at(&line, start, length);
-            expect!(rt; word == noun.as_bytes(), typed);
-        }
+        expect_split(&rt, typed, *first, *second, noun);
     }
 }
 
@@ -173,16 +196,17 @@ fn lines_are_commands(rt: HostRuntime) -> Result<(), Fail> {
 
 #[test]
 fn six_nouns_are_directions(rt: HostRuntime) {
-    for (noun, direction) in [(0, false), (1, true), (6, true), (7, false)] {
-        assert!(rt; is_direction(noun) == direction, "at {noun}");
-    }
+    expect!(rt; !is_direction(0));
+    expect!(rt; is_direction(1));
+    expect!(rt; is_direction(6));
+    expect!(rt; !is_direction(7));
 }
 
 #[test]
 fn letters_are_lower_case_and_few(rt: HostRuntime) {
-    expect!(rt; letters(3, b"LAMP").as_slice() == b"lam".as_slice());
-    expect!(rt; letters(20, b"Lamp").as_slice() == b"lamp".as_slice());
-    expect!(rt; letters(0, b"lamp").as_slice() == b"".as_slice());
+    expect_text(&rt, letters(3, b"LAMP").as_slice(), "lam");
+    expect_text(&rt, letters(20, b"Lamp").as_slice(), "lamp");
+    expect_text(&rt, letters(0, b"lamp").as_slice(), "");
 }
 
 #[test]

@@ -6,8 +6,9 @@ use crate::trying::{
     Case, File, NOTHING, Translated, answer_of, expect, expect_translated, obeyed,
 };
 use crate::{runs, sources, translations};
-use adv_io::MemoryShelf;
+use adv_io::{MemoryConsole, MemoryShelf};
 use scott_tool::status_without_words;
+use std::alloc::Global;
 use std::io::ErrorKind;
 use std::process::Abort;
 use std::test::Fail;
@@ -37,8 +38,7 @@ fn is_in(part: &[u8], text: &[u8]) -> bool {
 fn commands_are_answered(rt: HostRuntime) -> Result<(), Fail> {
     expect_all(&rt, &plays::ALL)?;
     expect_all(&rt, &refusals::ALL)?;
-    expect_all(&rt, &sources::ALL)?;
-    Ok(())
+    expect_all(&rt, &sources::ALL)
 }
 
 #[test]
@@ -72,35 +72,45 @@ fn arrays_have_an_entry_more(rt: HostRuntime) -> Result<(), Fail> {
     Ok(())
 }
 
+// A byte that is no character of its own.
+const RAW: Case<'static> = Case {
+    program: File::Bytes(br#"[ Main; print "a~b^@@200"; ];"#),
+    ..runs::DONE
+};
+
+const RAW_SAID: &[u8] = &[b'a', b'"', b'b', b'\n', 200];
+
 #[test]
 fn runs_are_answered(rt: HostRuntime) -> Result<(), Fail> {
     expect_all(&rt, &runs::ALL)?;
-    // A byte that is no character of its own.
-    let case = Case {
-        program: File::Bytes(br#"[ Main; print "a~b^@@200"; ];"#),
-        ..runs::DONE
-    };
-    let (status, console, _) = answer_of(rt.alloc(), &case)?;
+    let (status, console, _) = answer_of(rt.alloc(), &RAW)?;
     expect!(rt; status == 0);
-    expect!(rt; console.said() == [b'a', b'"', b'b', b'\n', 200].as_slice());
+    expect!(rt; console.said() == RAW_SAID);
     Ok(())
 }
+
+// How many bytes are said before each line is taken.
+const MARKS: &[(usize, Option<usize>)] = &[
+    (0, Some(79)),
+    (1, Some(142)),
+    (2, Some(226)),
+    (3, None),
+];
 
 // Each prompt is said before its line is taken.
 #[test]
 fn lines_are_taken_in_their_places(rt: HostRuntime) -> Result<(), Fail> {
     expect!(rt; T.text(rt.alloc())?.len() == 209);
     let console = expect(&rt, &WALK)?;
-    for (i, mark) in [(0, Some(79)), (1, Some(142)), (2, Some(226)), (3, None)] {
-        expect!(rt; console.mark(i) == mark);
+    for (i, mark) in MARKS {
+        expect!(rt; console.mark(*i) == *mark);
     }
     Ok(())
 }
 
 #[test]
-fn long_files_and_no_words_are_refused(rt: HostRuntime) -> Result<(), Fail> {
-    let alloc = rt.alloc();
-    let long = vec![in alloc; b' '; 1_048_577]?;
+fn long_files_are_refused(rt: HostRuntime) -> Result<(), Fail> {
+    let long = vec![in rt.alloc(); b' '; 1_048_577]?;
     let case = Case {
         command: "check t.dat",
         game: File::Bytes(&long),
@@ -109,6 +119,12 @@ fn long_files_and_no_words_are_refused(rt: HostRuntime) -> Result<(), Fail> {
         ..NOTHING
     };
     expect(&rt, &case)?;
+    Ok(())
+}
+
+#[test]
+fn no_words_are_refused(rt: HostRuntime) -> Result<(), Fail> {
+    let alloc = rt.alloc();
     let mut shelf = MemoryShelf::new(Vec::new(alloc), Vec::new(alloc));
     let (status, console) = obeyed(alloc, &[], &NOTHING, &mut shelf)?;
     expect!(rt; status == 1);
@@ -118,25 +134,31 @@ fn long_files_and_no_words_are_refused(rt: HostRuntime) -> Result<(), Fail> {
     Ok(())
 }
 
+// What a command answers and says where the console's call of this number fails.
+fn failed_at(alloc: Global, case: &Case<'_>, number: u64) -> Result<(u8, MemoryConsole), Fail> {
+    let numbers = [number];
+    let failing = Case {
+        failing_calls: &numbers,
+        ..*case
+    };
+    let (status, console, _) = answer_of(alloc, &failing)?;
+    Ok((status, console))
+}
+
 // The console's calls fail one by one, until none is left that can. What was said then is a prefix
 // of the whole. Answers how many calls can fail.
 fn expect_failures<R: Abort + AllocGlobal>(rt: &R, case: &Case<'_>) -> Result<u64, Fail> {
     let (status_of_all, whole, _) = answer_of(rt.alloc(), case)?;
     for number in 1..1_000 {
-        let numbers = [number];
-        let failing = Case {
-            failing_calls: &numbers,
-            ..*case
-        };
-        let (status, console, _) = answer_of(rt.alloc(), &failing)?;
-        assert!(rt; whole.said().starts_with(console.said()), "at {number}");
+        let (status, console) = failed_at(rt.alloc(), case, number)?;
+        expect!(rt; whole.said().starts_with(console.said()), case.command);
         if status == status_of_all {
-            expect!(rt; console.said() == whole.said());
+            expect!(rt; console.said() == whole.said(), case.command);
             return Ok(number - 1);
         }
-        assert!(rt; status == 3, "at {number}");
+        expect!(rt; status == 3, case.command);
     }
-    panic!(rt; "a console that fails is never used up")
+    Err(Fail::from("a console that fails is never used up"))
 }
 
 #[test]

@@ -3,20 +3,28 @@ use crate::games::T;
 use crate::trying::{NOTHING, console_of};
 use adv_draws::Draws;
 use adv_io::Line;
-use scott_format::read_db;
+use scott_format::{DATABASE_LIMIT, read_db};
 use scott_turn::Session;
-use scott_types::{Ending, Position, Style};
+use scott_types::{Db, Ending, Position, Style};
+use std::alloc::Global;
 use std::test::Fail;
 use test_support::expect;
+
+fn database(alloc: Global) -> Result<Db, Fail> {
+    let text = T.text(alloc)?;
+    if text.len() > DATABASE_LIMIT {
+        return Err(Fail::from("the limit"));
+    }
+    let db = read_db(alloc, text.as_bytes()).ok().ok_or("no database")?;
+    Ok(db)
+}
 
 // A session that is handed its lines says what a play of them says, and takes none from its
 // console.
 #[test]
 fn lines_are_handed_in(rt: HostRuntime) -> Result<(), Fail> {
     let alloc = rt.alloc();
-    let text = T.text(alloc)?;
-    expect!(rt; text.len() <= 1_048_576);
-    let db = read_db(alloc, text.as_bytes()).ok().ok_or("no database")?;
+    let db = database(alloc)?;
     let Ok(mut session) = Session::open(alloc, &db, Style::plain()) else {
         return Err(Fail::from("no session"));
     };

@@ -75,19 +75,21 @@ fn bytes_of(alloc: Global, file: &File<'_>) -> Result<Option<Vec<u8>>, Fail> {
     }
 }
 
+// Stores a file under a name, if there is one.
+fn put(alloc: Global, shelf: &mut MemoryShelf, name: &str, file: &File<'_>) -> Result<(), Fail> {
+    if let Some(bytes) = bytes_of(alloc, file)? {
+        let _ = shelf.store(alloc, name, &bytes);
+    }
+    Ok(())
+}
+
 // A shelf with the files of a case, stored in their order.
 fn shelf_of(alloc: Global, case: &Case<'_>) -> Result<MemoryShelf, Fail> {
     let failing = case.failing_loads.to_vec(alloc)?;
     let mut shelf = MemoryShelf::new(Vec::new(alloc), failing);
-    if let Some(bytes) = bytes_of(alloc, &case.game)? {
-        let _ = shelf.store(alloc, "t.dat", &bytes);
-    }
-    if let Some(bytes) = bytes_of(alloc, &case.source)? {
-        let _ = shelf.store(alloc, "t.adv", &bytes);
-    }
-    if let Some(bytes) = bytes_of(alloc, &case.program)? {
-        let _ = shelf.store(alloc, "g.inf", &bytes);
-    }
+    put(alloc, &mut shelf, "t.dat", &case.game)?;
+    put(alloc, &mut shelf, "t.adv", &case.source)?;
+    put(alloc, &mut shelf, "g.inf", &case.program)?;
     if let Some(draws) = case.draws {
         let _ = shelf.store(alloc, "d.txt", draws);
     }
@@ -156,21 +158,30 @@ pub struct Translated<'a> {
     pub play: Case<'a>,
 }
 
+// Gives a command to a shelf, with the lines of a case, and expects that it succeeds and says this.
+fn expect_given<R: Abort + AllocGlobal>(
+    rt: &R,
+    command: &str,
+    case: &Case<'_>,
+    shelf: &mut MemoryShelf,
+    said: &[u8],
+) -> Result<(), Fail> {
+    let (status, console) = given(rt.alloc(), command, case, shelf)?;
+    expect!(rt; status == 0, command);
+    expect!(rt; console.said() == said, command);
+    Ok(())
+}
+
 /// Plays a game, translates it without a word, and expects that the run of what is stored says what
 /// the play says. Gives the shelf with it.
 pub fn expect_translated<R: Abort + AllocGlobal>(
     rt: &R,
     case: &Translated<'_>,
 ) -> Result<MemoryShelf, Fail> {
-    let alloc = rt.alloc();
     let played = expect(rt, &case.play)?;
-    let mut shelf = shelf_of(alloc, &case.play)?;
-    let (status, silent) = given(alloc, case.translate, &NOTHING, &mut shelf)?;
-    expect!(rt; status == 0, case.translate);
-    expect!(rt; silent.said().len() == 0, case.translate);
-    let (status, console) = given(alloc, case.run, &case.play, &mut shelf)?;
-    expect!(rt; status == 0, case.run);
-    expect!(rt; console.said() == played.said(), case.run);
+    let mut shelf = shelf_of(rt.alloc(), &case.play)?;
+    expect_given(rt, case.translate, &NOTHING, &mut shelf, b"")?;
+    expect_given(rt, case.run, &case.play, &mut shelf, played.said())?;
     Ok(shelf)
 }
 
