@@ -1,6 +1,8 @@
 //! What a test expects.
 #![tactic(auto)]
+
 ghost use Rattle.std.specs.Prelude.{◌≡◌, true};
+
 use std::process::Abort;
 
 /// Expects that something holds. Where it doesn't, the test ends with a text: what is written there,

@@ -53,12 +53,12 @@ pub returns-then-not-is_ascii_digit : goal.returns-then-not-is_ascii_digit
 returns-then-not-is_ascii_digit c =
     sym (ap (λ (here : Spot). amount_at c.args.negative c.args.start here.at here.rest) c.self.view_is)
     ∙ amount_other c.args.negative c.args.start c.self.inside.at c.self.inside.rest.now c.in-len1-up.len_at_least
-        (sym c.is_ascii_digit.ensures.value ∙ c.if-not-is_ascii_digit.true)
+    (sym c.is_ascii_digit.ensures.value ∙ c.if-not-is_ascii_digit.true)
 
 pub returns-then-amount-greatest : goal.returns-then-amount-greatest
 returns-then-amount-greatest c =
     digit_too_many c.args.negative c.args.start c.loop-rest.amount c.from-in-len1-up-rest.result c.loop-rest.at c.loop-rest.rest.now _ c.in-len1-up-rest.len_at_least
-        (sym c.if-not-is_ascii_digit-2.ensures.value) c.from-in-len1-up-rest.ensures (rw c.greatest.ensures at c.if-amount-greatest.true) c.loop-rest.invariant.same
+    (sym c.if-not-is_ascii_digit-2.ensures.value) c.from-in-len1-up-rest.ensures (rw c.greatest.ensures at c.if-amount-greatest.true) c.loop-rest.invariant.same
 
 pub returns : goal.returns
 returns c =
