@@ -1,11 +1,11 @@
 //! What actions do, in a hall with a rug and a pin that is carried, where one item can be carried.
 use crate::consoles::console;
+use crate::expect;
 use crate::games::game;
 use scott_actions::{Ran, perform};
 use scott_types::{Db, State, Style};
 use std::process::Abort;
 use std::test::Fail;
-use test_support::expect;
 
 const HEADER: &[u8] = b"0 1 0 0 0 1 0 0 3 -1 1 0\n0 ";
 

@@ -1,5 +1,6 @@
 //! Standard input and output, over terminals that are made here.
 use crate::consoles::expect_taken;
+use crate::expect;
 use adv_io::{Console, ConsoleFault, Line, StdConsole, Taken};
 use std::alloc::{AllocError, Allocator, Global};
 use std::fmt::Display;
@@ -7,7 +8,6 @@ use std::io;
 use std::io::{BufRead, ErrorKind, Lines, Read};
 use std::process::Abort;
 use std::test::Fail;
-use test_support::expect;
 
 // What was typed at a terminal, after which reading ends or fails.
 #[derive(Drop)]

@@ -1,9 +1,9 @@
 //! Consoles in memory: what they keep, and in how many calls pieces are said.
+use crate::expect;
 use adv_io::{Console, ConsoleFault, Line, MemoryConsole, ScriptConsole, Taken, say_all};
 use std::alloc::Global;
 use std::process::Abort;
 use std::test::Fail;
-use test_support::expect;
 
 /// A console without lines, which fails at the calls of these numbers.
 pub fn console(alloc: Global, failing: &[u64], room: usize) -> Result<MemoryConsole, Fail> {

@@ -1,8 +1,8 @@
 //! What no clause says: outside vectors, and that the calls succeed with ample memory.
+use crate::expect;
 use adv_draws::{DrawFault, Draws};
 use std::process::Abort;
 use std::test::Fail;
-use test_support::expect;
 
 // Takes all that is expected, in order.
 fn expect_draws(rt: &impl Abort, draws: &mut Draws, wanted: &[u8]) {

@@ -1,11 +1,11 @@
 //! Texts of databases that are read and written back, and those that are refused.
+use crate::expect;
 use crate::games::{game, joined};
 use scott_format::{Field, FormatFault, read_db, write_db};
 use scott_types::{Action, Header, Item, Parts};
 use std::alloc::Global;
 use std::process::Abort;
 use std::test::Fail;
-use test_support::expect;
 
 const HEADER: &[u8] = b"0 0 0 6 2 5 1 0 3 -1 0 0\n";
 

@@ -3,6 +3,9 @@
 //! its tests.
 #![tactic(auto)]
 
+#[cfg(test)]
+mod expecting;
+
 // Consoles and shelves.
 #[cfg(test)]
 mod adapters;

@@ -2,6 +2,7 @@
 ghost use Rattle.scott_types.specs.State.{Fits};
 
 use crate::consoles::console;
+use crate::expect;
 use crate::games::game;
 use adv_io::{ConsoleFault, MemoryConsole};
 use itoa::Buffer;
@@ -10,7 +11,6 @@ use scott_types::{Db, State, Style};
 use std::alloc::{AllocError, Global};
 use std::process::Abort;
 use std::test::Fail;
-use test_support::expect;
 
 // A hall with a cave to the south.
 const ROOMS: &[u8] = b" 0 0 0 0 0 0 0 0 \"AUT\" \"ANY\"

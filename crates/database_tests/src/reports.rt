@@ -1,8 +1,8 @@
 //! Reports on small games.
+use crate::expect;
 use crate::games::game;
 use adv_check::{Part, Warning, What, report, warnings};
 use std::test::Fail;
-use test_support::expect;
 
 // Every exit, item place, condition and opcode of the first is as it should be, but one drop.
 const DROP: &[u8] = b"0 0 0 6 2 5 1 0 3 -1 0 0

@@ -1,10 +1,10 @@
 //! What no clause says: each form of words once.
+use crate::expect;
 use scott_requests::{DrawSource, Request, request_in};
 use scott_types::Style;
 use std::alloc::Global;
 use std::process::Abort;
 use std::test::Fail;
-use test_support::expect;
 
 const PLAIN: Style = Style {
     you: false,

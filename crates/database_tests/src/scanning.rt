@@ -1,9 +1,9 @@
 //! Numbers and strings at the ends of their ranges, with ample memory.
+use crate::expect;
 use adv_text::{Memory, Scan, TextFault, put_integer, put_number, put_quoted};
 use std::alloc::Global;
 use std::process::Abort;
 use std::test::Fail;
-use test_support::expect;
 
 // Texts, the number that each begins with or the fault, and the place after it.
 const NUMBERS: &[(&[u8], Result<i32, TextFault>, usize)] = &[

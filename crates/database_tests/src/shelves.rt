@@ -1,10 +1,10 @@
 //! Shelves in memory and on a disk: what they keep, and how they fail.
+use crate::expect;
 use adv_io::{DiskShelf, MemoryShelf, Shelf, ShelfFault};
 use std::alloc::Global;
 use std::fs;
 use std::process::Abort;
 use std::test::Fail;
-use test_support::expect;
 
 // Whether what was loaded is this.
 fn is_loaded(loaded: Result<Vec<u8>, ShelfFault>, want: Result<&[u8], ShelfFault>) -> bool {

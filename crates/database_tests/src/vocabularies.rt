@@ -1,4 +1,5 @@
 //! Each public call on words, with a vocabulary made by hand.
+use crate::expect;
 use crate::games::game;
 use adv_io::Line;
 use scott_index::WordIndex;
@@ -10,7 +11,6 @@ use scott_vocab::{
 use std::alloc::Global;
 use std::process::Abort;
 use std::test::Fail;
-use test_support::expect;
 
 // The verbs and the nouns, in the order of their numbers. Three bytes of a word count.
 const WORDS: &[u8] = b"

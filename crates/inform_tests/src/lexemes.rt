@@ -1,6 +1,6 @@
 //! The tables against the lists of the profile.
+use crate::expect;
 use inform_lexemes::{Keyword, Symbol};
-use test_support::expect;
 
 // The symbols as the profile lists them, the longest of those that begin alike last.
 const SYMBOLS: &str = "; , : ( ) { } [ ] = == ~= < > <= >= && || ~~ + - * / % -> --> ++ --";

@@ -1,12 +1,12 @@
 //! Acceptance: each fault of a program, the limits on both sides, the order of faults, look-ups.
 use super::texts::{program_of, repeated};
+use crate::expect;
 use inform_names::{Accepted, Kind, Names, Value, accept};
 use inform_tree::{Const, Directive, Name, Program, Width};
 use itoa::Buffer;
 use std::alloc::Global;
 use std::process::Abort;
 use std::test::Fail;
-use test_support::expect;
 
 // ---- what is said of a program
 

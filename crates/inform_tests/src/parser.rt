@@ -1,11 +1,11 @@
 //! Texts that are programs, and texts that are none, with ample memory.
+use crate::expect;
 use inform_lexer::tokens;
 use inform_parser::{ParseFault, parse};
 use inform_tree::{Const, Directive, Expr, Program, Stmt};
 use itoa::Buffer;
 use std::alloc::{AllocError, Global};
 use std::test::Fail;
-use test_support::expect;
 
 // Each fault, with its place.
 const FAULTS: &[(&[u8], ParseFault)] = &[

@@ -1,13 +1,13 @@
 //! Printed texts. A text that is printed so is the text of its program, so that the program of each
 //! is printed as it stands; and texts read back through the tokens.
 use super::texts::program_of;
+use crate::expect;
 use inform_lexer::{Kind, text, tokens};
 use inform_printer::print;
 use inform_tree::Program;
 use std::alloc::Global;
 use std::process::Abort;
 use std::test::Fail;
-use test_support::expect;
 
 // The printed text of a program, where it is well formed.
 fn printed(alloc: Global, program: &Program) -> Result<Vec<u8>, Fail> {

@@ -1,5 +1,6 @@
 //! Runs: what programs say and why they stop, with ample memory.
 use super::texts::program_of;
+use crate::expect;
 use adv_draws::Draws;
 use adv_io::{Line, MemoryConsole};
 use inform_names::{Accepted, accept};
@@ -9,7 +10,6 @@ use itoa::Buffer;
 use std::alloc::Global;
 use std::process::Abort;
 use std::test::Fail;
-use test_support::expect;
 
 // A program, the lines, the draws, the steps, the width of its words, and what it says, then why it
 // stops and how many steps it used.

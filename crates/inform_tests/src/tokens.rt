@@ -1,10 +1,10 @@
 //! Texts that have tokens, and texts that have none, with ample memory.
+use crate::expect;
 use inform_lexemes::{Keyword, Symbol};
 use inform_lexer::{Glance, Kind, LexFault, glance, name, text, tokens};
 use itoa::Buffer;
 use std::alloc::Global;
 use std::test::Fail;
-use test_support::expect;
 
 // Each fault, with its place.
 const FAULTS: &[(&[u8], LexFault)] = &[

@@ -1,11 +1,11 @@
 //! Each public call, on trees made by hand, and the list of reserved words.
+use crate::expect;
 use inform_tree::{
     Case, Change, Cond, Const, Directive, Expr, Item, Name, Program, Routine, Stmt, Text, Width,
     depth, is_character, is_name, is_reserved,
 };
 use std::alloc::{AllocError, Global};
 use std::test::Fail;
-use test_support::expect;
 
 // The reserved words, as the profile lists them.
 const LISTED: &str = "array attribute box break buffer char class constant continue default do \

@@ -1,9 +1,9 @@
 //! Sources that mean a database, and those that are refused, with ample memory.
+use crate::expect;
 use adv_compiler::{CompileFault, compile};
 use source_reader::read_source;
 use std::alloc::{AllocError, Global};
 use std::test::Fail;
-use test_support::expect;
 
 const HEADER: &[u8] = b"header {
 unused 0;

@@ -1,10 +1,10 @@
 //! Sources, and the plain texts of the databases that they mean, with ample memory.
+use crate::expect;
 use adv_compiler::compile;
 use adv_decompiler::decompile;
 use source_reader::read_source;
 use std::alloc::Global;
 use std::test::Fail;
-use test_support::expect;
 
 const PLAIN: &[u8] = b"header {
 unused 0;

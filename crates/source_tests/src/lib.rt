@@ -7,4 +7,6 @@ mod compiling;
 #[cfg(test)]
 mod decompiling;
 #[cfg(test)]
+mod expecting;
+#[cfg(test)]
 mod reading;

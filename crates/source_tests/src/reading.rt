@@ -1,8 +1,8 @@
 //! Texts that are read, and those that are refused, with ample memory.
+use crate::expect;
 use source_reader::{Op, Ref, SourceFault, Spot, condition_word, opcode_word, read_source};
 use std::alloc::{AllocError, Global};
 use std::test::Fail;
-use test_support::expect;
 
 const FRONT: &[u8] = b"header {
 unused 0;

@@ -5,14 +5,13 @@ use crate::refusals::{self, USAGE};
 use crate::trying::{
     Case, File, NOTHING, Translated, answer_of, expect, expect_translated, obeyed,
 };
-use crate::{runs, sources, translations};
+use crate::{expect, runs, sources, translations};
 use adv_io::{MemoryConsole, MemoryShelf};
 use scott_tool::status_without_words;
 use std::alloc::Global;
 use std::io::ErrorKind;
 use std::process::Abort;
 use std::test::Fail;
-use test_support::expect;
 
 // Each case of these tables.
 fn expect_all<R: Abort + AllocGlobal>(rt: &R, tables: &[&[Case<'_>]]) -> Result<(), Fail> {

@@ -3,6 +3,9 @@
 //! not proved twice for its tests.
 #![tactic(auto)]
 
+#[cfg(test)]
+mod expecting;
+
 // Games, and how a command is given to one.
 #[cfg(test)]
 mod games;

@@ -1,4 +1,5 @@
 //! Sessions that are handed their lines.
+use crate::expect;
 use crate::games::T;
 use crate::trying::{NOTHING, console_of};
 use adv_draws::Draws;
@@ -8,7 +9,6 @@ use scott_turn::Session;
 use scott_types::{Db, Ending, Position, Style};
 use std::alloc::Global;
 use std::test::Fail;
-use test_support::expect;
 
 fn database(alloc: Global) -> Result<Db, Fail> {
     let text = T.text(alloc)?;

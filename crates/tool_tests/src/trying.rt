@@ -1,11 +1,11 @@
 //! Giving a command, and expecting what becomes of it.
+use crate::expect;
 use crate::games::Game;
 use adv_io::{Line, MemoryConsole, MemoryShelf, Shelf};
 use scott_tool::scott;
 use std::alloc::Global;
 use std::process::Abort;
 use std::test::Fail;
-use test_support::expect;
 
 /// A file: none, these bytes, these pieces, or the text of a game.
 #[derive(Clone, Copy)]

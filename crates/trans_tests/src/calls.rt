@@ -1,12 +1,12 @@
 //! Each call, and how much it makes.
 use super::games::smallest;
 use super::sizes::sizes;
+use crate::expect;
 use adv_io::Memory;
 use inform_tree::Width;
 use scott_types::{Db, Position, State, Style};
 use std::alloc::Global;
 use std::test::Fail;
-use test_support::expect;
 use trans_commands::{commands, search};
 use trans_data::tables;
 use trans_programs::program;

@@ -1,10 +1,10 @@
 //! Codes: each call succeeds, and what it gives is the tree that was written.
 use super::sizes::sizes;
+use crate::expect;
 use inform_codes::examples::{CALL, CARRIED, FORK, MESSAGE, NAMES, ROUTINES};
 use inform_codes::{before, body, fork, numbered, routines};
 use inform_tree::{Change, Cond, Expr, Head, Name, Relation, Stmt};
 use std::test::Fail;
-use test_support::expect;
 
 fn is(name: &Name, text: &str) -> bool {
     name.bytes() == text.as_bytes()

@@ -7,6 +7,8 @@ mod calls;
 #[cfg(test)]
 mod codes;
 #[cfg(test)]
+mod expecting;
+#[cfg(test)]
 mod games;
 #[cfg(test)]
 mod sizes;

@@ -1,21 +1,17 @@
-//! What a test expects.
-#![tactic(auto)]
-
+//! What a test expects, as a call of one function.
 ghost use Rattle.std.specs.Prelude.{◌≡◌, true};
 
 use std::process::Abort;
 
-/// Expects that something holds. Where it doesn't, the test ends with a text: what is written there,
-/// or what follows the comma.
-///
-/// It is a call alone, where `assert!` puts its branch and its message into the test.
+/// Expects that something holds. Where it doesn't, the test ends with its text, or with the text
+/// that follows it.
 #[macro_export]
 macro_rules! expect {
     ($rt:expr; $holds:expr) => {
-        $crate::expect_at(&$rt, $holds, stringify!($holds))
+        $crate::expecting::expect_at(&$rt, $holds, stringify!($holds))
     };
     ($rt:expr; $holds:expr, $at:expr) => {
-        $crate::expect_at(&$rt, $holds, $at)
+        $crate::expecting::expect_at(&$rt, $holds, $at)
     };
 }
 
