@@ -1,5 +1,5 @@
 -- What the text that is written of a database is made of: lists, and the tests of the limits.
-use Rattle.std.proofs.Common.{◌≡◌, ℕ, ◌+◌, ◌≤◌, ◌≤ℤ◌, Bool, true, ◌&&◌, leb, ltb, List, [], ◌∷◌, ◌++◌, length, get_or, suc, zero, ◌<◌, Some, None, ℤ, pos, negsuc, refl, sym, subst, append_assoc, inl, inr, to_z, of_z, w32, arith}
+use Rattle.std.proofs.Common.{◌≡◌, ℕ, ◌+◌, ◌≤◌, ◌≤ℤ◌, Bool, true, ◌&&◌, leb, ltb, List, [], ◌∷◌, ◌++◌, length, Some, None, ℤ, pos, negsuc, refl, sym, subst, append_assoc, inl, inr, to_z, of_z, w32, arith}
 use Rattle.std.specs.Prelude.{int_le}
 use Rattle.std.specs.List.{list_all}
 use Rattle.std.proofs.lemmas.Bool.{and_parts, and_from, le-leb}
@@ -59,12 +59,6 @@ same_in_32_bits (negsuc n) e = let h = fits (negsuc n) e in to_z-of_z w32 (negsu
 
 pub natural_fits : (n : ℕ) → n ≤ 2147483647 → Fits32 (pos n)
 natural_fits n h = (omega (arith, ints), omega (arith, ints))
-
--- what holds of each element holds of one
-pub one_of : {X : Type 0} (ok : X → Bool) (xs : List X) (i : ℕ) (d : X) → list_all ok xs ≡ true → i < length xs → ok (get_or xs i d) ≡ true
-one_of ok [] i d all less = absurd (omega arith)
-one_of ok (x ∷ xs) zero d all less = (and_parts (ok x) (list_all ok xs) all).0
-one_of ok (x ∷ xs) (suc i) d all less = one_of ok xs i d ((and_parts (ok x) (list_all ok xs) all).1) (omega arith)
 
 -- a natural number is within its limits
 pub within : (least most n : ℕ) → least ≤ n → n ≤ most → (int_le (pos least) (pos n) && int_le (pos n) (pos most)) ≡ true

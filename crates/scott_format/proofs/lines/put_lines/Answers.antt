@@ -1,8 +1,8 @@
 use Rattle.std.proofs.Common.{sym, arith}
 use Rattle.std.proofs.lemmas.List.{append-nil}
+use Rattle.std.proofs.lemmas.List.Sums.{AllPass-from_list_all}
 use Rattle.std.proofs.lemmas.Result.{err_from_is_err_and}
 use Rattle.scott_format.specs.Canon.{line_text}
-use Rattle.scott_format.proofs.CanonText.{one_of}
 use Rattle.scott_format.proofs.Texts.{one_more, all_written}
 use Rattle.scott_format.proofs.lines.put_lines.Goals as goal
 
@@ -11,7 +11,7 @@ loop-entry-init g c = sym (append-nil c.args.out.now.items)
 
 pub put-requires : goal.put-requires
 put-requires g c =
-    rw c.entry-item.is (one_of g.L.Line.fits c.args.entries.now c.loop-entry.entry-index c.entry-item.result c.requires c.loop-entry-test.true)
+    rw c.entry-item.is (AllPass-from_list_all g.L.Line.fits c.args.entries.now c.requires c.loop-entry.entry-index c.entry-item.result c.loop-entry-test.true)
 
 pub loop-entry-preserved : goal.loop-entry-preserved
 loop-entry-preserved g c =

@@ -1,8 +1,8 @@
 use Rattle.std.proofs.Common.{pos, get_or, refl, sym, arith}
 use Rattle.std.proofs.lemmas.List.{append-nil}
+use Rattle.std.proofs.lemmas.List.Sums.{AllPass-from_list_all}
 use Rattle.scott_types.specs.Limits.{is_natural}
 use Rattle.scott_format.specs.Canon.{number_and_space}
-use Rattle.scott_format.proofs.CanonText.{one_of}
 use Rattle.scott_format.proofs.Texts.{one_more, all_written}
 use Rattle.scott_format.proofs.lines.put_naturals.Goals as goal
 
@@ -10,7 +10,7 @@ pub loop-number-init : goal.loop-number-init
 loop-number-init c = sym (append-nil c.args.out.now.items)
 
 pub put_natural_and-requires : goal.put_natural_and-requires
-put_natural_and-requires c = one_of is_natural c.args.numbers.now c.loop-number.number-index 0 c.requires c.loop-number-test.true
+put_natural_and-requires c = AllPass-from_list_all is_natural c.args.numbers.now c.requires c.loop-number.number-index 0 c.loop-number-test.true
 
 pub loop-number-preserved : goal.loop-number-preserved
 loop-number-preserved c =
