@@ -5,7 +5,6 @@ use crate::games::game;
 use scott_actions::{Ran, perform};
 use scott_types::{Db, State, Style};
 use std::process::Abort;
-use std::test::Fail;
 
 const HEADER: &[u8] = b"0 1 0 0 0 1 0 0 3 -1 1 0\n0 ";
 
@@ -53,29 +52,21 @@ const ACTIONS: &[(&[u8], Ran, bool, &str)] = &[
 
 // Expects what becomes of an action in a room that was described, and what it says. It moves no
 // item.
-fn expect_done<R: Abort + AllocGlobal>(
-    rt: &R,
-    db: &Db,
-    ran: Ran,
-    redraw: bool,
-    said: &str,
-) -> Result<(), Fail> {
+fn expect_done<R: Abort + AllocGlobal>(rt: &R, db: &Db, ran: Ran, redraw: bool, said: &str) {
     let _limits = db.parts();
     let mut state = State::start(db);
     state.redraw = false;
-    let mut console = console(rt.alloc(), &[], 500)?;
+    let mut console = console(rt, &[], 500);
     let answer = perform(db, Style::plain(), &mut state, 0, b"go", &mut console);
     expect!(rt; (answer, state.redraw) == (Ok(ran), redraw), said);
     expect!(rt; state.places.as_slice() == [0, 255].as_slice(), said);
     expect!(rt; console.said() == said.as_bytes(), said);
-    Ok(())
 }
 
 #[test]
-fn actions_do_their_opcodes(rt: HostRuntime) -> Result<(), Fail> {
+fn actions_do_their_opcodes(rt: HostRuntime) {
     for (action, ran, redraw, said) in ACTIONS {
-        let db = game(rt.alloc(), &[HEADER, action, LISTS])?;
-        expect_done(&rt, &db, *ran, *redraw, said)?;
+        let db = game(&rt, &[HEADER, action, LISTS]);
+        expect_done(&rt, &db, *ran, *redraw, said);
     }
-    Ok(())
 }

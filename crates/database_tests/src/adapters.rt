@@ -7,7 +7,6 @@ use std::fmt::Display;
 use std::io;
 use std::io::{BufRead, ErrorKind, Lines, Read};
 use std::process::Abort;
-use std::test::Fail;
 
 // What was typed at a terminal, after which reading ends or fails.
 #[derive(Drop)]
@@ -169,9 +168,9 @@ const LONG_LINES: &[(usize, &[Take])] = &[
 ];
 
 #[test]
-fn a_line_of_standard_input_has_a_limit(rt: HostRuntime) -> Result<(), Fail> {
+fn a_line_of_standard_input_has_a_limit(rt: HostRuntime) {
     for (length, takes) in LONG_LINES {
-        let bytes = long_line(rt.alloc(), *length)?;
+        let bytes = long_line(rt.alloc(), *length).expect(&rt, "memory");
         let terminal = Typed {
             bytes: &bytes,
             is_broken: false,
@@ -179,5 +178,4 @@ fn a_line_of_standard_input_has_a_limit(rt: HostRuntime) -> Result<(), Fail> {
         };
         expect_session(&rt, &terminal, Ok(()), takes);
     }
-    Ok(())
 }

@@ -1,14 +1,14 @@
 //! Consoles in memory: what they keep, and in how many calls pieces are said.
 use crate::expect;
-use adv_io::{Console, ConsoleFault, Line, MemoryConsole, ScriptConsole, Taken, say_all};
+use adv_io::{Console, ConsoleFault, Line, Memory, MemoryConsole, ScriptConsole, Taken, say_all};
 use std::alloc::Global;
 use std::process::Abort;
-use std::test::Fail;
 
 /// A console without lines, which fails at the calls of these numbers.
-pub fn console(alloc: Global, failing: &[u64], room: usize) -> Result<MemoryConsole, Fail> {
-    let failing = failing.to_vec(alloc)?;
-    Ok(MemoryConsole::new(alloc, Vec::new(alloc), failing, room)?)
+pub fn console<R: Abort + AllocGlobal>(rt: &R, failing: &[u64], room: usize) -> MemoryConsole {
+    let alloc = rt.alloc();
+    let failing = failing.to_vec(alloc).expect(rt, "memory");
+    MemoryConsole::new(alloc, Vec::new(alloc), failing, room).expect(rt, "memory")
 }
 
 // What is typed, and what a line keeps of it.
@@ -51,15 +51,15 @@ pub fn expect_taken<C: Console>(
 }
 
 // A console with a line, room for eight bytes, and a third call that fails.
-fn narrow_console(alloc: Global) -> Result<MemoryConsole, Fail> {
+fn narrow_console(alloc: Global) -> Result<MemoryConsole, Memory> {
     let lines = vec![in alloc; Line::of(b"GO North")]?;
     let failing = vec![in alloc; 3]?;
-    Ok(MemoryConsole::new(alloc, lines, failing, 8)?)
+    MemoryConsole::new(alloc, lines, failing, 8)
 }
 
 #[test]
-fn a_console_in_memory_keeps_its_history(rt: HostRuntime) -> Result<(), Fail> {
-    let mut console = narrow_console(rt.alloc())?;
+fn a_console_in_memory_keeps_its_history(rt: HostRuntime) {
+    let mut console = narrow_console(rt.alloc()).expect(&rt, "memory");
     let mut line = Line::of(b"before");
     let failed = Err(ConsoleFault::Failed);
     expect_said(&rt, &mut console, b"Hi", Ok(()), b"Hi");
@@ -68,7 +68,6 @@ fn a_console_in_memory_keeps_its_history(rt: HostRuntime) -> Result<(), Fail> {
     expect_said(&rt, &mut console, b" you, abc", failed, b"Hi you, ");
     expect_taken(&rt, &mut console, &mut line, Ok(Taken::End), b"go north");
     expect!(rt; console.mark(0) == Some(2));
-    Ok(())
 }
 
 // What taking a line answers, the line that is then lent, and how many lines are left.
@@ -99,13 +98,12 @@ const IN_ORDER: &[(&[&[u8]], Result<(), ConsoleFault>)] = &[
 ];
 
 #[test]
-fn pieces_are_said_in_order(rt: HostRuntime) -> Result<(), Fail> {
-    let mut console = console(rt.alloc(), &[2], 10)?;
+fn pieces_are_said_in_order(rt: HostRuntime) {
+    let mut console = console(&rt, &[2], 10);
     for (pieces, answer) in IN_ORDER {
         expect!(rt; say_all(&mut console, pieces) == *answer);
     }
     expect!(rt; console.said() == b"abcefghijk".as_slice());
-    Ok(())
 }
 
 const LONG: &[u8] = &[b'x'; 1000];
@@ -132,10 +130,9 @@ fn expect_said_before(rt: &impl Abort, console: &mut MemoryConsole, pieces: &[&[
 }
 
 #[test]
-fn pieces_are_said_in_as_few_calls_as_may_be(rt: HostRuntime) -> Result<(), Fail> {
+fn pieces_are_said_in_as_few_calls_as_may_be(rt: HostRuntime) {
     for (pieces, failing, size) in BEFORE {
-        let mut console = console(rt.alloc(), &[*failing], 10_000)?;
+        let mut console = console(&rt, &[*failing], 10_000);
         expect_said_before(&rt, &mut console, pieces, *size);
     }
-    Ok(())
 }

@@ -2,7 +2,6 @@
 use crate::expect;
 use adv_draws::{DrawFault, Draws};
 use std::process::Abort;
-use std::test::Fail;
 
 // Takes all that is expected, in order.
 fn expect_draws(rt: &impl Abort, draws: &mut Draws, wanted: &[u8]) {
@@ -26,13 +25,12 @@ const LISTED: &[(&[u8], &[u8])] = &[
 ];
 
 #[test]
-fn texts_list_draws(rt: HostRuntime) -> Result<(), Fail> {
+fn texts_list_draws(rt: HostRuntime) {
     for (text, wanted) in LISTED {
-        let mut draws = Draws::listed(rt.alloc(), text)?;
+        let mut draws = Draws::listed(rt.alloc(), text).expect(&rt, "draws");
         expect_draws(&rt, &mut draws, wanted);
         expect!(rt; (draws.next(), draws.taken()) == (None, wanted.len() as u64));
     }
-    Ok(())
 }
 
 // Texts that list no draws, and where the first run of bytes begins that is none.

@@ -1,11 +1,9 @@
 //! Texts of databases that are read and written back, and those that are refused.
 use crate::expect;
-use crate::games::{game, joined};
-use scott_format::{Field, FormatFault, read_db, write_db};
+use crate::games::{game, joined, read};
+use scott_format::{Field, FormatFault, write_db};
 use scott_types::{Action, Header, Item, Parts};
-use std::alloc::Global;
 use std::process::Abort;
-use std::test::Fail;
 
 const HEADER: &[u8] = b"0 0 0 6 2 5 1 0 3 -1 0 0\n";
 
@@ -37,30 +35,19 @@ const TEXTS: &[(&[u8], &[u8], &[u8])] = &[
     (b"  \"Rug\"\r\n-1 ", END, b"\"Rug\" 255\n"),
 ];
 
-// A game with these parts, read and written back.
-fn rewritten(alloc: Global, item: &[u8], end: &[u8]) -> Result<Vec<u8>, Fail> {
-    let db = game(alloc, &[HEADER, ACTION, LISTS, item, end])?;
-    Ok(write_db(alloc, &db)?)
-}
-
 // Expects that a game of these parts is read, and written back with this item.
-fn expect_written<R: Abort + AllocGlobal>(
-    rt: &R,
-    item: &[u8],
-    end: &[u8],
-    written: &[u8],
-) -> Result<(), Fail> {
-    let text = joined(rt.alloc(), &[HEADER, ACTION, LISTS, written, END])?;
-    expect!(rt; rewritten(rt.alloc(), item, end)?.as_slice() == text.as_slice());
-    Ok(())
+fn expect_written<R: Abort + AllocGlobal>(rt: &R, item: &[u8], end: &[u8], written: &[u8]) {
+    let db = game(rt, &[HEADER, ACTION, LISTS, item, end]);
+    let text = write_db(rt.alloc(), &db).expect(rt, "memory");
+    let want = joined(rt, &[HEADER, ACTION, LISTS, written, END]);
+    expect!(rt; text.as_slice() == want.as_slice());
 }
 
 #[test]
-fn texts_are_read_and_written_back(rt: HostRuntime) -> Result<(), Fail> {
+fn texts_are_read_and_written_back(rt: HostRuntime) {
     for (item, end, written) in TEXTS {
-        expect_written(&rt, item, end, written)?;
+        expect_written(&rt, item, end, written);
     }
-    Ok(())
 }
 
 fn expect_numbers(rt: &impl Abort, numbers: &Header) {
@@ -96,12 +83,11 @@ fn expect_parts(rt: &impl Abort, parts: &Parts) {
 }
 
 #[test]
-fn parts_are_in_their_places(rt: HostRuntime) -> Result<(), Fail> {
+fn parts_are_in_their_places(rt: HostRuntime) {
     let header = b"-7 0 0 6 2 -5 1 +13 20 125 0 77\n151 1 2 3 4 5 6 7\n".as_slice();
     let rest = b"\"a\"\"b`\" 259 \"\"\n1 2 3 4".as_slice();
-    let db = game(rt.alloc(), &[header, LISTS, rest])?;
+    let db = game(&rt, &[header, LISTS, rest]);
     expect_parts(&rt, db.parts());
-    Ok(())
 }
 
 // A header, an action line, the end of a game, and the first fault of the game that they make.
@@ -178,18 +164,11 @@ const REFUSED: &[(&[u8], &[u8], &[u8], FormatFault)] = &[
     (HEADER, ACTION, b"\"", FormatFault::OpenString(198)),
 ];
 
-// Expects that a text is refused, for this fault.
-fn expect_refused<R: Abort + AllocGlobal>(rt: &R, bytes: &[u8], fault: FormatFault) {
-    expect!(rt; bytes.len() <= 1048576);
-    expect!(rt; read_db(rt.alloc(), bytes).err() == Some(fault));
-}
-
 #[test]
-fn parts_are_refused(rt: HostRuntime) -> Result<(), Fail> {
+fn parts_are_refused(rt: HostRuntime) {
     for (header, action, end, fault) in REFUSED {
-        let bytes = joined(rt.alloc(), &[header, action, LISTS, ITEM, end])?;
-        expect_refused(&rt, &bytes, *fault);
+        let game = read(&rt, &[header, action, LISTS, ITEM, end]);
+        expect!(rt; game.err() == Some(*fault));
     }
-    expect_refused(&rt, b"", FormatFault::NoNumber(0));
-    Ok(())
+    expect!(rt; read(&rt, &[]).err() == Some(FormatFault::NoNumber(0)));
 }

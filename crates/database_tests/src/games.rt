@@ -1,23 +1,22 @@
 //! Games for the tests, read from the text of their files.
-use scott_format::{DATABASE_LIMIT, read_db};
+use crate::expect;
+use scott_format::{DATABASE_LIMIT, FormatFault, read_db};
 use scott_types::Db;
-use std::alloc::{AllocError, Global};
-use std::test::Fail;
+use std::process::Abort;
 
 /// These pieces, one after another.
-pub fn joined(alloc: Global, pieces: &[&[u8]]) -> Result<Vec<u8>, AllocError> {
-    let mut text = Vec::new(alloc);
-    for piece in pieces {
-        text.extend_from_slice(piece)?;
-    }
-    Ok(text)
+pub fn joined<R: Abort + AllocGlobal>(rt: &R, pieces: &[&[u8]]) -> Vec<u8> {
+    pieces.concat(rt.alloc()).expect(rt, "memory")
+}
+
+/// The game whose file has these pieces, one after another, or why it is none.
+pub fn read<R: Abort + AllocGlobal>(rt: &R, pieces: &[&[u8]]) -> Result<Db, FormatFault> {
+    let text = joined(rt, pieces);
+    expect!(rt; text.len() <= DATABASE_LIMIT);
+    read_db(rt.alloc(), &text)
 }
 
 /// The game whose file has these pieces, one after another.
-pub fn game(alloc: Global, pieces: &[&[u8]]) -> Result<Db, Fail> {
-    let text = joined(alloc, pieces)?;
-    if text.len() > DATABASE_LIMIT {
-        return Err(Fail::from("the limit"));
-    }
-    Ok(read_db(alloc, &text)?)
+pub fn game<R: Abort + AllocGlobal>(rt: &R, pieces: &[&[u8]]) -> Db {
+    read(rt, pieces).expect(rt, "a game")
 }

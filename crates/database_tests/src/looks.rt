@@ -10,7 +10,6 @@ use scott_light::{count_light, inventory, look, look_after, score};
 use scott_types::{Db, State, Style};
 use std::alloc::{AllocError, Global};
 use std::process::Abort;
-use std::test::Fail;
 
 // A hall with a cave to the south.
 const ROOMS: &[u8] = b" 0 0 0 0 0 0 0 0 \"AUT\" \"ANY\"
@@ -28,9 +27,9 @@ const ITEMS: &[u8] = b"\"*Gold bar*/GOLD/\" 1 \"Pin\" 255 \"Bug\" 255
 const TRAILER: &[u8] = b"\"\" 1 1 0";
 
 // The game, with how long the light lasts and the treasure room.
-fn hall(alloc: Global, light: &[u8], home: &[u8]) -> Result<Db, Fail> {
+fn hall<R: Abort + AllocGlobal>(rt: &R, light: &[u8], home: &[u8]) -> Db {
     let header = b"0 9 0 0 2 5 1 1 3 ".as_slice();
-    game(alloc, &[header, light, b" 0 ", home, ROOMS, ITEMS, TRAILER])
+    game(rt, &[header, light, b" 0 ", home, ROOMS, ITEMS, TRAILER])
 }
 
 // Expects what was said.
@@ -65,13 +64,13 @@ fn tell(
 ) -> Result<bool, ConsoleFault>
     requires { Fits db.now state.now }
 {
-    match asked {
-        Asked::Look => look(db, style, state, console)?,
-        Asked::LookAfter(text) => look_after(text, db, style, state, console)?,
-        Asked::Inventory => inventory(db, style, state, console)?,
+    let answer = match asked {
+        Asked::Look => look(db, style, state, console),
+        Asked::LookAfter(text) => look_after(text, db, style, state, console),
+        Asked::Inventory => inventory(db, style, state, console),
         Asked::Score => return score(db, style, state, console),
-    }
-    Ok(false)
+    };
+    answer.and(Ok(false))
 }
 
 const PLAIN: Style = Style {
@@ -88,7 +87,9 @@ const YOU: Style = Style {
 
 // What is asked for, in which style, the treasure room, the room and whether it is dark, whether
 // the game ends, and what is said.
-const TOLD: &[(Asked, Style, &[u8], (u8, bool), bool, &str)] = &[
+type Told = (Asked, Style, &'static [u8], (u8, bool), bool, &'static str);
+
+const TOLD: &[Told] = &[
     (
         Asked::Look,
         PLAIN,
@@ -180,31 +181,22 @@ const TOLD: &[(Asked, Style, &[u8], (u8, bool), bool, &str)] = &[
     ),
 ];
 
-// Expects what is said in a state, and whether that ends the game.
-fn expect_told<R: Abort + AllocGlobal>(
-    rt: &R,
-    asked: Asked,
-    style: Style,
-    db: &Db,
-    place: (u8, bool),
-    over: bool,
-    said: &str,
-) -> Result<(), Fail> {
-    let state = standing(db, place.0, place.1);
-    let mut console = console(rt.alloc(), &[], 500)?;
+// Expects what is said in a game, and whether that ends it.
+fn expect_told<R: Abort + AllocGlobal>(rt: &R, db: &Db, told: &Told) {
+    let (asked, style, _, (room, dark), over, said) = *told;
+    let mut console = console(rt, &[], 500);
+    let state = standing(db, room, dark);
     expect!(rt; state.fits(db), said);
     expect!(rt; tell(asked, db, style, &state, &mut console) == Ok(over), said);
     expect_said(rt, &console, said);
-    Ok(())
 }
 
 #[test]
-fn players_are_told_what_they_ask_for(rt: HostRuntime) -> Result<(), Fail> {
-    for (asked, style, home, place, over, said) in TOLD {
-        let db = hall(rt.alloc(), b"-1", home)?;
-        expect_told(&rt, *asked, *style, &db, *place, *over, said)?;
+fn players_are_told_what_they_ask_for(rt: HostRuntime) {
+    for told in TOLD {
+        let db = hall(&rt, b"-1", told.2);
+        expect_told(&rt, &db, told);
     }
-    Ok(())
 }
 
 // A text that is said alone.
@@ -220,31 +212,39 @@ fn add_thing(bytes: &mut Vec<u8>, number: u8) -> Result<(), AllocError> {
     }
 }
 
-// A game with so many things in the hall.
-fn crowded(alloc: Global, count: u8) -> Result<Db, Fail> {
-    let mut items = Vec::new(alloc);
+// So many things, with a text before the first, between two of them, and after the last.
+fn things(
+    alloc: Global,
+    count: u8,
+    before: &[u8],
+    between: &[u8],
+    after: &[u8],
+) -> Result<Vec<u8>, AllocError> {
+    let mut bytes = before.to_vec(alloc)?;
     for number in 0..count {
-        items.extend_from_slice(b"\"")?;
-        add_thing(&mut items, number)?;
-        items.extend_from_slice(b"/THI/\" 1\n")?;
+        if number > 0 {
+            bytes.extend_from_slice(between)?;
+        }
+        add_thing(&mut bytes, number)?;
     }
+    bytes.extend_from_slice(after)?;
+    Ok(bytes)
+}
+
+// A game with so many things in the hall.
+fn crowded<R: Abort + AllocGlobal>(rt: &R, count: u8) -> Db {
+    let items = things(rt.alloc(), count, b"\"", b"/THI/\" 1\n\"", b"/THI/\" 1\n");
+    let items = items.expect(rt, "memory");
     let mut highest = Buffer::new();
     let highest = highest.format(count.saturating_sub(1)).as_bytes();
     let rest = b" 0 0 2 5 1 0 3 -1 0 0".as_slice();
-    game(alloc, &[b"0 ", highest, rest, ROOMS, &items, TRAILER])
+    game(rt, &[b"0 ", highest, rest, ROOMS, &items, TRAILER])
 }
 
 // What a look at them says.
 fn things_seen(alloc: Global, count: u8) -> Result<Vec<u8>, AllocError> {
-    let mut bytes = b"I'm in a hall\nObvious exits: South, Up.\n\nI can also see: ".to_vec(alloc)?;
-    for number in 0..count {
-        if number > 0 {
-            bytes.extend_from_slice(b" - ")?;
-        }
-        add_thing(&mut bytes, number)?;
-    }
-    bytes.push(b'\n')?;
-    Ok(bytes)
+    let hall = b"I'm in a hall\nObvious exits: South, Up.\n\nI can also see: ";
+    things(alloc, count, hall, b" - ", b"\n")
 }
 
 // How many things there are, the calls of the console that fail, and what a look answers.
@@ -264,21 +264,19 @@ fn expect_seen<R: Abort + AllocGlobal>(
     count: u8,
     failing: &[u64],
     answer: Result<(), ConsoleFault>,
-) -> Result<(), Fail> {
-    let mut console = console(rt.alloc(), failing, 20_000)?;
+) {
+    let mut console = console(rt, failing, 20_000);
     expect!(rt; look(db, PLAIN, &State::start(db), &mut console) == answer);
-    let seen = things_seen(rt.alloc(), count)?;
+    let seen = things_seen(rt.alloc(), count).expect(rt, "memory");
     expect!(rt; answer.is_err() || console.said() == seen.as_slice());
-    Ok(())
 }
 
 #[test]
-fn all_items_of_a_room_are_said(rt: HostRuntime) -> Result<(), Fail> {
+fn all_items_of_a_room_are_said(rt: HostRuntime) {
     for (count, failing, answer) in CROWDS {
-        let db = crowded(rt.alloc(), *count)?;
-        expect_seen(&rt, &db, *count, failing, *answer)?;
+        let db = crowded(&rt, *count);
+        expect_seen(&rt, &db, *count, failing, *answer);
     }
-    Ok(())
 }
 
 const COUNTED: Style = Style {
@@ -295,7 +293,9 @@ const VANISHING: Style = Style {
 
 // How long the light lasts before a turn, and in which style; how long after it, whether it is out
 // and where the lamp is then, and what is said.
-const LIGHTS: &[(&[u8], Style, (i32, bool, u8), &str)] = &[
+type Burnt = (&'static [u8], Style, (i32, bool, u8), &'static str);
+
+const LIGHTS: &[Burnt] = &[
     (b"-1", PLAIN, (-1, false, 1), ""),
     (b"26", PLAIN, (25, false, 1), ""),
     (b"21", PLAIN, (20, false, 1), "Your light is growing dim. "),
@@ -324,28 +324,21 @@ const LIGHTS: &[(&[u8], Style, (i32, bool, u8), &str)] = &[
 ];
 
 // Expects what becomes of the light and the lamp in a turn, and what is said.
-fn expect_burnt<R: Abort + AllocGlobal>(
-    rt: &R,
-    db: &Db,
-    style: Style,
-    left: (i32, bool, u8),
-    said: &str,
-) -> Result<(), Fail> {
+fn expect_burnt<R: Abort + AllocGlobal>(rt: &R, db: &Db, burnt: &Burnt) {
+    let (_, style, left, said) = *burnt;
+    let mut console = console(rt, &[], 500);
     let mut state = State::start(db);
     state.redraw = false;
-    let mut console = console(rt.alloc(), &[], 500)?;
     expect!(rt; count_light(db, style, &mut state, &mut console) == Ok(()), said);
     expect_said(rt, &console, said);
     expect!(rt; (state.light, state.flags[16], state.place(9)) == left, said);
     expect!(rt; !state.redraw, said);
-    Ok(())
 }
 
 #[test]
-fn light_burns_down_and_is_counted(rt: HostRuntime) -> Result<(), Fail> {
-    for (light, style, left, said) in LIGHTS {
-        let db = hall(rt.alloc(), light, b"0")?;
-        expect_burnt(&rt, &db, *style, *left, said)?;
+fn light_burns_down_and_is_counted(rt: HostRuntime) {
+    for burnt in LIGHTS {
+        let db = hall(&rt, burnt.0, b"0");
+        expect_burnt(&rt, &db, burnt);
     }
-    Ok(())
 }

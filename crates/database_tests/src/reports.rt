@@ -2,7 +2,6 @@
 use crate::expect;
 use crate::games::game;
 use adv_check::{Part, Warning, What, report, warnings};
-use std::test::Fail;
 
 // Every exit, item place, condition and opcode of the first is as it should be, but one drop.
 const DROP: &[u8] = b"0 0 0 6 2 5 1 0 3 -1 0 0
@@ -20,18 +19,19 @@ const FAULTS: &[u8] = b"0 1 2 0 1 5 1 0 3 -1 0 0
 0 1 2 -1 0 0 \"\" 0 0 0 0 0 0 \"\"
 \"\" \"\" 2 \"\" 255 \"\" \"\" \"\" 416 1 0";
 
+const WARNING: Warning = Warning {
+    part: Part::Opcode,
+    index: 0,
+    place: 1,
+    what: What::NoParameter,
+    value: 0,
+};
+
 #[test]
-fn drop_without_a_parameter(rt: HostRuntime) -> Result<(), Fail> {
-    let warning = Warning {
-        part: Part::Opcode,
-        index: 0,
-        place: 1,
-        what: What::NoParameter,
-        value: 0,
-    };
-    let found = warnings(rt.alloc(), &game(rt.alloc(), &[DROP])?)?;
-    expect!(rt; found.as_slice() == [warning].as_slice());
-    Ok(())
+fn drop_without_a_parameter(rt: HostRuntime) {
+    let db = game(&rt, &[DROP]);
+    let found = warnings(rt.alloc(), &db).expect(&rt, "memory");
+    expect!(rt; found.as_slice() == [WARNING].as_slice());
 }
 
 // Games, and the report on each.
@@ -67,10 +67,10 @@ const REPORTS: &[(&[u8], &[u8])] = &[
 ];
 
 #[test]
-fn each_fault_is_named(rt: HostRuntime) -> Result<(), Fail> {
+fn each_fault_is_named(rt: HostRuntime) {
     for (text, said) in REPORTS {
-        let found = report(rt.alloc(), &game(rt.alloc(), &[text])?)?;
+        let db = game(&rt, &[text]);
+        let found = report(rt.alloc(), &db).expect(&rt, "memory");
         expect!(rt; found.as_slice() == *said);
     }
-    Ok(())
 }

@@ -2,9 +2,7 @@
 use crate::expect;
 use scott_requests::{DrawSource, Request, request_in};
 use scott_types::Style;
-use std::alloc::Global;
 use std::process::Abort;
-use std::test::Fail;
 
 const PLAIN: Style = Style {
     you: false,
@@ -34,7 +32,9 @@ macro_rules! played {
 }
 
 // Words, and the request that they are.
-const WORDS: &[(&str, Option<Request<'static>>)] = &[
+type Asked = (&'static str, Option<Request<'static>>);
+
+const WORDS: &[Asked] = &[
     ("check t.dat", Some(Request::Check("t.dat"))),
     ("play t.dat", Some(SEEDED)),
     ("play t.dat seed=0001", Some(SEEDED)),
@@ -73,30 +73,26 @@ const WORDS: &[(&str, Option<Request<'static>>)] = &[
 ];
 
 // The words of a command, which blanks part.
-fn words_of(alloc: Global, command: &str) -> Result<Vec<String>, Fail> {
-    let mut words = Vec::new(alloc);
+fn words_of<R: Abort + AllocGlobal>(rt: &R, command: &str) -> Vec<String> {
+    let mut words = Vec::new(rt.alloc());
     for word in command.split(' ') {
-        words.push(String::from_str(alloc, word)?)?;
+        let word = String::from_str(rt.alloc(), word).expect(rt, "memory");
+        words.push(word).expect(rt, "memory");
     }
-    Ok(words)
+    words
 }
 
 // Expects what the words of a command ask for.
-fn expect_asked<R: Abort + AllocGlobal>(
-    rt: &R,
-    command: &str,
-    wanted: Option<Request<'_>>,
-) -> Result<(), Fail> {
-    let words = words_of(rt.alloc(), command)?;
-    expect!(rt; request_in(&words) == wanted, command);
-    Ok(())
+fn expect_asked<R: Abort + AllocGlobal>(rt: &R, asked: &Asked) {
+    let (command, wanted) = asked;
+    let words = words_of(rt, command);
+    expect!(rt; request_in(&words) == *wanted, command);
 }
 
 #[test]
-fn words_are_requests(rt: HostRuntime) -> Result<(), Fail> {
-    for (command, wanted) in WORDS {
-        expect_asked(&rt, command, *wanted)?;
+fn words_are_requests(rt: HostRuntime) {
+    expect!(rt; request_in(&[]).is_none());
+    for asked in WORDS {
+        expect_asked(&rt, asked);
     }
-    expect!(rt; request_in(&[]) == None);
-    Ok(())
 }

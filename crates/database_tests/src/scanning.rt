@@ -1,9 +1,10 @@
 //! Numbers and strings at the ends of their ranges, with ample memory.
+use crate::answers::are_bytes;
 use crate::expect;
+use crate::games::joined;
 use adv_text::{Memory, Scan, TextFault, put_integer, put_number, put_quoted};
 use std::alloc::Global;
 use std::process::Abort;
-use std::test::Fail;
 
 // Texts, the number that each begins with or the fault, and the place after it.
 const NUMBERS: &[(&[u8], Result<i32, TextFault>, usize)] = &[
@@ -65,14 +66,6 @@ const STRINGS: &[(
     ),
 ];
 
-// Whether a string that was read is this.
-fn is_read(read: Result<Vec<u8>, TextFault>, want: Result<&[u8], TextFault>) -> bool {
-    match read {
-        Ok(text) => Ok(text.as_slice()) == want,
-        Err(fault) => Err(fault) == want,
-    }
-}
-
 // Expects a string or a fault, the place after it, and the number there.
 fn expect_string<R: Abort + AllocGlobal>(
     rt: &R,
@@ -82,7 +75,7 @@ fn expect_string<R: Abort + AllocGlobal>(
     number: Result<i32, TextFault>,
 ) {
     let mut scan = Scan::new(bytes);
-    expect!(rt; is_read(scan.quoted(rt.alloc()), text));
+    expect!(rt; are_bytes(scan.quoted(rt.alloc()), text));
     expect!(rt; (scan.at(), scan.number()) == (at, number));
 }
 
@@ -93,41 +86,33 @@ fn strings_are_read_or_refused(rt: HostRuntime) {
     }
 }
 
-// A string of so many bytes `x`.
-fn long_string(alloc: Global, length: u16) -> Result<Vec<u8>, TextFault> {
-    let mut bytes = Vec::new(alloc);
-    bytes.push(b'"')?;
-    for _ in 0..length {
-        bytes.push(b'x')?;
-    }
-    bytes.push(b'"')?;
-    Ok(bytes)
-}
+// The longest string that is read, and a longer one.
+const LONGEST: &[u8] = &[b'x'; 4096];
 
-// How long the string of so many bytes is that is read.
-fn length_read(alloc: Global, length: u16) -> Result<usize, TextFault> {
-    let bytes = long_string(alloc, length)?;
-    Ok(Scan::new(&bytes).quoted(alloc)?.len())
+const LONGER: &[u8] = &[b'x'; 4097];
+
+// How long the string of these bytes is that is read.
+fn length_read<R: Abort + AllocGlobal>(rt: &R, bytes: &[u8]) -> Result<usize, TextFault> {
+    let text = joined(rt, &[b"\"", bytes, b"\""]);
+    Ok(Scan::new(&text).quoted(rt.alloc())?.len())
 }
 
 #[test]
 fn strings_end_at_the_limit(rt: HostRuntime) {
-    expect!(rt; length_read(rt.alloc(), 4096) == Ok(4096));
-    expect!(rt; length_read(rt.alloc(), 4097) == Err(TextFault::LongString(0)));
+    expect!(rt; length_read(&rt, LONGEST) == Ok(4096));
+    expect!(rt; length_read(&rt, LONGER) == Err(TextFault::LongString(0)));
 }
 
-fn written(alloc: Global) -> Result<Vec<u8>, Memory> {
-    let mut out = Vec::new(alloc);
-    put_number(alloc, &mut out, -2147483648)?;
-    put_quoted(alloc, &mut out, b"a\"b")?;
-    put_number(alloc, &mut out, 0)?;
-    put_integer(alloc, &mut out, i64::MIN)?;
-    Ok(out)
+fn write(alloc: Global, out: &mut Vec<u8>) -> Result<(), Memory> {
+    put_number(alloc, out, -2147483648)?;
+    put_quoted(alloc, out, b"a\"b")?;
+    put_number(alloc, out, 0)?;
+    put_integer(alloc, out, i64::MIN)
 }
 
 #[test]
-fn written_texts(rt: HostRuntime) -> Result<(), Fail> {
-    let out = written(rt.alloc())?;
+fn written_texts(rt: HostRuntime) {
+    let mut out = Vec::new(rt.alloc());
+    expect!(rt; write(rt.alloc(), &mut out) == Ok(()));
     expect!(rt; out.as_slice() == b"-2147483648\"a\"\"b\"0-9223372036854775808".as_slice());
-    Ok(())
 }

@@ -1,18 +1,10 @@
 //! Shelves in memory and on a disk: what they keep, and how they fail.
+use crate::answers::are_bytes;
 use crate::expect;
 use adv_io::{DiskShelf, MemoryShelf, Shelf, ShelfFault};
 use std::alloc::Global;
 use std::fs;
 use std::process::Abort;
-use std::test::Fail;
-
-// Whether what was loaded is this.
-fn is_loaded(loaded: Result<Vec<u8>, ShelfFault>, want: Result<&[u8], ShelfFault>) -> bool {
-    match loaded {
-        Ok(bytes) => Ok(bytes.as_slice()) == want,
-        Err(fault) => Err(fault) == want,
-    }
-}
 
 // What is done with a file, and what that answers: bytes are stored, or at most so many are loaded.
 enum Step {
@@ -25,7 +17,7 @@ fn expect_step<S: Shelf>(rt: &impl Abort, alloc: Global, shelf: &mut S, name: &s
     match step {
         Step::Store(bytes, want) => expect!(rt; shelf.store(alloc, name, bytes) == *want, name),
         Step::Load(limit, want) => {
-            expect!(rt; is_loaded(shelf.load(alloc, name, *limit), *want), name)
+            expect!(rt; are_bytes(shelf.load(alloc, name, *limit), *want), name)
         }
     }
 }
@@ -71,9 +63,8 @@ const ON_DISK: &[(&str, Step)] = &[
 ];
 
 #[test]
-fn a_shelf_of_real_files_stores_and_loads(rt: HostRuntime) -> Result<(), Fail> {
+fn a_shelf_of_real_files_stores_and_loads(rt: HostRuntime) {
     let _ = fs::remove_file(&rt, NAME);
     expect_steps(&rt, rt.alloc(), &mut DiskShelf::new(&rt), ON_DISK);
-    fs::remove_file(&rt, NAME)?;
-    Ok(())
+    expect!(rt; fs::remove_file(&rt, NAME).is_ok());
 }

@@ -1,7 +1,7 @@
 //! Each public call on words, with a vocabulary made by hand.
 use crate::expect;
 use crate::games::game;
-use adv_io::Line;
+use adv_io::{Line, Memory};
 use scott_index::WordIndex;
 use scott_types::Db;
 use scott_vocab::{
@@ -10,7 +10,6 @@ use scott_vocab::{
 };
 use std::alloc::Global;
 use std::process::Abort;
-use std::test::Fail;
 
 // The verbs and the nouns, in the order of their numbers. Three bytes of a word count.
 const WORDS: &[u8] = b"
@@ -29,20 +28,22 @@ const WORDS: &[u8] = b"
 ";
 
 // A game with these words, and one entry in each other list.
-fn worded(alloc: Global) -> Result<Db, Fail> {
+fn worded<R: Abort + AllocGlobal>(rt: &R) -> Db {
     let header = b"0 0 0 11 0 5 0 0 3 -1 0 0 0 0 0 0 0 0 0 0".as_slice();
     let rest = b"0 0 0 0 0 0 \"cell\" \"\" \"Lamp/LAMP/\" 0 \"\" 1 1 1".as_slice();
-    game(alloc, &[header, WORDS, rest])
+    game(rt, &[header, WORDS, rest])
 }
 
 // What a word names by an index of its column.
-fn looked_up(alloc: Global, db: &Db, column: Column, word: &str) -> Result<Option<u16>, Fail> {
+fn looked_up(alloc: Global, db: &Db, column: Column, word: &[u8]) -> Result<Option<u16>, Memory> {
     let index = WordIndex::of(alloc, db, column)?;
-    Ok(index.find(word.as_bytes()))
+    Ok(index.find(word))
 }
 
 // A column, a word, and the base entry that it names.
-const NAMED: &[(Column, &str, Option<u16>)] = &[
+type Named = (Column, &'static str, Option<u16>);
+
+const NAMED: &[Named] = &[
     (Column::Verbs, "go", Some(2)),
     (Column::Verbs, "WALKING", Some(2)),
     (Column::Verbs, "auto", None),
@@ -65,79 +66,71 @@ fn expect_number(rt: &impl Abort, found: Option<u16>, want: Option<u16>, word: &
 }
 
 // A database finds the entry of a word, as a vocabulary too, and so does an index of the column.
-fn expect_named<R: Abort + AllocGlobal>(
-    rt: &R,
-    db: &Db,
-    column: Column,
-    word: &str,
-    entry: Option<u16>,
-) -> Result<(), Fail> {
-    expect_number(rt, which(db, column, word.as_bytes()), entry, word);
-    expect_number(rt, db.named(column, word.as_bytes()), entry, word);
-    expect_number(rt, looked_up(rt.alloc(), db, column, word)?, entry, word);
-    Ok(())
+fn expect_named<R: Abort + AllocGlobal>(rt: &R, db: &Db, named: &Named) {
+    let (column, name, entry) = *named;
+    let word = name.as_bytes();
+    expect_number(rt, which(db, column, word), entry, name);
+    expect_number(rt, db.named(column, word), entry, name);
+    expect!(rt; looked_up(rt.alloc(), db, column, word) == Ok(entry), name);
 }
 
 #[test]
-fn words_name_base_entries(rt: HostRuntime) -> Result<(), Fail> {
-    let db = worded(rt.alloc())?;
-    for (column, word, entry) in NAMED {
-        expect_named(&rt, &db, *column, word, *entry)?;
+fn words_name_base_entries(rt: HostRuntime) {
+    let db = worded(&rt);
+    for named in NAMED {
+        expect_named(&rt, &db, named);
     }
-    Ok(())
 }
 
-// An index of words of four letters, to which these are added with their numbers.
-fn numbered(alloc: Global) -> Result<WordIndex, Fail> {
-    let mut index = WordIndex::empty(alloc, 4, 2)?;
+// Adds words to an index, with their numbers.
+fn add_lamps(alloc: Global, index: &mut WordIndex) -> Result<(), Memory> {
     index.add(alloc, b"Lamp", 7)?;
     index.add(alloc, b"lamps", 8)?;
-    index.add(alloc, b"", 9)?;
-    Ok(index)
+    index.add(alloc, b"", 9)
 }
 
+// Four letters of a word count.
 #[test]
-fn first_number_of_a_word_stays(rt: HostRuntime) -> Result<(), Fail> {
-    let index = numbered(rt.alloc())?;
+fn first_number_of_a_word_stays(rt: HostRuntime) {
+    let mut index = WordIndex::empty(rt.alloc(), 4, 2).expect(&rt, "memory");
+    expect!(rt; add_lamps(rt.alloc(), &mut index) == Ok(()));
     expect_number(&rt, index.find(b"LAMPS"), Some(7), "LAMPS");
     expect_number(&rt, index.find(b"lam"), None, "lam");
     expect_number(&rt, index.find(b""), None, "no letter");
-    Ok(())
 }
 
 fn expect_text(rt: &impl Abort, text: &[u8], want: &str) {
     expect!(rt; text == want.as_bytes(), want);
 }
 
-fn expect_entry(rt: &impl Abort, entry: &Entry<'_>, word: &str, base: Option<u16>) {
+fn expect_entry(rt: &impl Abort, entry: Entry<'_>, word: &str, base: Option<u16>) {
     expect_text(rt, entry.word, word);
     expect_number(rt, entry.base, base, word);
 }
 
-#[test]
-fn entries_stand_for_base_ones_and_have_texts(rt: HostRuntime) -> Result<(), Fail> {
-    let db = worded(rt.alloc())?;
+fn expect_entries(rt: &impl Abort, db: &Db) {
     expect!(rt; db.words().len() == 12);
-    expect_entry(&rt, &entry_at(&db, Column::Verbs, 1, None), "RUN", None);
-    expect_entry(
-        &rt,
-        &entry_at(&db, Column::Verbs, 3, Some(2)),
-        "WALK",
-        Some(2),
-    );
-    expect_entry(
-        &rt,
-        &entry_at(&db, Column::Nouns, 7, Some(6)),
-        "LAMP",
-        Some(7),
-    );
-    expect_text(&rt, root(&db, 7), "LAMP");
-    expect_text(&rt, root(&db, 8), "*LANT");
-    Ok(())
+    expect_entry(rt, entry_at(db, Column::Verbs, 1, None), "RUN", None);
+    expect_entry(rt, entry_at(db, Column::Verbs, 3, Some(2)), "WALK", Some(2));
+    expect_entry(rt, entry_at(db, Column::Nouns, 7, Some(6)), "LAMP", Some(7));
+    expect_text(rt, root(db, 7), "LAMP");
+    expect_text(rt, root(db, 8), "*LANT");
+}
+
+#[test]
+fn entries_stand_for_base_ones_and_have_texts(rt: HostRuntime) {
+    expect_entries(&rt, &worded(&rt));
 }
 
 // A line, where its two words begin and how long they are, and the text of the noun.
-const LINES: &[(&str, Option<(u8, u8)>, Option<(u8, u8)>, &str)] = &[
+type Split = (
+    &'static str,
+    Option<(u8, u8)>,
+    Option<(u8, u8)>,
+    &'static str,
+);
+
+const LINES: &[Split] = &[
     ("", None, None, ""),
     ("  ", None, None, ""),
     ("n", Some((0, 1)), None, ""),
@@ -146,13 +139,8 @@ const LINES: &[(&str, Option<(u8, u8)>, Option<(u8, u8)>, &str)] = &[
 ];
 
 // A line is split into these words, of which the second is the noun.
-fn expect_split(
-    rt: &impl Abort,
-    typed: &str,
-    first: Option<(u8, u8)>,
-    second: Option<(u8, u8)>,
-    noun: &str,
-) {
+fn expect_split(rt: &impl Abort, row: &Split) {
+    let (typed, first, second, noun) = *row;
     let line = Line::of(typed.as_bytes());
     let words = split(&line);
     expect!(rt; (words.first, words.second) == (first, second), typed);
@@ -164,8 +152,8 @@ fn expect_split(
 
 #[test]
 fn lines_split_into_words(rt: HostRuntime) {
-    for (typed, first, second, noun) in LINES {
-        expect_split(&rt, typed, *first, *second, noun);
+    for row in LINES {
+        expect_split(&rt, row);
     }
 }
 
@@ -185,13 +173,12 @@ const COMMANDS: &[(&str, Heard)] = &[
 ];
 
 #[test]
-fn lines_are_commands(rt: HostRuntime) -> Result<(), Fail> {
-    let db = worded(rt.alloc())?;
+fn lines_are_commands(rt: HostRuntime) {
+    let db = worded(&rt);
     for (typed, heard) in COMMANDS {
         let line = Line::of(typed.as_bytes());
         expect!(rt; command(&db, &line) == *heard, typed);
     }
-    Ok(())
 }
 
 #[test]
