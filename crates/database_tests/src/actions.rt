@@ -2,6 +2,7 @@
 use crate::consoles::console;
 use crate::expect;
 use crate::games::game;
+use adv_io::ConsoleFault;
 use scott_actions::{Ran, perform};
 use scott_types::{Db, State, Style};
 use std::process::Abort;
@@ -12,61 +13,72 @@ const LISTS: &[u8] = b" \"AUT\" \"ANY\" 0 0 0 0 0 0 \"hall\" \"\" \"Hello\"
 \"Rug\" 0 \"Pin\" 255 \"\" 1 1 0";
 
 // An action's numbers, what becomes of it, whether the room is described next, and what is said.
-const ACTIONS: &[(&[u8], Ran, bool, &str)] = &[
-    (b"0 0 0 0 0 0 0", Ran::Passed(false), false, ""),
-    (b"0 0 0 0 0 73 150", Ran::Passed(true), false, "Hello\n"),
+type Done = (
+    &'static [u8],
+    (Result<Ran, ConsoleFault>, bool),
+    &'static str,
+);
+
+const ACTIONS: &[Done] = &[
+    (b"0 0 0 0 0 0 0", (Ok(Ran::Passed(false)), false), ""),
+    (
+        b"0 0 0 0 0 73 150",
+        (Ok(Ran::Passed(true)), false),
+        "Hello\n",
+    ),
     (
         b"655340 20 0 0 0 11932 11786",
-        Ran::Passed(false),
-        false,
+        (Ok(Ran::Passed(false)), false),
         "32767\n",
     ),
-    (b"0 0 0 0 0 12685 0", Ran::Passed(false), false, "gogo\n"),
-    (b"22 0 0 0 0 150 0", Ran::Not, false, ""),
+    (
+        b"0 0 0 0 0 12685 0",
+        (Ok(Ran::Passed(false)), false),
+        "gogo\n",
+    ),
+    (b"22 0 0 0 0 150 0", (Ok(Ran::Not), false), ""),
     (
         b"0 0 0 0 0 9971 0",
-        Ran::Passed(false),
-        false,
+        (Ok(Ran::Passed(false)), false),
         "I'm carrying:\nPin.\n[Saving is left out.]\n",
     ),
     (
         b"0 0 0 0 0 9813 150",
-        Ran::Over(1),
-        false,
+        (Ok(Ran::Over(1)), false),
         "I've stored 0 treasures.  On a scale of 0 to 100, that rates 0.\nThe game is now over.\n",
     ),
     (
         b"0 0 0 0 0 9150 0",
-        Ran::Passed(false),
-        false,
+        (Ok(Ran::Passed(false)), false),
         "I am dead.\nI'm in a hall\nObvious exits: none.\n\nI can also see: Rug\n",
     ),
     // A refused get leaves its parameter to the next opcode.
     (
         b"0 20 0 0 0 7859 0",
-        Ran::Passed(false),
-        true,
+        (Ok(Ran::Passed(false)), true),
         "I've too much to carry! ",
     ),
 ];
 
 // Expects what becomes of an action in a room that was described, and what it says. It moves no
 // item.
-fn expect_done<R: Abort + AllocGlobal>(rt: &R, db: &Db, ran: Ran, redraw: bool, said: &str) {
+fn expect_done<R: Abort + AllocGlobal>(rt: &R, db: &Db, done: &Done) {
+    let (_, becomes, said) = *done;
     let _limits = db.parts();
     let mut state = State::start(db);
     state.redraw = false;
     let mut console = console(rt, &[], 500);
     let answer = perform(db, Style::plain(), &mut state, 0, b"go", &mut console);
-    expect!(rt; (answer, state.redraw) == (Ok(ran), redraw), said);
+    expect!(rt; (answer, state.redraw) == becomes, said);
     expect!(rt; state.places.as_slice() == [0, 255].as_slice(), said);
     expect!(rt; console.said() == said.as_bytes(), said);
 }
 
 #[test]
 fn actions_do_their_opcodes(rt: HostRuntime) {
-    for (action, ran, redraw, said) in ACTIONS {
+    for done in ACTIONS {
+        let action = done.0;
         let db = game(&rt, &[HEADER, action, LISTS]);
-        expect_done(&rt, &db, *ran, *redraw, said);
+        expect_done(&rt, &db, done);
     }
 }

@@ -2,7 +2,7 @@
 use crate::consoles::expect_taken;
 use crate::expect;
 use adv_io::{Console, ConsoleFault, Line, StdConsole, Taken};
-use std::alloc::{AllocError, Allocator, Global};
+use std::alloc::Allocator;
 use std::fmt::Display;
 use std::io;
 use std::io::{BufRead, ErrorKind, Lines, Read};
@@ -146,10 +146,10 @@ fn standard_input_is_taken_by_lines_until_it_ends_or_fails(rt: HostRuntime) {
     }
 }
 
-fn long_line(alloc: Global, length: usize) -> Result<Vec<u8>, AllocError> {
-    let mut bytes = vec![in alloc; b'A'; length]?;
-    bytes.push(b'\n')?;
-    Ok(bytes)
+fn long_line<R: Abort + AllocGlobal>(rt: &R, length: usize) -> Vec<u8> {
+    let mut bytes = vec![in rt.alloc(); b'A'; length].expect(rt, "memory");
+    bytes.push(b'\n').expect(rt, "memory");
+    bytes
 }
 
 const KEPT: &[u8] = &[b'a'; 120];
@@ -170,7 +170,7 @@ const LONG_LINES: &[(usize, &[Take])] = &[
 #[test]
 fn a_line_of_standard_input_has_a_limit(rt: HostRuntime) {
     for (length, takes) in LONG_LINES {
-        let bytes = long_line(rt.alloc(), *length).expect(&rt, "memory");
+        let bytes = long_line(&rt, *length);
         let terminal = Typed {
             bytes: &bytes,
             is_broken: false,

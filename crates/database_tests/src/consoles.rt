@@ -1,7 +1,6 @@
 //! Consoles in memory: what they keep, and in how many calls pieces are said.
 use crate::expect;
-use adv_io::{Console, ConsoleFault, Line, Memory, MemoryConsole, ScriptConsole, Taken, say_all};
-use std::alloc::Global;
+use adv_io::{Console, ConsoleFault, Line, MemoryConsole, ScriptConsole, Taken, say_all};
 use std::process::Abort;
 
 /// A console without lines, which fails at the calls of these numbers.
@@ -51,15 +50,16 @@ pub fn expect_taken<C: Console>(
 }
 
 // A console with a line, room for eight bytes, and a third call that fails.
-fn narrow_console(alloc: Global) -> Result<MemoryConsole, Memory> {
-    let lines = vec![in alloc; Line::of(b"GO North")]?;
-    let failing = vec![in alloc; 3]?;
-    MemoryConsole::new(alloc, lines, failing, 8)
+fn narrow_console<R: Abort + AllocGlobal>(rt: &R) -> MemoryConsole {
+    let alloc = rt.alloc();
+    let lines = vec![in alloc; Line::of(b"GO North")].expect(rt, "memory");
+    let failing = vec![in alloc; 3].expect(rt, "memory");
+    MemoryConsole::new(alloc, lines, failing, 8).expect(rt, "memory")
 }
 
 #[test]
 fn a_console_in_memory_keeps_its_history(rt: HostRuntime) {
-    let mut console = narrow_console(rt.alloc()).expect(&rt, "memory");
+    let mut console = narrow_console(&rt);
     let mut line = Line::of(b"before");
     let failed = Err(ConsoleFault::Failed);
     expect_said(&rt, &mut console, b"Hi", Ok(()), b"Hi");

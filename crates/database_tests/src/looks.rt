@@ -8,7 +8,7 @@ use adv_io::{ConsoleFault, MemoryConsole};
 use itoa::Buffer;
 use scott_light::{count_light, inventory, look, look_after, score};
 use scott_types::{Db, State, Style};
-use std::alloc::{AllocError, Global};
+use std::alloc::AllocError;
 use std::process::Abort;
 
 // A hall with a cave to the south.
@@ -194,7 +194,8 @@ fn expect_told<R: Abort + AllocGlobal>(rt: &R, db: &Db, told: &Told) {
 #[test]
 fn players_are_told_what_they_ask_for(rt: HostRuntime) {
     for told in TOLD {
-        let db = hall(&rt, b"-1", told.2);
+        let home = told.2;
+        let db = hall(&rt, b"-1", home);
         expect_told(&rt, &db, told);
     }
 }
@@ -213,39 +214,35 @@ fn add_thing(bytes: &mut Vec<u8>, number: u8) -> Result<(), AllocError> {
 }
 
 // So many things, with a text before the first, between two of them, and after the last.
-fn things(
-    alloc: Global,
+fn things<R: Abort + AllocGlobal>(
+    rt: &R,
     count: u8,
     before: &[u8],
     between: &[u8],
     after: &[u8],
-) -> Result<Vec<u8>, AllocError> {
-    let mut bytes = before.to_vec(alloc)?;
+) -> Vec<u8> {
+    let mut bytes = before.to_vec(rt.alloc()).expect(rt, "memory");
     for number in 0..count {
         if number > 0 {
-            bytes.extend_from_slice(between)?;
+            bytes.extend_from_slice(between).expect(rt, "memory");
         }
-        add_thing(&mut bytes, number)?;
+        add_thing(&mut bytes, number).expect(rt, "memory");
     }
-    bytes.extend_from_slice(after)?;
-    Ok(bytes)
+    bytes.extend_from_slice(after).expect(rt, "memory");
+    bytes
 }
 
 // A game with so many things in the hall.
 fn crowded<R: Abort + AllocGlobal>(rt: &R, count: u8) -> Db {
-    let items = things(rt.alloc(), count, b"\"", b"/THI/\" 1\n\"", b"/THI/\" 1\n");
-    let items = items.expect(rt, "memory");
+    let items = things(rt, count, b"\"", b"/THI/\" 1\n\"", b"/THI/\" 1\n");
     let mut highest = Buffer::new();
     let highest = highest.format(count.saturating_sub(1)).as_bytes();
     let rest = b" 0 0 2 5 1 0 3 -1 0 0".as_slice();
     game(rt, &[b"0 ", highest, rest, ROOMS, &items, TRAILER])
 }
 
-// What a look at them says.
-fn things_seen(alloc: Global, count: u8) -> Result<Vec<u8>, AllocError> {
-    let hall = b"I'm in a hall\nObvious exits: South, Up.\n\nI can also see: ";
-    things(alloc, count, hall, b" - ", b"\n")
-}
+// What a look says before them.
+const SEEN: &[u8] = b"I'm in a hall\nObvious exits: South, Up.\n\nI can also see: ";
 
 // How many things there are, the calls of the console that fail, and what a look answers.
 const CROWDS: &[(u8, &[u64], Result<(), ConsoleFault>)] = &[
@@ -267,7 +264,7 @@ fn expect_seen<R: Abort + AllocGlobal>(
 ) {
     let mut console = console(rt, failing, 20_000);
     expect!(rt; look(db, PLAIN, &State::start(db), &mut console) == answer);
-    let seen = things_seen(rt.alloc(), count).expect(rt, "memory");
+    let seen = things(rt, count, SEEN, b" - ", b"\n");
     expect!(rt; answer.is_err() || console.said() == seen.as_slice());
 }
 
@@ -338,7 +335,8 @@ fn expect_burnt<R: Abort + AllocGlobal>(rt: &R, db: &Db, burnt: &Burnt) {
 #[test]
 fn light_burns_down_and_is_counted(rt: HostRuntime) {
     for burnt in LIGHTS {
-        let db = hall(&rt, burnt.0, b"0");
+        let light = burnt.0;
+        let db = hall(&rt, light, b"0");
         expect_burnt(&rt, &db, burnt);
     }
 }

@@ -1,14 +1,13 @@
 //! Each public call on words, with a vocabulary made by hand.
 use crate::expect;
 use crate::games::game;
-use adv_io::{Line, Memory};
+use adv_io::Line;
 use scott_index::WordIndex;
 use scott_types::Db;
 use scott_vocab::{
     Column, Entry, Heard, Vocabulary, command, entry_at, is_direction, is_typed, letters, root,
     split, typed_noun, which, word_at,
 };
-use std::alloc::Global;
 use std::process::Abort;
 
 // The verbs and the nouns, in the order of their numbers. Three bytes of a word count.
@@ -32,12 +31,6 @@ fn worded<R: Abort + AllocGlobal>(rt: &R) -> Db {
     let header = b"0 0 0 11 0 5 0 0 3 -1 0 0 0 0 0 0 0 0 0 0".as_slice();
     let rest = b"0 0 0 0 0 0 \"cell\" \"\" \"Lamp/LAMP/\" 0 \"\" 1 1 1".as_slice();
     game(rt, &[header, WORDS, rest])
-}
-
-// What a word names by an index of its column.
-fn looked_up(alloc: Global, db: &Db, column: Column, word: &[u8]) -> Result<Option<u16>, Memory> {
-    let index = WordIndex::of(alloc, db, column)?;
-    Ok(index.find(word))
 }
 
 // A column, a word, and the base entry that it names.
@@ -71,7 +64,8 @@ fn expect_named<R: Abort + AllocGlobal>(rt: &R, db: &Db, named: &Named) {
     let word = name.as_bytes();
     expect_number(rt, which(db, column, word), entry, name);
     expect_number(rt, db.named(column, word), entry, name);
-    expect!(rt; looked_up(rt.alloc(), db, column, word) == Ok(entry), name);
+    let index = WordIndex::of(rt.alloc(), db, column).expect(rt, "memory");
+    expect_number(rt, index.find(word), entry, name);
 }
 
 #[test]
@@ -82,18 +76,14 @@ fn words_name_base_entries(rt: HostRuntime) {
     }
 }
 
-// Adds words to an index, with their numbers.
-fn add_lamps(alloc: Global, index: &mut WordIndex) -> Result<(), Memory> {
-    index.add(alloc, b"Lamp", 7)?;
-    index.add(alloc, b"lamps", 8)?;
-    index.add(alloc, b"", 9)
-}
-
 // Four letters of a word count.
 #[test]
 fn first_number_of_a_word_stays(rt: HostRuntime) {
-    let mut index = WordIndex::empty(rt.alloc(), 4, 2).expect(&rt, "memory");
-    expect!(rt; add_lamps(rt.alloc(), &mut index) == Ok(()));
+    let alloc = rt.alloc();
+    let mut index = WordIndex::empty(alloc, 4, 2).expect(&rt, "memory");
+    index.add(alloc, b"Lamp", 7).expect(&rt, "memory");
+    index.add(alloc, b"lamps", 8).expect(&rt, "memory");
+    index.add(alloc, b"", 9).expect(&rt, "memory");
     expect_number(&rt, index.find(b"LAMPS"), Some(7), "LAMPS");
     expect_number(&rt, index.find(b"lam"), None, "lam");
     expect_number(&rt, index.find(b""), None, "no letter");
@@ -125,25 +115,24 @@ fn entries_stand_for_base_ones_and_have_texts(rt: HostRuntime) {
 // A line, where its two words begin and how long they are, and the text of the noun.
 type Split = (
     &'static str,
-    Option<(u8, u8)>,
-    Option<(u8, u8)>,
+    (Option<(u8, u8)>, Option<(u8, u8)>),
     &'static str,
 );
 
 const LINES: &[Split] = &[
-    ("", None, None, ""),
-    ("  ", None, None, ""),
-    ("n", Some((0, 1)), None, ""),
-    (" look  ", Some((1, 4)), None, ""),
-    (" Get LAMP now", Some((1, 3)), Some((5, 4)), "lamp"),
+    ("", (None, None), ""),
+    ("  ", (None, None), ""),
+    ("n", (Some((0, 1)), None), ""),
+    (" look  ", (Some((1, 4)), None), ""),
+    (" Get LAMP now", (Some((1, 3)), Some((5, 4))), "lamp"),
 ];
 
 // A line is split into these words, of which the second is the noun.
 fn expect_split(rt: &impl Abort, row: &Split) {
-    let (typed, first, second, noun) = *row;
+    let (typed, spans, noun) = *row;
     let line = Line::of(typed.as_bytes());
     let words = split(&line);
-    expect!(rt; (words.first, words.second) == (first, second), typed);
+    expect!(rt; (words.first, words.second) == spans, typed);
     expect!(rt; typed_noun(&line) == noun.as_bytes(), typed);
     if let Some((start, length)) = words.second {
         expect!(rt; word_at(&line, start, length) == noun.as_bytes(), typed);
