@@ -4,8 +4,7 @@ use crate::expect;
 use crate::games::game;
 use adv_io::ConsoleFault;
 use scott_actions::{Ran, perform};
-use scott_types::{Db, State, Style};
-use std::process::Abort;
+use scott_types::{State, Style};
 
 const HEADER: &[u8] = b"0 1 0 0 0 1 0 0 3 -1 1 0\n0 ";
 
@@ -13,13 +12,7 @@ const LISTS: &[u8] = b" \"AUT\" \"ANY\" 0 0 0 0 0 0 \"hall\" \"\" \"Hello\"
 \"Rug\" 0 \"Pin\" 255 \"\" 1 1 0";
 
 // An action's numbers, what becomes of it, whether the room is described next, and what is said.
-type Done = (
-    &'static [u8],
-    (Result<Ran, ConsoleFault>, bool),
-    &'static str,
-);
-
-const ACTIONS: &[Done] = &[
+const ACTIONS: &[(&[u8], (Result<Ran, ConsoleFault>, bool), &str)] = &[
     (b"0 0 0 0 0 0 0", (Ok(Ran::Passed(false)), false), ""),
     (
         b"0 0 0 0 0 73 150",
@@ -60,25 +53,18 @@ const ACTIONS: &[Done] = &[
     ),
 ];
 
-// Expects what becomes of an action in a room that was described, and what it says. It moves no
-// item.
-fn expect_done<R: Abort + AllocGlobal>(rt: &R, db: &Db, done: &Done) {
-    let (_, becomes, said) = *done;
-    let _limits = db.parts();
-    let mut state = State::start(db);
-    state.redraw = false;
-    let mut console = console(rt, &[], 500);
-    let answer = perform(db, Style::plain(), &mut state, 0, b"go", &mut console);
-    expect!(rt; (answer, state.redraw) == becomes, said);
-    expect!(rt; state.places.as_slice() == [0, 255].as_slice(), said);
-    expect!(rt; console.said() == said.as_bytes(), said);
-}
-
+// An action is done in a room that was described, and moves no item.
 #[test]
 fn actions_do_their_opcodes(rt: HostRuntime) {
-    for done in ACTIONS {
-        let action = done.0;
+    for (action, becomes, said) in ACTIONS {
         let db = game(&rt, &[HEADER, action, LISTS]);
-        expect_done(&rt, &db, done);
+        let _limits = db.parts();
+        let mut state = State::start(&db);
+        state.redraw = false;
+        let mut console = console(&rt, &[], 500);
+        let answer = perform(&db, Style::plain(), &mut state, 0, b"go", &mut console);
+        expect!(rt; (answer, state.redraw) == *becomes, said);
+        expect!(rt; state.places.as_slice() == [0, 255].as_slice(), said);
+        expect!(rt; console.said() == said.as_bytes(), said);
     }
 }

@@ -123,16 +123,11 @@ const BEFORE: &[(&[&[u8]], u64, usize)] = &[
     (&[b"a", HUGE, b"b", b"c"], 4, 5003),
 ];
 
-// Says pieces, all of them before a call that fails.
-fn expect_said_before(rt: &impl Abort, console: &mut MemoryConsole, pieces: &[&[u8]], size: usize) {
-    expect!(rt; (say_all(console, pieces), console.said().len()) == (Ok(()), size));
-    expect!(rt; say_all(console, &[b"."]) == Err(ConsoleFault::Failed));
-}
-
 #[test]
 fn pieces_are_said_in_as_few_calls_as_may_be(rt: HostRuntime) {
     for (pieces, failing, size) in BEFORE {
         let mut console = console(&rt, &[*failing], 10_000);
-        expect_said_before(&rt, &mut console, pieces, *size);
+        expect!(rt; (say_all(&mut console, pieces), console.said().len()) == (Ok(()), *size));
+        expect!(rt; say_all(&mut console, &[b"."]) == Err(ConsoleFault::Failed));
     }
 }

@@ -2,7 +2,7 @@
 use crate::expect;
 use crate::games::{game, joined, read};
 use scott_format::{Field, FormatFault, write_db};
-use scott_types::{Action, Header, Item, Parts};
+use scott_types::{Action, Header, Item};
 use std::process::Abort;
 
 const HEADER: &[u8] = b"0 0 0 6 2 5 1 0 3 -1 0 0\n";
@@ -35,18 +35,13 @@ const TEXTS: &[(&[u8], &[u8], &[u8])] = &[
     (b"  \"Rug\"\r\n-1 ", END, b"\"Rug\" 255\n"),
 ];
 
-// Expects that a game of these parts is read, and written back with this item.
-fn expect_written<R: Abort + AllocGlobal>(rt: &R, item: &[u8], end: &[u8], written: &[u8]) {
-    let db = game(rt, &[HEADER, ACTION, LISTS, item, end]);
-    let text = write_db(rt.alloc(), &db).expect(rt, "memory");
-    let want = joined(rt, &[HEADER, ACTION, LISTS, written, END]);
-    expect!(rt; text.as_slice() == want.as_slice());
-}
-
 #[test]
 fn texts_are_read_and_written_back(rt: HostRuntime) {
     for (item, end, written) in TEXTS {
-        expect_written(&rt, item, end, written);
+        let db = game(&rt, &[HEADER, ACTION, LISTS, item, end]);
+        let text = write_db(rt.alloc(), &db).expect(&rt, "memory");
+        let want = joined(&rt, &[HEADER, ACTION, LISTS, written, END]);
+        expect!(rt; text.as_slice() == want.as_slice());
     }
 }
 
@@ -74,20 +69,17 @@ fn expect_items(rt: &impl Abort, items: &[Item]) {
     }
 }
 
-fn expect_parts(rt: &impl Abort, parts: &Parts) {
-    expect_numbers(rt, &parts.header);
-    expect_lines(rt, &parts.actions);
-    expect_items(rt, &parts.items);
-    expect!(rt; (parts.words.len(), parts.rooms.len()) == (7, 3));
-    expect!(rt; (parts.trailer.version, parts.trailer.third) == (1, 3));
-}
-
 #[test]
 fn parts_are_in_their_places(rt: HostRuntime) {
     let header = b"-7 0 0 6 2 -5 1 +13 20 125 0 77\n151 1 2 3 4 5 6 7\n".as_slice();
     let rest = b"\"a\"\"b`\" 259 \"\"\n1 2 3 4".as_slice();
     let db = game(&rt, &[header, LISTS, rest]);
-    expect_parts(&rt, db.parts());
+    let parts = db.parts();
+    expect_numbers(&rt, &parts.header);
+    expect_lines(&rt, &parts.actions);
+    expect_items(&rt, &parts.items);
+    expect!(rt; (parts.words.len(), parts.rooms.len()) == (7, 3));
+    expect!(rt; (parts.trailer.version, parts.trailer.third) == (1, 3));
 }
 
 // A header, an action line, the end of a game, and the first fault of the game that they make.

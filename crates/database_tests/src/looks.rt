@@ -32,19 +32,6 @@ fn hall<R: Abort + AllocGlobal>(rt: &R, light: &[u8], home: &[u8]) -> Db {
     game(rt, &[header, light, b" 0 ", home, ROOMS, ITEMS, TRAILER])
 }
 
-// Expects what was said.
-fn expect_said(rt: &impl Abort, console: &MemoryConsole, said: &str) {
-    expect!(rt; console.said() == said.as_bytes(), said);
-}
-
-// A state in a room, that is dark or not.
-fn standing(db: &Db, room: u8, dark: bool) -> State {
-    let mut state = State::start(db);
-    state.room = room;
-    state.flags[15] = dark;
-    state
-}
-
 // What is asked for.
 #[derive(Clone, Copy)]
 enum Asked {
@@ -87,9 +74,7 @@ const YOU: Style = Style {
 
 // What is asked for, in which style, the treasure room, the room and whether it is dark, whether
 // the game ends, and what is said.
-type Told = (Asked, Style, &'static [u8], (u8, bool), bool, &'static str);
-
-const TOLD: &[Told] = &[
+const TOLD: &[(Asked, Style, &[u8], (u8, bool), bool, &str)] = &[
     (
         Asked::Look,
         PLAIN,
@@ -181,22 +166,17 @@ const TOLD: &[Told] = &[
     ),
 ];
 
-// Expects what is said in a game, and whether that ends it.
-fn expect_told<R: Abort + AllocGlobal>(rt: &R, db: &Db, told: &Told) {
-    let (asked, style, _, (room, dark), over, said) = *told;
-    let mut console = console(rt, &[], 500);
-    let state = standing(db, room, dark);
-    expect!(rt; state.fits(db), said);
-    expect!(rt; tell(asked, db, style, &state, &mut console) == Ok(over), said);
-    expect_said(rt, &console, said);
-}
-
 #[test]
 fn players_are_told_what_they_ask_for(rt: HostRuntime) {
-    for told in TOLD {
-        let home = told.2;
+    for (asked, style, home, (room, dark), over, said) in TOLD {
         let db = hall(&rt, b"-1", home);
-        expect_told(&rt, &db, told);
+        let mut state = State::start(&db);
+        state.room = *room;
+        state.flags[15] = *dark;
+        expect!(rt; state.fits(&db), said);
+        let mut console = console(&rt, &[], 500);
+        expect!(rt; tell(*asked, &db, *style, &state, &mut console) == Ok(*over), said);
+        expect!(rt; console.said() == said.as_bytes(), said);
     }
 }
 
@@ -254,25 +234,15 @@ const CROWDS: &[(u8, &[u64], Result<(), ConsoleFault>)] = &[
     (255, &[2], Err(ConsoleFault::Failed)),
 ];
 
-// Looks at so many things, and expects all of them where the console doesn't fail.
-fn expect_seen<R: Abort + AllocGlobal>(
-    rt: &R,
-    db: &Db,
-    count: u8,
-    failing: &[u64],
-    answer: Result<(), ConsoleFault>,
-) {
-    let mut console = console(rt, failing, 20_000);
-    expect!(rt; look(db, PLAIN, &State::start(db), &mut console) == answer);
-    let seen = things(rt, count, SEEN, b" - ", b"\n");
-    expect!(rt; answer.is_err() || console.said() == seen.as_slice());
-}
-
+// All things are said where the console doesn't fail.
 #[test]
 fn all_items_of_a_room_are_said(rt: HostRuntime) {
     for (count, failing, answer) in CROWDS {
         let db = crowded(&rt, *count);
-        expect_seen(&rt, &db, *count, failing, *answer);
+        let mut console = console(&rt, failing, 20_000);
+        expect!(rt; look(&db, PLAIN, &State::start(&db), &mut console) == *answer);
+        let seen = things(&rt, *count, SEEN, b" - ", b"\n");
+        expect!(rt; answer.is_err() || console.said() == seen.as_slice());
     }
 }
 
@@ -290,9 +260,7 @@ const VANISHING: Style = Style {
 
 // How long the light lasts before a turn, and in which style; how long after it, whether it is out
 // and where the lamp is then, and what is said.
-type Burnt = (&'static [u8], Style, (i32, bool, u8), &'static str);
-
-const LIGHTS: &[Burnt] = &[
+const LIGHTS: &[(&[u8], Style, (i32, bool, u8), &str)] = &[
     (b"-1", PLAIN, (-1, false, 1), ""),
     (b"26", PLAIN, (25, false, 1), ""),
     (b"21", PLAIN, (20, false, 1), "Your light is growing dim. "),
@@ -320,23 +288,16 @@ const LIGHTS: &[Burnt] = &[
     (b"1", VANISHING, (0, true, 0), "Your light has run out. "),
 ];
 
-// Expects what becomes of the light and the lamp in a turn, and what is said.
-fn expect_burnt<R: Abort + AllocGlobal>(rt: &R, db: &Db, burnt: &Burnt) {
-    let (_, style, left, said) = *burnt;
-    let mut console = console(rt, &[], 500);
-    let mut state = State::start(db);
-    state.redraw = false;
-    expect!(rt; count_light(db, style, &mut state, &mut console) == Ok(()), said);
-    expect_said(rt, &console, said);
-    expect!(rt; (state.light, state.flags[16], state.place(9)) == left, said);
-    expect!(rt; !state.redraw, said);
-}
-
 #[test]
 fn light_burns_down_and_is_counted(rt: HostRuntime) {
-    for burnt in LIGHTS {
-        let light = burnt.0;
+    for (light, style, left, said) in LIGHTS {
         let db = hall(&rt, light, b"0");
-        expect_burnt(&rt, &db, burnt);
+        let mut state = State::start(&db);
+        state.redraw = false;
+        let mut console = console(&rt, &[], 500);
+        expect!(rt; count_light(&db, *style, &mut state, &mut console) == Ok(()), said);
+        expect!(rt; console.said() == said.as_bytes(), said);
+        expect!(rt; (state.light, state.flags[16], state.place(9)) == *left, said);
+        expect!(rt; !state.redraw, said);
     }
 }

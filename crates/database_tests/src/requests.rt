@@ -32,9 +32,7 @@ macro_rules! played {
 }
 
 // Words, and the request that they are.
-type Asked = (&'static str, Option<Request<'static>>);
-
-const WORDS: &[Asked] = &[
+const WORDS: &[(&str, Option<Request<'static>>)] = &[
     ("check t.dat", Some(Request::Check("t.dat"))),
     ("play t.dat", Some(SEEDED)),
     ("play t.dat seed=0001", Some(SEEDED)),
@@ -82,17 +80,11 @@ fn words_of<R: Abort + AllocGlobal>(rt: &R, command: &str) -> Vec<String> {
     words
 }
 
-// Expects what the words of a command ask for.
-fn expect_asked<R: Abort + AllocGlobal>(rt: &R, asked: &Asked) {
-    let (command, wanted) = asked;
-    let words = words_of(rt, command);
-    expect!(rt; request_in(&words) == *wanted, command);
-}
-
 #[test]
 fn words_are_requests(rt: HostRuntime) {
     expect!(rt; request_in(&[]).is_none());
-    for asked in WORDS {
-        expect_asked(&rt, asked);
+    for (command, wanted) in WORDS {
+        let words = words_of(&rt, command);
+        expect!(rt; request_in(&words) == *wanted, command);
     }
 }

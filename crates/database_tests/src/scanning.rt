@@ -33,13 +33,11 @@ fn numbers_are_read_or_refused(rt: HostRuntime) {
 }
 
 // Texts, the string that each begins with or the fault, the place after it, and the number there.
-type Read = (
-    &'static [u8],
-    Result<&'static [u8], TextFault>,
+const STRINGS: &[(
+    &[u8],
+    Result<&[u8], TextFault>,
     (usize, Result<i32, TextFault>),
-);
-
-const STRINGS: &[Read] = &[
+)] = &[
     (b" \"a\"\"b`c\r\nd\" 5", Ok(b"a\"b\"c\nd"), (12, Ok(5))),
     (b"\n\"hall\" 2", Ok(b"hall"), (7, Ok(2))),
     (b" \"\"\n", Ok(b""), (3, Err(TextFault::NoNumber(4)))),
@@ -66,18 +64,12 @@ const STRINGS: &[Read] = &[
     ),
 ];
 
-// Expects a string or a fault, the place after it, and the number there.
-fn expect_string<R: Abort + AllocGlobal>(rt: &R, read: &Read) {
-    let (bytes, text, after) = read;
-    let mut scan = Scan::new(bytes);
-    expect!(rt; are_bytes(scan.quoted(rt.alloc()), *text));
-    expect!(rt; (scan.at(), scan.number()) == *after);
-}
-
 #[test]
 fn strings_are_read_or_refused(rt: HostRuntime) {
-    for read in STRINGS {
-        expect_string(&rt, read);
+    for (bytes, text, after) in STRINGS {
+        let mut scan = Scan::new(bytes);
+        expect!(rt; are_bytes(scan.quoted(rt.alloc()), *text));
+        expect!(rt; (scan.at(), scan.number()) == *after);
     }
 }
 

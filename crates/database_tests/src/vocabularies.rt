@@ -34,9 +34,7 @@ fn worded<R: Abort + AllocGlobal>(rt: &R) -> Db {
 }
 
 // A column, a word, and the base entry that it names.
-type Named = (Column, &'static str, Option<u16>);
-
-const NAMED: &[Named] = &[
+const NAMED: &[(Column, &str, Option<u16>)] = &[
     (Column::Verbs, "go", Some(2)),
     (Column::Verbs, "WALKING", Some(2)),
     (Column::Verbs, "auto", None),
@@ -59,20 +57,15 @@ fn expect_number(rt: &impl Abort, found: Option<u16>, want: Option<u16>, word: &
 }
 
 // A database finds the entry of a word, as a vocabulary too, and so does an index of the column.
-fn expect_named<R: Abort + AllocGlobal>(rt: &R, db: &Db, named: &Named) {
-    let (column, name, entry) = *named;
-    let word = name.as_bytes();
-    expect_number(rt, which(db, column, word), entry, name);
-    expect_number(rt, db.named(column, word), entry, name);
-    let index = WordIndex::of(rt.alloc(), db, column).expect(rt, "memory");
-    expect_number(rt, index.find(word), entry, name);
-}
-
 #[test]
 fn words_name_base_entries(rt: HostRuntime) {
     let db = worded(&rt);
-    for named in NAMED {
-        expect_named(&rt, &db, named);
+    for (column, name, entry) in NAMED {
+        let word = name.as_bytes();
+        let index = WordIndex::of(rt.alloc(), &db, *column).expect(&rt, "memory");
+        expect_number(&rt, which(&db, *column, word), *entry, name);
+        expect_number(&rt, db.named(*column, word), *entry, name);
+        expect_number(&rt, index.find(word), *entry, name);
     }
 }
 
@@ -98,28 +91,29 @@ fn expect_entry(rt: &impl Abort, entry: Entry<'_>, word: &str, base: Option<u16>
     expect_number(rt, entry.base, base, word);
 }
 
-fn expect_entries(rt: &impl Abort, db: &Db) {
-    expect!(rt; db.words().len() == 12);
-    expect_entry(rt, entry_at(db, Column::Verbs, 1, None), "RUN", None);
-    expect_entry(rt, entry_at(db, Column::Verbs, 3, Some(2)), "WALK", Some(2));
-    expect_entry(rt, entry_at(db, Column::Nouns, 7, Some(6)), "LAMP", Some(7));
-    expect_text(rt, root(db, 7), "LAMP");
-    expect_text(rt, root(db, 8), "*LANT");
-}
-
 #[test]
 fn entries_stand_for_base_ones_and_have_texts(rt: HostRuntime) {
-    expect_entries(&rt, &worded(&rt));
+    let db = worded(&rt);
+    expect!(rt; db.words().len() == 12);
+    expect_entry(&rt, entry_at(&db, Column::Verbs, 1, None), "RUN", None);
+    expect_entry(
+        &rt,
+        entry_at(&db, Column::Verbs, 3, Some(2)),
+        "WALK",
+        Some(2),
+    );
+    expect_entry(
+        &rt,
+        entry_at(&db, Column::Nouns, 7, Some(6)),
+        "LAMP",
+        Some(7),
+    );
+    expect_text(&rt, root(&db, 7), "LAMP");
+    expect_text(&rt, root(&db, 8), "*LANT");
 }
 
 // A line, where its two words begin and how long they are, and the text of the noun.
-type Split = (
-    &'static str,
-    (Option<(u8, u8)>, Option<(u8, u8)>),
-    &'static str,
-);
-
-const LINES: &[Split] = &[
+const LINES: &[(&str, (Option<(u8, u8)>, Option<(u8, u8)>), &str)] = &[
     ("", (None, None), ""),
     ("  ", (None, None), ""),
     ("n", (Some((0, 1)), None), ""),
@@ -127,22 +121,17 @@ const LINES: &[Split] = &[
     (" Get LAMP now", (Some((1, 3)), Some((5, 4))), "lamp"),
 ];
 
-// A line is split into these words, of which the second is the noun.
-fn expect_split(rt: &impl Abort, row: &Split) {
-    let (typed, spans, noun) = *row;
-    let line = Line::of(typed.as_bytes());
-    let words = split(&line);
-    expect!(rt; (words.first, words.second) == spans, typed);
-    expect!(rt; typed_noun(&line) == noun.as_bytes(), typed);
-    if let Some((start, length)) = words.second {
-        expect!(rt; word_at(&line, start, length) == noun.as_bytes(), typed);
-    }
-}
-
+// The second word is the noun.
 #[test]
 fn lines_split_into_words(rt: HostRuntime) {
-    for row in LINES {
-        expect_split(&rt, row);
+    for (typed, spans, noun) in LINES {
+        let line = Line::of(typed.as_bytes());
+        let words = split(&line);
+        expect!(rt; (words.first, words.second) == *spans, typed);
+        expect!(rt; typed_noun(&line) == noun.as_bytes(), typed);
+        if let Some((start, length)) = words.second {
+            expect!(rt; word_at(&line, start, length) == noun.as_bytes(), typed);
+        }
     }
 }
 
