@@ -80,11 +80,15 @@ fn words_of<R: Abort + AllocGlobal>(rt: &R, command: &str) -> Vec<String> {
     words
 }
 
+// Whether words ask for this.
+fn is_asked(words: &[String], wanted: &Option<Request<'_>>) -> bool {
+    request_in(words) == *wanted
+}
+
 #[test]
 fn words_are_requests(rt: HostRuntime) {
-    expect!(rt; request_in(&[]).is_none());
+    expect!(rt; is_asked(&[], &None));
     for (command, wanted) in WORDS {
-        let words = words_of(&rt, command);
-        expect!(rt; request_in(&words) == *wanted, command);
+        expect!(rt; is_asked(&words_of(&rt, command), wanted), command);
     }
 }
