@@ -44,26 +44,30 @@ fn two_names(words: &[String]) -> Option<(&str, &str)>
     ensures { option_map (λ names. (names.0.now, names.1.now)) result
         ≡ two_names (map string_bytes words.now) }
 {
-    match words {
-        [from, to] => Some((file_name(from.as_str())?, file_name(to.as_str())?)),
-        _ => None,
-    }
+    let [from, to] = words else {
+        return None;
+    };
+    file_name(from.as_str()).zip(file_name(to.as_str()))
 }
 
 // `compile` with the words after it.
 fn compile_form(words: &[String]) -> Option<Request<'_>>
     ensures { option_map request_of result ≡ compile_form (map string_bytes words.now) }
 {
-    let (source, game) = two_names(words)?;
-    Some(Request::Compile(source, game))
+    match two_names(words) {
+        Some((source, game)) => Some(Request::Compile(source, game)),
+        None => None,
+    }
 }
 
 // `decompile` with the words after it.
 fn decompile_form(words: &[String]) -> Option<Request<'_>>
     ensures { option_map request_of result ≡ decompile_form (map string_bytes words.now) }
 {
-    let (game, source) = two_names(words)?;
-    Some(Request::Decompile(game, source))
+    match two_names(words) {
+        Some((game, source)) => Some(Request::Decompile(game, source)),
+        None => None,
+    }
 }
 
 // The name of a file, and the settings after it.
@@ -72,7 +76,7 @@ fn file_and_settings(words: &[String]) -> Option<(&str, Settings<'_>)>
         ≡ file_and_settings (map string_bytes words.now) }
 {
     let (file, rest) = words.split_first()?;
-    Some((file_name(file.as_str())?, settings_in(rest)?))
+    file_name(file.as_str()).zip(settings_in(rest))
 }
 
 // Where the draws come from.
@@ -107,22 +111,20 @@ fn play_form(words: &[String]) -> Option<Request<'_>>
     Some(Request::Play(game, source_in(settings), style_in(settings)))
 }
 
-// The names of two files, and the settings after them.
-fn files_and_settings(words: &[String]) -> Option<(&str, &str, Settings<'_>)>
-    ensures { option_map (λ p. (p.0.now, p.1.now, settings_of p.2)) result
+// The name of a file, and after it one more with its settings.
+fn files_and_settings(words: &[String]) -> Option<(&str, (&str, Settings<'_>))>
+    ensures { option_map (λ p. (p.0.now, p.1.0.now, settings_of p.1.1)) result
         ≡ files_and_settings (map string_bytes words.now) }
 {
     let (file, rest) = words.split_first()?;
-    let first = file_name(file.as_str())?;
-    let (second, settings) = file_and_settings(rest)?;
-    Some((first, second, settings))
+    file_name(file.as_str()).zip(file_and_settings(rest))
 }
 
 // `translate` with the words after it.
 fn translate_form(words: &[String]) -> Option<Request<'_>>
     ensures { option_map request_of result ≡ translate_form (map string_bytes words.now) }
 {
-    let (game, program, settings) = files_and_settings(words)?;
+    let (game, (program, settings)) = files_and_settings(words)?;
     if settings.draws.is_some() || settings.steps.is_some() {
         return None;
     }
