@@ -37,6 +37,10 @@ numbers_first value (x ∷ xs) u us =
     ∙ sym (append_assoc (number_and_space (value x)) (flat_map (λ x. number_and_space (value x)) xs) (line_text (u ∷ us)))
     ∙ ap (λ (t : List ℕ). t ++ line_text (u ∷ us)) (sym (flat_map-cons (λ x. number_and_space (value x)) x xs))
 
+-- two texts of a line, as they were written
+pub two_written : (out a b x y : List ℕ) → a ≡ out ++ (x ++ 32 ∷ []) → b ≡ a ++ y → b ≡ out ++ (x ++ 32 ∷ y)
+two_written out a b x y e f = f ∙ rw e (simp append_assoc)
+
 -- exits and a text, as they were written
 pub room_written : (out a b : List ℕ) (exits : List ℤ) (text : List ℕ) → a ≡ out ++ flat_map number_and_space exits → b ≡ a ++ (quoted_text text ++ 10 ∷ [])
     → b ≡ out ++ line_text (map num exits ++ str text ∷ [])

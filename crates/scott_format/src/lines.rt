@@ -84,8 +84,7 @@ impl Line for Action {
         put_natural_and(alloc, out, self.vocab, b' ')?;
         put_naturals(alloc, out, &self.conds)?;
         put_natural_and(alloc, out, first, b' ')?;
-        put_natural_and(alloc, out, second, b'\n')?;
-        Ok(())
+        put_natural_and(alloc, out, second, b'\n')
     }
 }
 
@@ -96,8 +95,7 @@ impl Line for Word {
 
     fn put(&self, alloc: Global, out: &mut Vec<u8>) -> Result<(), Memory> {
         put_text_and(alloc, out, &self.verb, b' ')?;
-        put_text_and(alloc, out, &self.noun, b'\n')?;
-        Ok(())
+        put_text_and(alloc, out, &self.noun, b'\n')
     }
 }
 
@@ -108,8 +106,7 @@ impl Line for Room {
 
     fn put(&self, alloc: Global, out: &mut Vec<u8>) -> Result<(), Memory> {
         put_numbers(alloc, out, &self.exits)?;
-        put_text_and(alloc, out, &self.text, b'\n')?;
-        Ok(())
+        put_text_and(alloc, out, &self.text, b'\n')
     }
 }
 
@@ -130,8 +127,7 @@ impl Line for Item {
 
     fn put(&self, alloc: Global, out: &mut Vec<u8>) -> Result<(), Memory> {
         put_text_and(alloc, out, &self.text, b' ')?;
-        put_number_and(alloc, out, i32::from(self.place), b'\n')?;
-        Ok(())
+        put_number_and(alloc, out, i32::from(self.place), b'\n')
     }
 }
 

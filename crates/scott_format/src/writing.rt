@@ -46,8 +46,7 @@ fn put_header(alloc: Global, out: &mut Vec<u8>, parts: &Parts) -> Result<(), Mem
         (header_line (database_of parts.now))) }
 {
     put_numbers(alloc, out, &header_numbers(parts))?;
-    put_number_and(alloc, out, parts.header.home, b'\n')?;
-    Ok(())
+    put_number_and(alloc, out, parts.header.home, b'\n')
 }
 
 // Writes the line of the trailer.
@@ -56,8 +55,7 @@ fn put_trailer(alloc: Global, out: &mut Vec<u8>, trailer: &Trailer) -> Result<()
     ensures { OnOk result (out.new.items ≡ out.old.items ++ line_text (trailer_line trailer.now)) }
 {
     put_numbers(alloc, out, &[trailer.version, trailer.adventure])?;
-    put_number_and(alloc, out, trailer.third, b'\n')?;
-    Ok(())
+    put_number_and(alloc, out, trailer.third, b'\n')
 }
 
 /// Writes a database's text: each header, entry and trailer on a line, with one space between
