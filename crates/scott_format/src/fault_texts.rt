@@ -41,11 +41,11 @@ fn fault_number(fault: FormatFault, digits: &mut Buffer) -> &[u8]
     ensures { result.now ≡ fault_number fault }
 {
     match fault {
-        FormatFault::NoNumber(at) => digits.format(at).as_bytes(),
-        FormatFault::BigNumber(at) => digits.format(at).as_bytes(),
-        FormatFault::NoQuote(at) => digits.format(at).as_bytes(),
-        FormatFault::OpenString(at) => digits.format(at).as_bytes(),
-        FormatFault::LongString(at) => digits.format(at).as_bytes(),
+        FormatFault::NoNumber(at)
+        | FormatFault::BigNumber(at)
+        | FormatFault::NoQuote(at)
+        | FormatFault::OpenString(at)
+        | FormatFault::LongString(at) => digits.format(at).as_bytes(),
         FormatFault::Limit(_, value) => digits.format(value).as_bytes(),
         FormatFault::NoStart(value) => digits.format(value).as_bytes(),
         FormatFault::NegativeAction(k) => digits.format(k).as_bytes(),
