@@ -1,4 +1,5 @@
-use Rattle.std.proofs.Common.{◌≡◌, ◌∙◌, ◌++◌, sym}
+use Rattle.std.proofs.Common.{◌≡◌, ◌∙◌, ◌++◌, refl, sym}
+use Rattle.std.proofs.lemmas.Result.{IfOk-weaker}
 use Rattle.scott_types.specs.declared.commands.Heard.TheVariants.{Blank, Unknown}
 use Rattle.scott_types.specs.declared.phrases.Phrase.TheVariants.{Prompt}
 use Rattle.scott_types.specs.Phrase.{text_of}
@@ -7,14 +8,22 @@ use Rattle.scott_rules.specs.Rounds.{unknown_word}
 use Rattle.scott_turn.proofs.Showing.{shown_said}
 use Rattle.scott_turn.proofs.answering.answer.Goals as goal
 
-pub returns-in-Blank-clause-spoken : goal.returns-in-Blank-clause-spoken
-returns-in-Blank-clause-spoken g c =
+pub returns-in-Blank : goal.returns-in-Blank
+returns-in-Blank g c =
     let blank : heard c.args.game.now.db c.args.line.now ≡ Blank = sym c.command.ensures.value ∙ c.in-Blank.is in
-    rw (blank, shown_said (text_of Prompt)) c.ask_again.ensures.spoken
+    record {
+      spoken = rw (blank, shown_said (text_of Prompt)) c.ask_again.ensures.spoken;
+      left = rw blank (IfOk-weaker c.ask_again.result _ _ (λ position at. rw at refl) c.ask_again.ensures.position);
+      fits = c.requires;
+    }
 
-pub returns-in-Unknown-clause-spoken : goal.returns-in-Unknown-clause-spoken
-returns-in-Unknown-clause-spoken g c =
+pub returns-in-Unknown : goal.returns-in-Unknown
+returns-in-Unknown g c =
     let start = c.in-Unknown.start in
     let size = c.in-Unknown.length in
     let unknown : heard c.args.game.now.db c.args.line.now ≡ Unknown start size = sym c.command.ensures.value ∙ c.in-Unknown.is in
-    rw (unknown, shown_said (unknown_word (word_at c.args.line.now (start, size)) ++ text_of Prompt)) (rw c.word_at.ensures at c.refuse_word.ensures.spoken)
+    record {
+      spoken = rw (unknown, shown_said (unknown_word (word_at c.args.line.now (start, size)) ++ text_of Prompt)) (rw c.word_at.ensures at c.refuse_word.ensures.spoken);
+      left = rw unknown (IfOk-weaker c.refuse_word.result _ _ (λ position at. rw at refl) c.refuse_word.ensures.position);
+      fits = c.requires;
+    }

@@ -1,0 +1,22 @@
+use Rattle.std.proofs.Common.{◌≡◌, ◌∙◌, true, false, refl, sym}
+use Rattle.std.proofs.lemmas.Result.{IfOk-weaker}
+use Rattle.scott_rules.specs.Transfer.{is_too_dark}
+use Rattle.scott_turn.proofs.all_items.transfer_all.Goals as goal
+
+pub returns-then-is_too_dark : goal.returns-then-is_too_dark
+returns-then-is_too_dark g c =
+    let dark : is_too_dark c.args.transfer c.args.state.now ≡ true = sym c.is_too_dark.ensures ∙ c.if-is_too_dark.true in
+    record {
+      spoken = rw dark (rw c.text.ensures at c.say_only.ensures.spoken);
+      left = rw dark (IfOk-weaker c.say_only.result _ _ (λ over is. rw is refl) c.say_only.ensures.over);
+      fits = c.requires;
+    }
+
+pub returns-else-is_too_dark : goal.returns-else-is_too_dark
+returns-else-is_too_dark g c =
+    let light : is_too_dark c.args.transfer c.args.state.now ≡ false = sym c.is_too_dark.ensures ∙ c.if-is_too_dark.false in
+    record {
+      spoken = rw light c.transfer_all_items.ensures.spoken;
+      left = rw light c.transfer_all_items.ensures.left;
+      fits = c.transfer_all_items.ensures.fits;
+    }
