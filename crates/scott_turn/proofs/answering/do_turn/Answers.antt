@@ -4,16 +4,24 @@ use Rattle.scott_rules.specs.Rounds.{turn_ended, command_result}
 use Rattle.adv_io.proofs.Along.{steps_then, steps_stop}
 use Rattle.scott_turn.proofs.answering.do_turn.Goals as goal
 
-pub returns-clause-spoken : goal.returns-clause-spoken
-returns-clause-spoken g c =
+pub returns : goal.returns
+returns g c =
     let t = command_result c.args.game.now c.args.typed.now c.args.command.verb c.args.command.noun c.args.state.now in
     let state : c.do_command.new.state ≡ t.value.state = sym (ap (λ o. o.state) c.in_ok-over.ensures.left) in
     let over : c.in_ok-over.over ≡ t.value.over = sym (ap (λ o. o.over) c.in_ok-over.ensures.left) in
-    steps_then t.events (turn_ended c.args.game.now.style t.value.over t.value.state).events c.in_ok-over.ensures.spoken
-    (rw (state, over) at c.end_turn.ensures.spoken)
+    record {
+      spoken = steps_then t.events (turn_ended c.args.game.now.style t.value.over t.value.state).events c.in_ok-over.ensures.spoken
+          (rw (state, over) at c.end_turn.ensures.spoken);
+      left = rw (state, over) at c.end_turn.ensures.left;
+      fits = c.end_turn.ensures.fits;
+    }
 
-pub returns-in_err-over-clause-spoken : goal.returns-in_err-over-clause-spoken
-returns-in_err-over-clause-spoken g c =
+pub returns-in_err-over : goal.returns-in_err-over
+returns-in_err-over g c =
     let t = command_result c.args.game.now c.args.typed.now c.args.command.verb c.args.command.noun c.args.state.now in
     let p = err_from_is_err_and c.from_residual.result c.from_residual.ensures.1 in
-    rw (p.1) (steps_stop p.0 t.events (turn_ended c.args.game.now.style t.value.over t.value.state).events c.in_err-over.ensures.spoken)
+    record {
+      spoken = rw (p.1) (steps_stop p.0 t.events (turn_ended c.args.game.now.style t.value.over t.value.state).events c.in_err-over.ensures.spoken);
+      left = rw (p.1) tt;
+      fits = c.do_command.ensures.fits;
+    }

@@ -6,22 +6,30 @@ use Rattle.scott_rules.specs.Rounds.{by_found}
 use Rattle.adv_io.proofs.Along.{steps_then, steps_stop}
 use Rattle.scott_turn.proofs.commands.do_by_actions.Goals as goal
 
-pub returns-clause-spoken : goal.returns-clause-spoken
-returns-clause-spoken g c =
+pub returns : goal.returns
+returns g c =
     let game = c.args.game.now in
     let verb = c.args.command.verb in
     let noun = c.args.command.noun in
     let t = search_result game c.args.typed.now verb noun (groups game.db) c.args.state.now in
     let state : c.search.new.state ≡ t.value.state = sym (ap (λ o. o.state) c.in_ok-found.ensures.left) in
     let found : c.in_ok-found.found ≡ t.value.found = sym (ap (λ o. o.found) c.in_ok-found.ensures.left) in
-    steps_then t.events (by_found t.value.found game c.args.typed.now verb noun t.value.state).events c.in_ok-found.ensures.spoken
-    (rw (state, found) at c.finish_command.ensures.spoken)
+    record {
+      spoken = steps_then t.events (by_found t.value.found game c.args.typed.now verb noun t.value.state).events c.in_ok-found.ensures.spoken
+          (rw (state, found) at c.finish_command.ensures.spoken);
+      left = rw (state, found) at c.finish_command.ensures.left;
+      fits = c.finish_command.ensures.fits;
+    }
 
-pub returns-in_err-found-clause-spoken : goal.returns-in_err-found-clause-spoken
-returns-in_err-found-clause-spoken g c =
+pub returns-in_err-found : goal.returns-in_err-found
+returns-in_err-found g c =
     let game = c.args.game.now in
     let verb = c.args.command.verb in
     let noun = c.args.command.noun in
     let t = search_result game c.args.typed.now verb noun (groups game.db) c.args.state.now in
     let p = err_from_is_err_and c.from_residual.result c.from_residual.ensures.1 in
-    rw (p.1) (steps_stop p.0 t.events (by_found t.value.found game c.args.typed.now verb noun t.value.state).events c.in_err-found.ensures.spoken)
+    record {
+      spoken = rw (p.1) (steps_stop p.0 t.events (by_found t.value.found game c.args.typed.now verb noun t.value.state).events c.in_err-found.ensures.spoken);
+      left = rw (p.1) tt;
+      fits = c.search.ensures.fits;
+    }
