@@ -4,7 +4,7 @@ use Rattle.std.specs.Prelude.{option_map}
 use Rattle.std.specs.Str.Pattern.{FindsTextPrefix}
 use Rattle.std.proofs.lemmas.Str.Pattern.{starts_text}
 use Rattle.scott_requests.specs.Parts.{file_name, after_prefix, number_of}
-use Rattle.scott_requests.specs.Settings.{draws, listed, seeded, style, style_named, play_setting}
+use Rattle.scott_requests.specs.Settings.{draws, listed, seeded, style, style_named, play_setting, most_steps, steps_of, word_width, width_of, run_setting}
 
 -- a text that begins otherwise
 pub prefix_missing : (p s : List ℕ) → FindsTextPrefix p s None → after_prefix p s ≡ None
@@ -27,3 +27,13 @@ module _ (a b c : Option (List ℕ)) where
 
   pub by_no_prefix : a ≡ None → b ≡ None → c ≡ None → None ≡ play_setting a b c
   by_no_prefix first second third = rw (first, second, third) refl
+
+module _ (a b : Option (List ℕ)) where
+  pub by_steps : (digits : List ℕ) → a ≡ Some digits → option_map most_steps (steps_of digits) ≡ run_setting a b
+  by_steps digits first = rw first refl
+
+  pub by_words : (text : List ℕ) → a ≡ None → b ≡ Some text → option_map word_width (width_of text) ≡ run_setting a b
+  by_words text first second = rw (first, second) refl
+
+  pub by_neither : a ≡ None → b ≡ None → None ≡ run_setting a b
+  by_neither first second = rw (first, second) refl
