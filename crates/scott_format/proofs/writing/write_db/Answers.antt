@@ -1,9 +1,16 @@
-use Rattle.std.proofs.Common.{◌++◌, ◌∙◌, List, ℕ, ap}
+use Rattle.std.proofs.Common.{◌≡◌, ◌++◌, ◌∙◌, List, ℕ, ap}
+use Rattle.std.specs.List.{list_all}
+use Rattle.std.proofs.lemmas.Bool.{and_parts}
 use Rattle.std.proofs.lemmas.Result.{err_from_is_err_and}
-use Rattle.scott_types.specs.Database.{database_of}
+use Rattle.scott_types.specs.Limits.{KeepsLimits, KeepsEntryLimits, is_file_text}
+use Rattle.scott_types.specs.Database.{Database, database_of}
 use Rattle.scott_format.specs.Canon.{line_text, lines_text, header_line, action_line, word_line, room_line, string_line, item_line, trailer_line, canon}
 use Rattle.scott_format.proofs.Texts.{eight_written}
 use Rattle.scott_format.proofs.writing.write_db.Goals as goal
+
+-- the entries of a database that keeps the limits keep theirs
+entries_kept : (parts db : Database) → parts ≡ db → KeepsLimits db → KeepsEntryLimits parts
+entries_kept parts db is kept = rw is kept.entries
 
 pub returns : goal.returns
 returns c =
@@ -46,3 +53,23 @@ returns-in_err-put_lines-6 c = let p = err_from_is_err_and c.from_residual-in_er
 
 pub returns-in_err-put_trailer : goal.returns-in_err-put_trailer
 returns-in_err-put_trailer c = let p = err_from_is_err_and c.from_residual-in_err-put_trailer.result c.from_residual-in_err-put_trailer.ensures.1 in rw (p.1) tt
+
+pub put_lines-requires : goal.put_lines-requires
+put_lines-requires c =
+    rw c.deref.ensures.value (entries_kept _ _ c.parts-parts.ensures.value c.parts-parts.ensures.kept).actions
+
+pub put_lines-requires-2 : goal.put_lines-requires-2
+put_lines-requires-2 c =
+    rw c.deref-2.ensures.value (entries_kept _ _ c.parts-parts.ensures.value c.parts-parts.ensures.kept).words
+
+pub put_lines-requires-3 : goal.put_lines-requires-3
+put_lines-requires-3 c =
+    rw c.deref-3.ensures.value (entries_kept _ _ c.parts-parts.ensures.value c.parts-parts.ensures.kept).rooms
+
+pub put_lines-requires-4 : goal.put_lines-requires-4
+put_lines-requires-4 c =
+    rw c.deref-4.ensures.value (and_parts (list_all is_file_text c.parts-parts.result.now.messages.items) _ (entries_kept _ _ c.parts-parts.ensures.value c.parts-parts.ensures.kept).texts).0
+
+pub put_lines-requires-5 : goal.put_lines-requires-5
+put_lines-requires-5 c =
+    rw c.deref-5.ensures.value (entries_kept _ _ c.parts-parts.ensures.value c.parts-parts.ensures.kept).items
