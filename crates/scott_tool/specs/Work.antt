@@ -53,6 +53,19 @@ task_statuses (playing style db draws) = 0 ∷ []
 task_statuses (translating name style width db) = 0 ∷ []
 task_statuses (running width p draws steps) = 0 ∷ 8 ∷ 10 ∷ []
 
+-- a database is to be played in this style with these draws, where they are accepted
+abbrev pub played_with : Style → Database → Result (List ℕ) Unfit → Result Task Unfit
+played_with style db drawn = do
+  draws ← drawn
+  Ok (playing style db draws)
+
+-- a program is to be run for words of this width and so many steps at most, with these draws, where
+-- they are accepted
+abbrev pub run_with : Width → List DirectiveTree → ℕ → Result (List ℕ) Unfit → Result Task Unfit
+run_with width p steps drawn = do
+  draws ← drawn
+  Ok (running width p draws steps)
+
 -- The task of a request, by what was loaded; or the first content that is refused, the database
 -- before the draws.
 abbrev pub work : Request → Texts → Result Task Unfit
@@ -67,16 +80,14 @@ work (decompile game source) texts = do
   Ok (storing source (plain db))
 work (play game source style) texts = do
   db ← database_of_file game texts.main
-  draws ← draws_from source texts.draws
-  Ok (playing style db draws)
+  played_with style db (draws_from source texts.draws)
 work (translate game program style width) texts = do
   db ← database_of_file game texts.main
   fit ← translatable game width db
   Ok (translating program style width fit)
 work (run program source steps width) texts = do
   p ← program_of_file width program texts.main
-  draws ← draws_from source texts.draws
-  Ok (running width p draws steps)
+  run_with width p steps (draws_from source texts.draws)
 
 -- ---- what is expected of the words, by the files that there are
 

@@ -1,16 +1,15 @@
 //! `play F`: a database is played on the console.
-ghost use Rattle.std.specs.Prelude.{◌≡◌, ◌≤◌, Ok, length};
+ghost use Rattle.std.specs.Prelude.{◌≤◌, Ok, length};
 ghost use Rattle.scott_requests.specs.Request.{play};
 ghost use Rattle.scott_requests.specs.Views.{source_of};
 ghost use Rattle.scott_tool.specs.Refusal.{refusing};
-ghost use Rattle.scott_tool.specs.Work.{playing, work};
+ghost use Rattle.scott_tool.specs.Work.{playing, played_with, work};
 ghost use Rattle.scott_tool.specs.Views.{texts_in};
-ghost use Rattle.scott_tool.specs.Obeying.{Gives, ObeysAlone};
-ghost use Rattle.scott_types.specs.declared.styles.Style.{Style as AnyStyle};
+ghost use Rattle.scott_tool.specs.Obeying.{ObeysAlone};
+ghost use Rattle.scott_tool.specs.Play.{draws_from};
 
 use crate::contents::{database, draws_from};
 use crate::loads::Texts;
-use crate::refusals::Refusal;
 use adv_draws::Draws;
 use adv_io::Console;
 use scott_format::DATABASE_LIMIT;
@@ -19,22 +18,6 @@ use scott_turn::Session;
 use scott_types::{Db, Style};
 use std::alloc::Global;
 use std::mem::forget;
-
-// A database, and the draws with which it is played.
-fn game_and_draws<'a>(
-    alloc: Global,
-    game: &'a str,
-    source: DrawSource<'a>,
-    texts: &Texts,
-) -> Result<(Db, Draws), Refusal<'a>>
-    requires { length texts.now.main.items ≤ DATABASE_LIMIT }
-    ensures { (style : AnyStyle) → Gives (λ made. playing style made.0 made.1.left) result
-        (work (play game.now (source_of source.entry) style) (texts_in texts.now)) }
-{
-    let db = database(alloc, game, &texts.main)?;
-    let draws = draws_from(alloc, source, &texts.draws)?;
-    Ok((db, draws))
-}
 
 // Plays a database in a style with these draws.
 fn play_with<C: Console>(
@@ -56,6 +39,25 @@ fn play_with<C: Console>(
     }
 }
 
+// Plays a database in a style with the draws of this source.
+fn play_from<C: Console>(
+    alloc: Global,
+    db: &Db,
+    source: DrawSource<'_>,
+    style: Style,
+    texts: &Texts,
+    console: &mut C,
+) -> u8
+    ensures { ObeysAlone (C.seen console.old) (C.seen console.new)
+        (refusing (played_with style db.now
+        (draws_from (source_of source.entry) texts.now.draws.items))) result }
+{
+    match draws_from(alloc, source, &texts.draws) {
+        Ok(draws) => play_with(alloc, db, style, draws, console),
+        Err(refusal) => refusal.end(console),
+    }
+}
+
 /// Plays a database in a style.
 pub fn play<C: Console>(
     alloc: Global,
@@ -70,13 +72,12 @@ pub fn play<C: Console>(
         (refusing (work (play game.now (source_of source.entry) style)
         (texts_in texts.now))) result }
 {
-    match game_and_draws(alloc, game, source, texts) {
-        Ok((db, draws)) => {
-            let status = play_with(alloc, &db, style, draws, console);
-            // The system takes the database's memory back at once when the program ends.
-            forget(db);
-            status
-        }
-        Err(refusal) => refusal.end(console),
-    }
+    let db = match database(alloc, game, &texts.main) {
+        Ok(db) => db,
+        Err(refusal) => return refusal.end(console),
+    };
+    let status = play_from(alloc, &db, source, style, texts, console);
+    // The system takes the database's memory back at once when the program ends.
+    forget(db);
+    status
 }

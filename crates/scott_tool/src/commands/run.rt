@@ -1,5 +1,5 @@
 //! `run G`: an Inform program is run on the console.
-ghost use Rattle.std.specs.Prelude.{◌≡◌, ℕ, Ok, IfOk};
+ghost use Rattle.std.specs.Prelude.{◌≡◌, Ok};
 ghost use Rattle.adv_io.specs.Console.{Speaks};
 ghost use Rattle.adv_io.specs.History.{says};
 ghost use Rattle.inform_names.specs.Views.{directives_of};
@@ -8,13 +8,14 @@ ghost use Rattle.scott_requests.specs.Request.{run};
 ghost use Rattle.scott_requests.specs.Views.{source_of};
 ghost use Rattle.scott_tool.specs.Refusal.{refusing};
 ghost use Rattle.scott_tool.specs.Run.{trap_opening, within, trap_end, steps_spent, routine_name, trap_line, stop_line, stop_status};
-ghost use Rattle.scott_tool.specs.Work.{running, work};
+ghost use Rattle.scott_tool.specs.Work.{running, run_with, work};
 ghost use Rattle.scott_tool.specs.Views.{texts_in};
-ghost use Rattle.scott_tool.specs.Obeying.{Gives, ObeysAlone};
+ghost use Rattle.scott_tool.specs.Obeying.{ObeysAlone};
+ghost use Rattle.scott_tool.specs.Play.{draws_from};
 
 use crate::contents::{draws_from, program};
 use crate::loads::Texts;
-use crate::refusals::{Refusal, concluded};
+use crate::refusals::concluded;
 use adv_draws::Draws;
 use adv_io::{Console, ConsoleFault, say_all};
 use inform_meaning::Trap;
@@ -114,24 +115,6 @@ fn stop_status(stop: Stop) -> u8
     }
 }
 
-// A program, and the draws with which it is run.
-fn program_and_draws<'a>(
-    alloc: Global,
-    name: &'a str,
-    source: DrawSource<'a>,
-    width: Width,
-    texts: &Texts,
-) -> Result<(Accepted, Draws), Refusal<'a>>
-    ensures width { IfOk result (λ made. made.0.width ≡ width) }
-    ensures given { (steps : ℕ) → Gives
-        (λ made. running width (directives_of made.0) made.1.left steps) result
-        (work (run name.now (source_of source.entry) steps width) (texts_in texts.now)) }
-{
-    let accepted = program(alloc, name, width, &texts.main)?;
-    let draws = draws_from(alloc, source, &texts.draws)?;
-    Ok((accepted, draws))
-}
-
 // Runs a program with these draws, for so many steps at most.
 fn run_with<C: Console>(
     alloc: Global,
@@ -152,6 +135,25 @@ fn run_with<C: Console>(
     }
 }
 
+// Runs a program with the draws of this source, for so many steps at most.
+fn run_from<C: Console>(
+    alloc: Global,
+    accepted: &Accepted,
+    source: DrawSource<'_>,
+    steps: u64,
+    texts: &Texts,
+    console: &mut C,
+) -> u8
+    ensures { ObeysAlone (C.seen console.old) (C.seen console.new)
+        (refusing (run_with accepted.now.width (directives_of accepted.now) steps
+        (draws_from (source_of source.entry) texts.now.draws.items))) result }
+{
+    match draws_from(alloc, source, &texts.draws) {
+        Ok(draws) => run_with(alloc, accepted, draws, steps, console),
+        Err(refusal) => refusal.end(console),
+    }
+}
+
 /// Runs a program.
 pub fn run<C: Console>(
     alloc: Global,
@@ -166,13 +168,12 @@ pub fn run<C: Console>(
         (refusing (work (run name.now (source_of source.entry) steps width)
         (texts_in texts.now))) result }
 {
-    match program_and_draws(alloc, name, source, width, texts) {
-        Ok((accepted, draws)) => {
-            let status = run_with(alloc, &accepted, draws, steps, console);
-            // The system takes the program's memory back at once when it ends.
-            forget(accepted);
-            status
-        }
-        Err(refusal) => refusal.end(console),
-    }
+    let accepted = match program(alloc, name, width, &texts.main) {
+        Ok(accepted) => accepted,
+        Err(refusal) => return refusal.end(console),
+    };
+    let status = run_from(alloc, &accepted, source, steps, texts, console);
+    // The system takes the program's memory back at once when it ends.
+    forget(accepted);
+    status
 }

@@ -1,19 +1,29 @@
-use Rattle.std.proofs.Common.{Result, sym, subst}
+use Rattle.std.proofs.Common.{List, ℕ, Result, Ok, sym, ap, subst}
+use Rattle.scott_types.specs.Database.{Database}
 use Rattle.scott_requests.specs.Request.{play}
 use Rattle.scott_requests.specs.Views.{source_of}
+use Rattle.scott_tool.specs.Steps.{◌>>=◌}
 use Rattle.scott_tool.specs.Refusal.{Unfit, refusing}
-use Rattle.scott_tool.specs.Work.{Task, work}
+use Rattle.scott_tool.specs.Check.{database_of_file}
+use Rattle.scott_tool.specs.Play.{draws_from}
+use Rattle.scott_tool.specs.Work.{Task, played_with, work}
 use Rattle.scott_tool.specs.Views.{refusal_of, texts_in}
 use Rattle.scott_tool.specs.Obeying.{Obeys}
+use Rattle.scott_tool.proofs.Declining.{declined-first}
 use Rattle.scott_tool.proofs.Obeying.{obeys-declined}
 use Rattle.scott_tool.proofs.commands.play.play.Goals as goal
 
-pub returns-in-Ok : goal.returns-in-Ok
-returns-in-Ok g c = λ shelf.
-    subst (λ (r : Result Task Unfit). Obeys shelf shelf (g.C.Console.seen c.args.console.now) (g.C.Console.seen c.play_with-status.new.console) (refusing r) c.play_with-status.result)
-    (sym (c.in-Ok.ensures c.args.style)) (c.play_with-status.ensures shelf)
+pub returns : goal.returns
+returns g c = λ shelf.
+    let drawn = draws_from (source_of c.args.source) c.args.texts.now.draws.items in
+    let given = ap (λ r. r >>= λ db. played_with c.args.style db drawn) (rw c.deref.ensures.value at c.in-Ok.ensures) in
+    subst (λ (r : Result Task Unfit). Obeys shelf shelf (g.C.Console.seen c.args.console.now) (g.C.Console.seen c.play_from-status.new.console) (refusing r) c.play_from-status.result)
+    (sym given) (c.play_from-status.ensures shelf)
 
 pub returns-in-Err : goal.returns-in-Err
 returns-in-Err g c = λ shelf.
+    let drawn = draws_from (source_of c.args.source) c.args.texts.now.draws.items in
     obeys-declined (g.C.Console.seen c.args.console.now) (g.C.Console.seen c.end.new.console) c.end.result shelf
-    (work (play c.args.game.now (source_of c.args.source) c.args.style) (texts_in c.args.texts.now)) (refusal_of c.in-Err.refusal) (c.in-Err.ensures c.args.style) c.end.ensures
+    (work (play c.args.game.now (source_of c.args.source) c.args.style) (texts_in c.args.texts.now)) (refusal_of c.in-Err.refusal)
+    (declined-first (database_of_file c.args.game.now c.args.texts.now.main.items) (λ (db : Database). played_with c.args.style db drawn) (refusal_of c.in-Err.refusal)
+    (rw c.deref.ensures.value at c.in-Err.ensures)) c.end.ensures
