@@ -7,32 +7,26 @@ use adv_io::Line;
 use scott_format::{DATABASE_LIMIT, read_db};
 use scott_turn::Session;
 use scott_types::{Db, Ending, Position, Style};
-use std::alloc::Global;
-use std::test::Fail;
+use std::process::Abort;
 
-fn database(alloc: Global) -> Result<Db, Fail> {
-    let text = T.text(alloc)?;
-    if text.len() > DATABASE_LIMIT {
-        return Err(Fail::from("the limit"));
-    }
-    let db = read_db(alloc, text.as_bytes()).ok().ok_or("no database")?;
-    Ok(db)
+// The database of a game.
+fn database<R: Abort + AllocGlobal>(rt: &R) -> Db {
+    let text = T.text(rt.alloc()).expect(rt, "memory");
+    expect!(rt; text.len() <= DATABASE_LIMIT);
+    read_db(rt.alloc(), text.as_bytes()).expect(rt, "a database")
 }
 
 // A session that is handed its lines says what a play of them says, and takes none from its
 // console.
 #[test]
-fn lines_are_handed_in(rt: HostRuntime) -> Result<(), Fail> {
-    let alloc = rt.alloc();
-    let db = database(alloc)?;
-    let Ok(mut session) = Session::open(alloc, &db, Style::plain()) else {
-        return Err(Fail::from("no session"));
-    };
+fn lines_are_handed_in(rt: HostRuntime) {
+    let db = database(&rt);
+    let mut console = console_of(&rt, &NOTHING);
     let mut draws = Draws::seeded(1);
-    let mut console = console_of(alloc, &NOTHING)?;
-    let Ok(first) = session.hear(&mut draws, None, &mut console) else {
-        return Err(Fail::from("the console failed"));
-    };
+    let mut session = Session::open(rt.alloc(), &db, Style::plain()).expect(&rt, "memory");
+    let first = session
+        .hear(&mut draws, None, &mut console)
+        .expect(&rt, "the console");
     expect!(rt; first == Ending::NeedsLine);
     expect!(rt; console.said().len() == 79);
     let line = Line::of(b"GO NORTH");
@@ -42,5 +36,4 @@ fn lines_are_handed_in(rt: HostRuntime) -> Result<(), Fail> {
     expect!(rt; session.state().room == 2);
     expect!(rt; session.position() == Position::Line);
     expect!(rt; draws.taken() == 0);
-    Ok(())
 }

@@ -3,9 +3,7 @@ use crate::expect;
 use crate::games::Game;
 use adv_io::{Line, MemoryConsole, MemoryShelf, Shelf};
 use scott_tool::scott;
-use std::alloc::Global;
 use std::process::Abort;
-use std::test::Fail;
 
 /// A file: none, these bytes, these pieces, or the text of a game.
 #[derive(Clone, Copy)]
@@ -49,105 +47,94 @@ pub const NOTHING: Case<'static> = Case {
 };
 
 // The words of a command, which blanks part.
-fn words_of(alloc: Global, command: &str) -> Result<Vec<String>, Fail> {
-    let mut words = Vec::new(alloc);
+fn words_of<R: Abort + AllocGlobal>(rt: &R, command: &str) -> Vec<String> {
+    let mut words = Vec::new(rt.alloc());
     for word in command.split(' ') {
-        words.push(String::from_str(alloc, word)?)?;
+        let word = String::from_str(rt.alloc(), word).expect(rt, "memory");
+        words.push(word).expect(rt, "memory");
     }
-    Ok(words)
-}
-
-fn joined(alloc: Global, pieces: &[&str]) -> Result<Vec<u8>, Fail> {
-    let mut bytes = Vec::new(alloc);
-    for piece in pieces {
-        bytes.extend_from_slice(piece.as_bytes())?;
-    }
-    Ok(bytes)
+    words
 }
 
 // The bytes of a file, if there is one.
-fn bytes_of(alloc: Global, file: &File<'_>) -> Result<Option<Vec<u8>>, Fail> {
+fn bytes_of<R: Abort + AllocGlobal>(rt: &R, file: &File<'_>) -> Option<Vec<u8>> {
     match file {
-        File::Absent => Ok(None),
-        File::Bytes(bytes) => Ok(Some(bytes.to_vec(alloc)?)),
-        File::Pieces(pieces) => Ok(Some(joined(alloc, pieces)?)),
-        File::Of(game) => Ok(Some(game.text(alloc)?.into_bytes())),
+        File::Absent => None,
+        File::Bytes(bytes) => Some(bytes.to_vec(rt.alloc()).expect(rt, "memory")),
+        File::Pieces(pieces) => Some(joined(rt, pieces)),
+        File::Of(game) => Some(game.text(rt.alloc()).expect(rt, "memory").into_bytes()),
     }
+}
+
+fn joined<R: Abort + AllocGlobal>(rt: &R, pieces: &[&str]) -> Vec<u8> {
+    let mut bytes = Vec::new(rt.alloc());
+    for piece in pieces {
+        bytes
+            .extend_from_slice(piece.as_bytes())
+            .expect(rt, "memory");
+    }
+    bytes
 }
 
 // Stores a file under a name, if there is one.
-fn put(alloc: Global, shelf: &mut MemoryShelf, name: &str, file: &File<'_>) -> Result<(), Fail> {
-    if let Some(bytes) = bytes_of(alloc, file)? {
-        let _ = shelf.store(alloc, name, &bytes);
+fn put<R: Abort + AllocGlobal>(rt: &R, shelf: &mut MemoryShelf, name: &str, file: &File<'_>) {
+    if let Some(bytes) = bytes_of(rt, file) {
+        let _ = shelf.store(rt.alloc(), name, &bytes);
     }
-    Ok(())
 }
 
 // A shelf with the files of a case, stored in their order.
-fn shelf_of(alloc: Global, case: &Case<'_>) -> Result<MemoryShelf, Fail> {
-    let failing = case.failing_loads.to_vec(alloc)?;
-    let mut shelf = MemoryShelf::new(Vec::new(alloc), failing);
-    put(alloc, &mut shelf, "t.dat", &case.game)?;
-    put(alloc, &mut shelf, "t.adv", &case.source)?;
-    put(alloc, &mut shelf, "g.inf", &case.program)?;
+fn shelf_of<R: Abort + AllocGlobal>(rt: &R, case: &Case<'_>) -> MemoryShelf {
+    let failing = case.failing_loads.to_vec(rt.alloc()).expect(rt, "memory");
+    let mut shelf = MemoryShelf::new(Vec::new(rt.alloc()), failing);
+    put(rt, &mut shelf, "t.dat", &case.game);
+    put(rt, &mut shelf, "t.adv", &case.source);
+    put(rt, &mut shelf, "g.inf", &case.program);
     if let Some(draws) = case.draws {
-        let _ = shelf.store(alloc, "d.txt", draws);
+        let _ = shelf.store(rt.alloc(), "d.txt", draws);
     }
-    Ok(shelf)
+    shelf
 }
 
 /// A console that gives the lines of a case.
-pub fn console_of(alloc: Global, case: &Case<'_>) -> Result<MemoryConsole, Fail> {
-    let mut lines = Vec::new(alloc);
+pub fn console_of<R: Abort + AllocGlobal>(rt: &R, case: &Case<'_>) -> MemoryConsole {
+    let mut lines = Vec::new(rt.alloc());
     for line in case.lines {
-        lines.push(Line::of(line))?;
+        lines.push(Line::of(line)).expect(rt, "memory");
     }
-    let failing = case.failing_calls.to_vec(alloc)?;
-    Ok(MemoryConsole::new(alloc, lines, failing, 65_536)?)
-}
-
-/// Has words obeyed on a shelf, with the lines of a case: their status, and the console after it.
-pub fn obeyed(
-    alloc: Global,
-    words: &[String],
-    case: &Case<'_>,
-    shelf: &mut MemoryShelf,
-) -> Result<(u8, MemoryConsole), Fail> {
-    let mut console = console_of(alloc, case)?;
-    let status = scott(alloc, words, shelf, &mut console);
-    Ok((status, console))
+    let failing = case.failing_calls.to_vec(rt.alloc()).expect(rt, "memory");
+    MemoryConsole::new(rt.alloc(), lines, failing, 65_536).expect(rt, "memory")
 }
 
 // Gives a command to a shelf, with the lines of a case: its status, and the console after it.
-fn given(
-    alloc: Global,
+fn given<R: Abort + AllocGlobal>(
+    rt: &R,
     command: &str,
     case: &Case<'_>,
     shelf: &mut MemoryShelf,
-) -> Result<(u8, MemoryConsole), Fail> {
-    let words = words_of(alloc, command)?;
-    obeyed(alloc, &words, case, shelf)
+) -> (u8, MemoryConsole) {
+    let words = words_of(rt, command);
+    let mut console = console_of(rt, case);
+    let status = scott(rt.alloc(), &words, shelf, &mut console);
+    (status, console)
 }
 
 /// Gives a command: its status, and the console and the shelf after it.
-pub fn answer_of(alloc: Global, case: &Case<'_>) -> Result<(u8, MemoryConsole, MemoryShelf), Fail> {
-    let mut shelf = shelf_of(alloc, case)?;
-    let (status, console) = given(alloc, case.command, case, &mut shelf)?;
-    Ok((status, console, shelf))
+pub fn answer_of<R: Abort + AllocGlobal>(
+    rt: &R,
+    case: &Case<'_>,
+) -> (u8, MemoryConsole, MemoryShelf) {
+    let mut shelf = shelf_of(rt, case);
+    let (status, console) = given(rt, case.command, case, &mut shelf);
+    (status, console, shelf)
 }
 
 // Expects a file after a command.
-fn expect_file<R: Abort + AllocGlobal>(
-    rt: &R,
-    shelf: &MemoryShelf,
-    name: &str,
-    file: &File<'_>,
-) -> Result<(), Fail> {
-    match bytes_of(rt.alloc(), file)? {
+fn expect_file<R: Abort + AllocGlobal>(rt: &R, shelf: &MemoryShelf, name: &str, file: &File<'_>) {
+    match bytes_of(rt, file) {
         Some(bytes) => expect!(rt; shelf.file(name) == Some(bytes.as_slice()), name),
         None => expect!(rt; shelf.file(name) == None, name),
     }
-    Ok(())
 }
 
 /// A play, and the two commands that translate its game and run what is stored.
@@ -165,34 +152,30 @@ fn expect_given<R: Abort + AllocGlobal>(
     case: &Case<'_>,
     shelf: &mut MemoryShelf,
     said: &[u8],
-) -> Result<(), Fail> {
-    let (status, console) = given(rt.alloc(), command, case, shelf)?;
+) {
+    let (status, console) = given(rt, command, case, shelf);
     expect!(rt; status == 0, command);
     expect!(rt; console.said() == said, command);
-    Ok(())
 }
 
 /// Plays a game, translates it without a word, and expects that the run of what is stored says what
 /// the play says. Gives the shelf with it.
-pub fn expect_translated<R: Abort + AllocGlobal>(
-    rt: &R,
-    case: &Translated<'_>,
-) -> Result<MemoryShelf, Fail> {
-    let played = expect(rt, &case.play)?;
-    let mut shelf = shelf_of(rt.alloc(), &case.play)?;
-    expect_given(rt, case.translate, &NOTHING, &mut shelf, b"")?;
-    expect_given(rt, case.run, &case.play, &mut shelf, played.said())?;
-    Ok(shelf)
+pub fn expect_translated<R: Abort + AllocGlobal>(rt: &R, case: &Translated<'_>) -> MemoryShelf {
+    let played = expect(rt, &case.play);
+    let mut shelf = shelf_of(rt, &case.play);
+    expect_given(rt, case.translate, &NOTHING, &mut shelf, b"");
+    expect_given(rt, case.run, &case.play, &mut shelf, played.said());
+    shelf
 }
 
 /// Gives a command, and expects its status, what is said, and the files after it.
-pub fn expect<R: Abort + AllocGlobal>(rt: &R, case: &Case<'_>) -> Result<MemoryConsole, Fail> {
-    let said = joined(rt.alloc(), case.said)?;
-    let (status, console, shelf) = answer_of(rt.alloc(), case)?;
+pub fn expect<R: Abort + AllocGlobal>(rt: &R, case: &Case<'_>) -> MemoryConsole {
+    let said = joined(rt, case.said);
+    let (status, console, shelf) = answer_of(rt, case);
     expect!(rt; status == case.status, case.command);
     expect!(rt; console.said() == said.as_slice(), case.command);
     for (name, file) in case.after {
-        expect_file(rt, &shelf, name, file)?;
+        expect_file(rt, &shelf, name, file);
     }
-    Ok(console)
+    console
 }
