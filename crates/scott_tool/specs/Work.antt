@@ -54,15 +54,15 @@ task_statuses (translating name style width db) = 0 ∷ []
 task_statuses (running width p draws steps) = 0 ∷ 8 ∷ 10 ∷ []
 
 -- a database is to be played in this style with these draws, where they are accepted
-abbrev pub played_with : Style → Database → Result (List ℕ) Unfit → Result Task Unfit
-played_with style db drawn = do
+abbrev pub playing_from : Style → Database → Result (List ℕ) Unfit → Result Task Unfit
+playing_from style db drawn = do
   draws ← drawn
   Ok (playing style db draws)
 
 -- a program is to be run for words of this width and so many steps at most, with these draws, where
 -- they are accepted
-abbrev pub run_with : Width → List DirectiveTree → ℕ → Result (List ℕ) Unfit → Result Task Unfit
-run_with width p steps drawn = do
+abbrev pub running_from : Width → List DirectiveTree → ℕ → Result (List ℕ) Unfit → Result Task Unfit
+running_from width p steps drawn = do
   draws ← drawn
   Ok (running width p draws steps)
 
@@ -80,14 +80,14 @@ work (decompile game source) texts = do
   Ok (storing source (plain db))
 work (play game source style) texts = do
   db ← database_of_file game texts.main
-  played_with style db (draws_from source texts.draws)
+  playing_from style db (draws_from source texts.draws)
 work (translate game program style width) texts = do
   db ← database_of_file game texts.main
   fit ← translatable game width db
   Ok (translating program style width fit)
 work (run program source steps width) texts = do
   p ← program_of_file width program texts.main
-  run_with width p steps (draws_from source texts.draws)
+  running_from width p steps (draws_from source texts.draws)
 
 -- ---- what is expected of the words, by the files that there are
 

@@ -3,7 +3,7 @@ ghost use Rattle.std.specs.Prelude.{◌≤◌, Ok, length};
 ghost use Rattle.scott_requests.specs.Request.{play};
 ghost use Rattle.scott_requests.specs.Views.{source_of};
 ghost use Rattle.scott_tool.specs.Refusal.{refusing};
-ghost use Rattle.scott_tool.specs.Work.{playing, played_with, work};
+ghost use Rattle.scott_tool.specs.Work.{playing, playing_from, work};
 ghost use Rattle.scott_tool.specs.Views.{texts_in};
 ghost use Rattle.scott_tool.specs.Obeying.{ObeysAlone};
 ghost use Rattle.scott_tool.specs.Play.{draws_from};
@@ -49,7 +49,7 @@ fn play_from<C: Console>(
     console: &mut C,
 ) -> u8
     ensures { ObeysAlone (C.seen console.old) (C.seen console.new)
-        (refusing (played_with style db.now
+        (refusing (playing_from style db.now
         (draws_from (source_of source.entry) texts.now.draws.items))) result }
 {
     match draws_from(alloc, source, &texts.draws) {

@@ -8,7 +8,7 @@ ghost use Rattle.scott_requests.specs.Request.{run};
 ghost use Rattle.scott_requests.specs.Views.{source_of};
 ghost use Rattle.scott_tool.specs.Refusal.{refusing};
 ghost use Rattle.scott_tool.specs.Run.{trap_opening, within, trap_end, steps_spent, routine_name, trap_line, stop_line, stop_status};
-ghost use Rattle.scott_tool.specs.Work.{running, run_with, work};
+ghost use Rattle.scott_tool.specs.Work.{running, running_from, work};
 ghost use Rattle.scott_tool.specs.Views.{texts_in};
 ghost use Rattle.scott_tool.specs.Obeying.{ObeysAlone};
 ghost use Rattle.scott_tool.specs.Play.{draws_from};
@@ -145,7 +145,7 @@ fn run_from<C: Console>(
     console: &mut C,
 ) -> u8
     ensures { ObeysAlone (C.seen console.old) (C.seen console.new)
-        (refusing (run_with accepted.now.width (directives_of accepted.now) steps
+        (refusing (running_from accepted.now.width (directives_of accepted.now) steps
         (draws_from (source_of source.entry) texts.now.draws.items))) result }
 {
     match draws_from(alloc, source, &texts.draws) {

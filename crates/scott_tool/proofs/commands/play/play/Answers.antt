@@ -6,7 +6,7 @@ use Rattle.scott_tool.specs.Steps.{◌>>=◌}
 use Rattle.scott_tool.specs.Refusal.{Unfit, refusing}
 use Rattle.scott_tool.specs.Check.{database_of_file}
 use Rattle.scott_tool.specs.Play.{draws_from}
-use Rattle.scott_tool.specs.Work.{Task, played_with, work}
+use Rattle.scott_tool.specs.Work.{Task, playing_from, work}
 use Rattle.scott_tool.specs.Views.{refusal_of, texts_in}
 use Rattle.scott_tool.specs.Obeying.{Obeys}
 use Rattle.scott_tool.proofs.Declining.{declined-first}
@@ -16,7 +16,7 @@ use Rattle.scott_tool.proofs.commands.play.play.Goals as goal
 pub returns : goal.returns
 returns g c = λ shelf.
     let drawn = draws_from (source_of c.args.source) c.args.texts.now.draws.items in
-    let given = ap (λ r. r >>= λ db. played_with c.args.style db drawn) (rw c.deref.ensures.value at c.in-Ok.ensures) in
+    let given = ap (λ r. r >>= λ db. playing_from c.args.style db drawn) (rw c.deref.ensures.value at c.in-Ok.ensures) in
     subst (λ (r : Result Task Unfit). Obeys shelf shelf (g.C.Console.seen c.args.console.now) (g.C.Console.seen c.play_from-status.new.console) (refusing r) c.play_from-status.result)
     (sym given) (c.play_from-status.ensures shelf)
 
@@ -25,5 +25,5 @@ returns-in-Err g c = λ shelf.
     let drawn = draws_from (source_of c.args.source) c.args.texts.now.draws.items in
     obeys-declined (g.C.Console.seen c.args.console.now) (g.C.Console.seen c.end.new.console) c.end.result shelf
     (work (play c.args.game.now (source_of c.args.source) c.args.style) (texts_in c.args.texts.now)) (refusal_of c.in-Err.refusal)
-    (declined-first (database_of_file c.args.game.now c.args.texts.now.main.items) (λ (db : Database). played_with c.args.style db drawn) (refusal_of c.in-Err.refusal)
+    (declined-first (database_of_file c.args.game.now c.args.texts.now.main.items) (λ (db : Database). playing_from c.args.style db drawn) (refusal_of c.in-Err.refusal)
     (rw c.deref.ensures.value at c.in-Err.ensures)) c.end.ensures

@@ -3,7 +3,7 @@ use Rattle.inform_names.specs.Views.{directives_of}
 use Rattle.scott_requests.specs.Views.{source_of}
 use Rattle.scott_tool.specs.Refusal.{Unfit, refusing}
 use Rattle.scott_tool.specs.Play.{draws_from}
-use Rattle.scott_tool.specs.Work.{Task, running, run_with}
+use Rattle.scott_tool.specs.Work.{Task, running, running_from}
 use Rattle.scott_tool.specs.Views.{refusal_of}
 use Rattle.scott_tool.specs.Obeying.{Obeys}
 use Rattle.scott_tool.proofs.Declining.{declined-first}
@@ -13,7 +13,7 @@ use Rattle.scott_tool.proofs.commands.run.run_from.Goals as goal
 pub returns-in-Ok : goal.returns-in-Ok
 returns-in-Ok g c = λ shelf.
     let accepted = c.args.accepted.now in
-    let given = ap (run_with accepted.width (directives_of accepted) c.args.steps) (rw c.deref.ensures.value at c.in-Ok.ensures) in
+    let given = ap (running_from accepted.width (directives_of accepted) c.args.steps) (rw c.deref.ensures.value at c.in-Ok.ensures) in
     subst (λ (r : Result Task Unfit). Obeys shelf shelf (g.C.Console.seen c.args.console.now) (g.C.Console.seen c.run_with.new.console) (refusing r) c.run_with.result)
     (sym given) (c.run_with.ensures shelf)
 
@@ -22,6 +22,6 @@ returns-in-Err g c = λ shelf.
     let accepted = c.args.accepted.now in
     let drawn = draws_from (source_of c.args.source) c.args.texts.now.draws.items in
     obeys-declined (g.C.Console.seen c.args.console.now) (g.C.Console.seen c.end.new.console) c.end.result shelf
-    (run_with accepted.width (directives_of accepted) c.args.steps drawn) (refusal_of c.in-Err.refusal)
+    (running_from accepted.width (directives_of accepted) c.args.steps drawn) (refusal_of c.in-Err.refusal)
     (declined-first drawn (λ draws. Ok (running accepted.width (directives_of accepted) draws c.args.steps)) (refusal_of c.in-Err.refusal)
     (rw c.deref.ensures.value at c.in-Err.ensures)) c.end.ensures
