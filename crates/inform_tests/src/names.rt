@@ -1,59 +1,33 @@
 //! Acceptance: each fault of a program, the limits on both sides, the order of faults, look-ups.
-use super::texts::{program_of, repeated};
+use super::texts::{joined, program_of, put_many};
 use crate::expect;
 use inform_names::{Accepted, Kind, Names, Value, accept};
 use inform_tree::{Const, Directive, Name, Program, Width};
 use itoa::Buffer;
-use std::alloc::Global;
 use std::process::Abort;
-use std::test::Fail;
 
 // ---- what is said of a program
 
 // "accepted", or what is said of the first fault.
-fn judged(alloc: Global, program: Program, width: Width) -> Result<Vec<u8>, Fail> {
-    match accept(alloc, program, width) {
-        Ok(_accepted) => Ok(b"accepted".to_vec(alloc)?),
-        Err((_program, fault)) => {
-            let mut digits = Buffer::new();
-            let mut said = Vec::new(alloc);
-            for piece in fault.pieces(&mut digits) {
-                said.extend_from_slice(piece)?;
-            }
-            Ok(said)
-        }
-    }
+fn judged<R: Abort + AllocGlobal>(rt: &R, program: Program, width: Width) -> Vec<u8> {
+    let said = match accept(rt.alloc(), program, width) {
+        Ok(_accepted) => b"accepted".to_vec(rt.alloc()),
+        Err((_program, fault)) => fault.pieces(&mut Buffer::new()).concat(rt.alloc()),
+    };
+    said.expect(rt, "memory")
 }
 
-// Expects this of the program of a text, which stands in three parts.
-fn expect(
-    rt: &impl Abort,
-    alloc: Global,
-    parts: [&str; 3],
-    width: Width,
-    said: &str,
-) -> Result<(), Fail> {
-    let mut text = Vec::new(alloc);
-    for part in parts {
-        text.extend_from_slice(part.as_bytes())?;
-    }
-    let found = judged(alloc, program_of(alloc, &text)?, width)?;
-    expect!(rt; found.as_slice() == said.as_bytes(), parts[1]);
-    Ok(())
+// Expects this of the program of a text.
+fn expect_judged<R: Abort + AllocGlobal>(rt: &R, text: &str, width: Width, said: &str) {
+    let found = judged(rt, program_of(rt, text.as_bytes()), width);
+    expect!(rt; found.as_slice() == said.as_bytes(), text);
 }
 
 // What stands between two texts, and what is said of the whole where words have 16 bits.
-fn expect_all(
-    rt: &impl Abort,
-    alloc: Global,
-    before: &str,
-    rows: &[(&str, &str)],
-    after: &str,
-) -> Result<(), Fail> {
+fn expect_all<R: Abort + AllocGlobal>(rt: &R, before: &str, rows: &[(&str, &str)], after: &str) {
     for (text, said) in rows {
-        expect(rt, alloc, [before, text, after], Width::W16, said)?;
+        expect_judged(rt, &joined(rt, &[before, text, after]), Width::W16, said);
     }
-    Ok(())
 }
 
 const EMPTY_MAIN: &str = " [ Main; ];";
@@ -116,8 +90,8 @@ const DIRECTIVES: &[(&str, &str)] = &[
 ];
 
 #[test]
-fn directives(rt: HostRuntime) -> Result<(), Fail> {
-    expect_all(&rt, rt.alloc(), "", DIRECTIVES, EMPTY_MAIN)
+fn directives(rt: HostRuntime) {
+    expect_all(&rt, "", DIRECTIVES, EMPTY_MAIN);
 }
 
 const MAINS: &[(&str, &str)] = &[
@@ -129,8 +103,8 @@ const MAINS: &[(&str, &str)] = &[
 ];
 
 #[test]
-fn mains(rt: HostRuntime) -> Result<(), Fail> {
-    expect_all(&rt, rt.alloc(), "", MAINS, "")
+fn mains(rt: HostRuntime) {
+    expect_all(&rt, "", MAINS, "");
 }
 
 // ---- statements and values
@@ -179,8 +153,8 @@ const BODIES: &[(&str, &str)] = &[
 ];
 
 #[test]
-fn bodies(rt: HostRuntime) -> Result<(), Fail> {
-    expect_all(&rt, rt.alloc(), BEFORE_BODY, BODIES, " ];")
+fn bodies(rt: HostRuntime) {
+    expect_all(&rt, BEFORE_BODY, BODIES, " ];");
 }
 
 // Locals hide what has their names.
@@ -196,14 +170,8 @@ const WITH_LOCALS: &[(&str, &str)] = &[
 ];
 
 #[test]
-fn locals_hide(rt: HostRuntime) -> Result<(), Fail> {
-    expect_all(
-        &rt,
-        rt.alloc(),
-        BEFORE_LOCALS,
-        WITH_LOCALS,
-        " ]; [ Main; ];",
-    )
+fn locals_hide(rt: HostRuntime) {
+    expect_all(&rt, BEFORE_LOCALS, WITH_LOCALS, " ]; [ Main; ];");
 }
 
 // ---- both widths
@@ -229,80 +197,96 @@ const NUMBERS: &[(&str, &str, &str)] = &[
     ("4294967295", "number 4294967295 is too wide", "accepted"),
 ];
 
+// What stands between two texts, and what is said of the whole at 16 and at 32 bits.
+fn expect_both<R: Abort + AllocGlobal>(
+    rt: &R,
+    before: &str,
+    rows: &[(&str, &str, &str)],
+    after: &str,
+) {
+    for (text, narrow, wide) in rows {
+        let text = joined(rt, &[before, text, after]);
+        expect_judged(rt, &text, Width::W16, narrow);
+        expect_judged(rt, &text, Width::W32, wide);
+    }
+}
+
 #[test]
-fn widths(rt: HostRuntime) -> Result<(), Fail> {
-    let alloc = rt.alloc();
-    for (length, narrow, wide) in LENGTHS {
-        let parts = ["Array a --> ", length, "; [ Main; ];"];
-        expect(&rt, alloc, parts, Width::W16, narrow)?;
-        expect(&rt, alloc, parts, Width::W32, wide)?;
-    }
-    for (number, narrow, wide) in NUMBERS {
-        let parts = ["[ Main; return ", number, "; ];"];
-        expect(&rt, alloc, parts, Width::W16, narrow)?;
-        expect(&rt, alloc, parts, Width::W32, wide)?;
-    }
-    Ok(())
+fn lengths_have_two_widths(rt: HostRuntime) {
+    expect_both(&rt, "Array a --> ", LENGTHS, "; [ Main; ];");
+}
+
+#[test]
+fn numbers_have_two_widths(rt: HostRuntime) {
+    expect_both(&rt, "[ Main; return ", NUMBERS, "; ];");
 }
 
 // ---- many of a thing
 
-// A text, so many times another one, and a text; and what is said of the whole.
-const MANY: &[(&str, u32, &str, &str, &str)] = &[
-    ("[ R; ", 64, "{", "}", "accepted"),
-    ("[ R; ", 65, "{", "}", "r is nested too deeply"),
-    ("[ Main x x; ", 65, "{", "}", "main is nested too deeply"),
-    ("Array a -> ", 32767, "1 ", "", "accepted"),
-    ("Array a -> ", 32768, "1 ", "", "a has a wrong size"),
+// A text, what opens and what closes so many times, and a text; and what is said of the whole.
+const MANY: &[(&str, u32, [&str; 2], &str, &str)] = &[
+    ("[ R; ", 64, ["{", "}"], " ]; [ Main; ];", "accepted"),
+    (
+        "[ R; ",
+        65,
+        ["{", "}"],
+        " ]; [ Main; ];",
+        "r is nested too deeply",
+    ),
+    (
+        "[ Main x x; ",
+        65,
+        ["{", "}"],
+        " ];",
+        "main is nested too deeply",
+    ),
+    ("Array a -> ", 32767, ["1 ", ""], "; [ Main; ];", "accepted"),
+    (
+        "Array a -> ",
+        32768,
+        ["1 ", ""],
+        "; [ Main; ];",
+        "a has a wrong size",
+    ),
 ];
 
 #[test]
-fn many(rt: HostRuntime) -> Result<(), Fail> {
-    let alloc = rt.alloc();
-    for (before, count, opens, closes, said) in MANY {
-        let mut text = before.as_bytes().to_vec(alloc)?;
-        text.extend_from_slice(&repeated(alloc, opens, *count)?)?;
-        text.extend_from_slice(&repeated(alloc, closes, *count)?)?;
-        let end: &[u8] = if closes.is_empty() { b";" } else { b" ];" };
-        text.extend_from_slice(end)?;
-        if !before.starts_with("[ Main") {
-            text.extend_from_slice(EMPTY_MAIN.as_bytes())?;
-        }
-        let found = judged(alloc, program_of(alloc, &text)?, Width::W16)?;
-        assert!(rt; found.as_slice() == said.as_bytes(), "at {count} {opens}");
+fn many(rt: HostRuntime) {
+    for (before, count, [opens, closes], after, said) in MANY {
+        let mut text = joined(&rt, &[before]);
+        put_many(&rt, &mut text, opens, *count);
+        put_many(&rt, &mut text, closes, *count);
+        text.push_str(after).expect(&rt, "memory");
+        expect_judged(&rt, &text, Width::W16, said);
     }
-    Ok(())
 }
 
 // 122 arrays of 32,767 entries have 3,997,574 together, so that 2,426 more are let through.
+const LAST_LENGTHS: &[(&str, &str)] = &[
+    ("2425", "accepted"),
+    ("2426", "accepted"),
+    ("2427", "last has a wrong size"),
+];
+
 #[test]
-fn entries_together(rt: HostRuntime) -> Result<(), Fail> {
-    let alloc = rt.alloc();
-    for (last, said) in [
-        ("2425", "accepted"),
-        ("2426", "accepted"),
-        ("2427", "last has a wrong size"),
-    ] {
-        let mut text = String::new(alloc);
-        for number in 0..122 {
-            write!(text, "Array a{number} --> 32767;")?;
-        }
-        write!(text, "Array last --> {last}; [ Main; ];")?;
-        let found = judged(alloc, program_of(alloc, text.as_bytes())?, Width::W16)?;
-        assert!(rt; found.as_slice() == said.as_bytes(), "at {last}");
+fn entries_together(rt: HostRuntime) {
+    let mut text = String::new(rt.alloc());
+    for number in 0..122 {
+        write!(text, "Array a{number} --> 32767;").expect(&rt, "memory");
     }
-    Ok(())
+    text.push_str("Array last --> ").expect(&rt, "memory");
+    expect_all(&rt, &text, LAST_LENGTHS, "; [ Main; ];");
 }
 
 // An array without entries, which no text has.
 #[test]
-fn array_without_entries(rt: HostRuntime) -> Result<(), Fail> {
+fn array_without_entries(rt: HostRuntime) {
     let alloc = rt.alloc();
-    let word = Name::of(b"a".to_vec(alloc)?);
-    let directives = vec![in alloc; Directive::Array(word, false, Vec::new(alloc))]?;
-    let found = judged(alloc, Program { directives }, Width::W16)?;
+    let word = Name::of(b"a".to_vec(alloc).expect(&rt, "memory"));
+    let array = Directive::Array(word, false, Vec::new(alloc));
+    let directives = vec![in alloc; array].expect(&rt, "memory");
+    let found = judged(&rt, Program { directives }, Width::W16);
     expect!(rt; found.as_slice() == b"a has a wrong size".as_slice());
-    Ok(())
 }
 
 // ---- look-ups
@@ -331,40 +315,56 @@ fn value_of(names: &Names<'_>, word: &Name) -> Option<Value> {
 }
 
 // What the look-ups of the accepted sample give.
-fn look_up(rt: &impl Abort, alloc: Global, accepted: &Accepted) -> Result<(), Fail> {
-    let names = Names::of(alloc, accepted)?;
+const LOOKED_UP: &[(&str, Option<i64>, Option<Value>)] = &[
+    ("c", Some(-1), Some(Value::Word(-1))),
+    ("g", Some(1), Some(Value::Global(1))),
+    ("w", Some(9), None),
+    ("f", Some(3), None),
+    ("x", None, None),
+];
+
+// The sample, which is accepted.
+fn accepted<R: Abort + AllocGlobal>(rt: &R, width: Width) -> Accepted {
+    accept(rt.alloc(), program_of(rt, SAMPLE), width)
+        .ok()
+        .expect(rt, "a program")
+}
+
+fn expect_looked_up<R: Abort + AllocGlobal>(rt: &R, names: &Names<'_>) {
+    for (word, found, value) in LOOKED_UP {
+        let key = Name::of(word.as_bytes().to_vec(rt.alloc()).expect(rt, "memory"));
+        expect!(rt; looked_up(names, &key) == *found, word);
+        expect!(rt; value_of(names, &key) == *value, word);
+    }
+}
+
+const WIDTHS: &[Width] = &[Width::W16, Width::W32];
+
+#[test]
+fn names_are_looked_up(rt: HostRuntime) {
+    for width in WIDTHS {
+        let accepted = accepted(&rt, *width);
+        let names = Names::of(rt.alloc(), &accepted).expect(&rt, "memory");
+        expect_looked_up(&rt, &names);
+    }
+}
+
+// Expects that the accepted sample has its width, its directives and its `main`.
+fn expect_found(rt: &impl Abort, names: &Names<'_>, width: Width) {
+    let (at, main) = names.main();
+    expect!(rt; (at, main.name.bytes()) == (4, b"main".as_slice()));
+    expect!(rt; names.accepted().width() == width);
     expect!(rt; names.accepted().program().directives.len() == 5);
     expect!(rt; names.word(&Const::Minus(2)) == -2);
-    let (at, main) = names.main();
-    expect!(rt; at == 4);
-    expect!(rt; main.name.bytes() == b"main".as_slice());
-    for (word, found, value) in [
-        ("c", Some(-1), Some(Value::Word(-1))),
-        ("g", Some(1), Some(Value::Global(1))),
-        ("w", Some(9), None),
-        ("f", Some(3), None),
-        ("x", None, None),
-    ] {
-        let key = Name::of(word.as_bytes().to_vec(alloc)?);
-        expect!(rt; looked_up(&names, &key) == found, word);
-        expect!(rt; value_of(&names, &key) == value, word);
-    }
-    Ok(())
 }
 
 #[test]
-fn names_are_looked_up(rt: HostRuntime) -> Result<(), Fail> {
-    let alloc = rt.alloc();
-    for width in [Width::W16, Width::W32] {
-        match accept(alloc, program_of(alloc, SAMPLE)?, width) {
-            Ok(accepted) => {
-                expect!(rt; accepted.width() == width);
-                look_up(&rt, alloc, &accepted)?;
-            }
-            Err((_program, _fault)) => expect!(rt; false),
-        }
+fn main_and_constants_are_found(rt: HostRuntime) {
+    for width in WIDTHS {
+        let accepted = accepted(&rt, *width);
+        let names = Names::of(rt.alloc(), &accepted).expect(&rt, "memory");
+        expect_found(&rt, &names, *width);
     }
-    Ok(())
 }
 
 // `Global g;` and nothing else.
@@ -376,11 +376,9 @@ fn is_global_alone(program: &Program) -> bool {
 }
 
 #[test]
-fn refused_program_comes_back(rt: HostRuntime) -> Result<(), Fail> {
-    let alloc = rt.alloc();
-    match accept(alloc, program_of(alloc, b"Global g;")?, Width::W16) {
+fn refused_program_comes_back(rt: HostRuntime) {
+    match accept(rt.alloc(), program_of(&rt, b"Global g;"), Width::W16) {
         Ok(_accepted) => expect!(rt; false),
         Err((program, _fault)) => expect!(rt; is_global_alone(&program)),
     }
-    Ok(())
 }

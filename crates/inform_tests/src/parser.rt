@@ -1,11 +1,12 @@
 //! Texts that are programs, and texts that are none, with ample memory.
+use super::texts::{joined, put_many};
 use crate::expect;
 use inform_lexer::tokens;
 use inform_parser::{ParseFault, parse};
 use inform_tree::{Const, Directive, Expr, Program, Stmt};
 use itoa::Buffer;
-use std::alloc::{AllocError, Global};
-use std::test::Fail;
+use std::alloc::Global;
+use std::process::Abort;
 
 // Each fault, with its place.
 const FAULTS: &[(&[u8], ParseFault)] = &[
@@ -150,90 +151,67 @@ fn trees_are_given(rt: HostRuntime) {
 }
 
 // A text of one routine: what opens, so many times, then the middle, and what closes as often.
-fn nested(
-    alloc: Global,
-    count: u32,
-    opens: &[u8],
-    middle: &[u8],
-    closes: &[u8],
-) -> Result<Vec<u8>, AllocError> {
-    let mut text = b"[ Main; ".to_vec(alloc)?;
-    for _ in 0..count {
-        text.extend_from_slice(opens)?;
-    }
-    text.extend_from_slice(middle)?;
-    for _ in 0..count {
-        text.extend_from_slice(closes)?;
-    }
-    text.extend_from_slice(b" ];")?;
-    Ok(text)
+fn nested<R: Abort + AllocGlobal>(rt: &R, count: u32, parts: [&str; 3]) -> String {
+    let [opens, middle, closes] = parts;
+    let mut text = joined(rt, &["[ Main; "]);
+    put_many(rt, &mut text, opens, count);
+    text.push_str(middle).expect(rt, "memory");
+    put_many(rt, &mut text, closes, count);
+    text.push_str(" ];").expect(rt, "memory");
+    text
 }
 
 // What opens, what stands in the middle, what closes, how many fit in one another, and the place of
 // the first opener too many where there are 201.
-const OPENERS: &[(&[u8], &[u8], &[u8], u32, usize)] = &[
-    (b"{", b"", b"}", 200, 208),
-    (b"if(1)", b";", b"", 199, 1005),
-    (b"while(1)", b";", b"", 199, 1605),
-    (b"do ", b";", b"until(1);", 199, 608),
-    (b"for(::)", b";", b"", 199, 1404),
+const OPENERS: &[([&str; 3], u32, usize)] = &[
+    (["{", "", "}"], 200, 208),
+    (["if(1)", ";", ""], 199, 1005),
+    (["while(1)", ";", ""], 199, 1605),
+    (["do ", ";", "until(1);"], 199, 608),
+    (["for(::)", ";", ""], 199, 1404),
 ];
 
 #[test]
-fn openers_are_limited(rt: HostRuntime) -> Result<(), Fail> {
-    for (opens, middle, closes, most, at) in OPENERS {
-        let text = nested(rt.alloc(), *most, opens, middle, closes)?;
-        expect!(rt; fault_of(rt.alloc(), &text).is_none());
-        let text = nested(rt.alloc(), 201, opens, middle, closes)?;
-        expect!(rt; fault_of(rt.alloc(), &text) == Some(ParseFault::TooDeep(*at)));
+fn openers_are_limited(rt: HostRuntime) {
+    for (parts, most, at) in OPENERS {
+        let fits = nested(&rt, *most, *parts);
+        expect!(rt; fault_of(rt.alloc(), fits.as_bytes()).is_none());
+        let too_deep = nested(&rt, 201, *parts);
+        let found = fault_of(rt.alloc(), too_deep.as_bytes());
+        expect!(rt; found == Some(ParseFault::TooDeep(*at)));
     }
-    Ok(())
 }
 
-// A text of one routine with one statement that sets a variable to 1 in so many brackets.
-fn bracketed(alloc: Global, count: u32) -> Result<Vec<u8>, AllocError> {
-    let mut text = b"[ Main; x = ".to_vec(alloc)?;
-    for _ in 0..count {
-        text.push(b'(')?;
-    }
-    text.push(b'1')?;
-    for _ in 0..count {
-        text.push(b')')?;
-    }
-    text.extend_from_slice(b"; ];")?;
-    Ok(text)
+// The fault of a text with one statement that sets a variable to 1 in so many brackets.
+fn bracketed<R: Abort + AllocGlobal>(rt: &R, count: u32) -> Option<ParseFault> {
+    let mut text = joined(rt, &["[ Main; x = "]);
+    put_many(rt, &mut text, "(", count);
+    text.push_str("1").expect(rt, "memory");
+    put_many(rt, &mut text, ")", count);
+    text.push_str("; ];").expect(rt, "memory");
+    fault_of(rt.alloc(), text.as_bytes())
 }
 
 #[test]
-fn round_brackets_are_limited(rt: HostRuntime) -> Result<(), Fail> {
-    let text = bracketed(rt.alloc(), 200)?;
-    expect!(rt; fault_of(rt.alloc(), &text).is_none());
-    let text = bracketed(rt.alloc(), 201)?;
-    expect!(rt; fault_of(rt.alloc(), &text) == Some(ParseFault::TooDeep(212)));
+fn round_brackets_are_limited(rt: HostRuntime) {
+    expect!(rt; bracketed(&rt, 200).is_none());
+    expect!(rt; bracketed(&rt, 201) == Some(ParseFault::TooDeep(212)));
     expect!(rt; fault_of(rt.alloc(), &[b'('; 201]) == Some(ParseFault::Unexpected(0)));
-    Ok(())
 }
 
-// What is said of a fault.
-fn said(alloc: Global, fault: ParseFault) -> Result<Vec<u8>, AllocError> {
-    let mut digits = Buffer::new();
-    let mut text = Vec::new(alloc);
-    for piece in fault.pieces(&mut digits) {
-        text.extend_from_slice(piece)?;
-    }
-    Ok(text)
-}
+// What is said of each fault.
+const TOLD: &[(ParseFault, &str)] = &[
+    (ParseFault::Unexpected(0), "unexpected text at 0"),
+    (ParseFault::Mixed(20), "&& and || mixed at 20"),
+    (ParseFault::TooDeep(1005), "nested too deeply at 1005"),
+    (ParseFault::Memory, ""),
+];
 
 #[test]
-fn faults_are_told(rt: HostRuntime) -> Result<(), Fail> {
-    for (fault, text) in [
-        (ParseFault::Unexpected(0), "unexpected text at 0"),
-        (ParseFault::Mixed(20), "&& and || mixed at 20"),
-        (ParseFault::TooDeep(1005), "nested too deeply at 1005"),
-        (ParseFault::Memory, ""),
-    ] {
-        let said = said(rt.alloc(), fault)?;
-        expect!(rt; said.as_slice() == text.as_bytes(), text);
+fn faults_are_told(rt: HostRuntime) {
+    for (fault, text) in TOLD {
+        let mut digits = Buffer::new();
+        let told = fault.pieces(&mut digits).concat(rt.alloc());
+        expect!(rt; told.expect(&rt, "memory").as_slice() == text.as_bytes(), text);
     }
-    Ok(())
 }

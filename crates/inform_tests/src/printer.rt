@@ -1,40 +1,26 @@
 //! Printed texts. A text that is printed so is the text of its program, so that the program of each
 //! is printed as it stands; and texts read back through the tokens.
-use super::texts::program_of;
+use super::texts::{joined, program_of};
 use crate::expect;
 use inform_lexer::{Kind, text, tokens};
 use inform_printer::print;
 use inform_tree::Program;
 use std::alloc::Global;
 use std::process::Abort;
-use std::test::Fail;
 
-// The printed text of a program, where it is well formed.
-fn printed(alloc: Global, program: &Program) -> Result<Vec<u8>, Fail> {
-    if program.well_formed() {
-        Ok(print(alloc, program)?)
-    } else {
-        Err(Fail::from("not well formed"))
-    }
+// The printed text of a program, which has to be well formed.
+fn printed<R: Abort + AllocGlobal>(rt: &R, program: &Program) -> Vec<u8> {
+    expect!(rt; program.well_formed());
+    print(rt.alloc(), program).expect(rt, "memory")
 }
 
 // Expects that the program of each text, which stands between two others, is printed as it stands.
-fn expect_all(
-    rt: &impl Abort,
-    alloc: Global,
-    before: &str,
-    rows: &[&str],
-    after: &str,
-) -> Result<(), Fail> {
+fn expect_all<R: Abort + AllocGlobal>(rt: &R, before: &str, rows: &[&str], after: &str) {
     for row in rows {
-        let mut whole = Vec::new(alloc);
-        for part in [before, row, after] {
-            whole.extend_from_slice(part.as_bytes())?;
-        }
-        let found = printed(alloc, &program_of(alloc, &whole)?)?;
-        assert!(rt; found == whole, "at {row}");
+        let text = joined(rt, &[before, row, after]);
+        let program = program_of(rt, text.as_bytes());
+        expect!(rt; printed(rt, &program).as_slice() == text.as_bytes(), row);
     }
-    Ok(())
 }
 
 // ---- values
@@ -65,8 +51,8 @@ const VALUES: &[&str] = &[
 ];
 
 #[test]
-fn values_are_printed(rt: HostRuntime) -> Result<(), Fail> {
-    expect_all(&rt, rt.alloc(), "[ main ;\nx = ", VALUES, " ;\n] ;\n")
+fn values_are_printed(rt: HostRuntime) {
+    expect_all(&rt, "[ main ;\nx = ", VALUES, " ;\n] ;\n");
 }
 
 // ---- conditions
@@ -87,14 +73,8 @@ const CONDITIONS: &[&str] = &[
 ];
 
 #[test]
-fn conditions_are_printed(rt: HostRuntime) -> Result<(), Fail> {
-    expect_all(
-        &rt,
-        rt.alloc(),
-        "[ main ;\nwhile ( ",
-        CONDITIONS,
-        " ) {\n}\n] ;\n",
-    )
+fn conditions_are_printed(rt: HostRuntime) {
+    expect_all(&rt, "[ main ;\nwhile ( ", CONDITIONS, " ) {\n}\n] ;\n");
 }
 
 // ---- statements
@@ -131,8 +111,8 @@ const STATEMENTS: &[&str] = &[
 ];
 
 #[test]
-fn statements_are_printed(rt: HostRuntime) -> Result<(), Fail> {
-    expect_all(&rt, rt.alloc(), "[ main ;\n", STATEMENTS, "\n] ;\n")
+fn statements_are_printed(rt: HostRuntime) {
+    expect_all(&rt, "[ main ;\n", STATEMENTS, "\n] ;\n");
 }
 
 // ---- directives
@@ -145,8 +125,8 @@ const DIRECTIVES: &[&str] = &[
 ];
 
 #[test]
-fn directives_are_printed(rt: HostRuntime) -> Result<(), Fail> {
-    expect_all(&rt, rt.alloc(), "", DIRECTIVES, "")
+fn directives_are_printed(rt: HostRuntime) {
+    expect_all(&rt, "", DIRECTIVES, "");
 }
 
 // ---- texts
@@ -163,25 +143,23 @@ const TEXTS: &[(&str, &[u8])] = &[
     ("\"@@64@@49@@50\"", b"@12"),
 ];
 
-// Whether the one string of a text says these bytes.
-fn reads_back(alloc: Global, whole: &[u8], bytes: &[u8]) -> Result<bool, Fail> {
-    for token in &tokens(alloc, whole)? {
+// Whether the first string of a text says these bytes.
+fn reads_back(alloc: Global, whole: &[u8], bytes: &[u8]) -> bool {
+    let Ok(found) = tokens(alloc, whole) else {
+        return false;
+    };
+    for token in &found {
         if token.kind == Kind::Quoted {
-            return Ok(text(alloc, whole, *token).is_ok_and(|said| said.bytes() == bytes));
+            return text(alloc, whole, *token).is_ok_and(|said| said.bytes() == bytes);
         }
     }
-    Ok(false)
+    false
 }
 
 #[test]
-fn texts_are_printed(rt: HostRuntime) -> Result<(), Fail> {
-    let alloc = rt.alloc();
+fn texts_are_printed(rt: HostRuntime) {
     for (spelling, bytes) in TEXTS {
-        expect_all(&rt, alloc, "[ main ;\nprint ", &[spelling], " ;\n] ;\n")?;
-        expect!(rt;
-            reads_back(alloc, spelling.as_bytes(), bytes)?,
-            "at {spelling}"
-        );
+        expect_all(&rt, "[ main ;\nprint ", &[spelling], " ;\n] ;\n");
+        expect!(rt; reads_back(rt.alloc(), spelling.as_bytes(), bytes), spelling);
     }
-    Ok(())
 }

@@ -7,9 +7,7 @@ use inform_names::{Accepted, accept};
 use inform_run::{Runner, Stop};
 use inform_tree::Width;
 use itoa::Buffer;
-use std::alloc::Global;
 use std::process::Abort;
-use std::test::Fail;
 
 // A program, the lines, the draws, the steps, the width of its words, and what it says, then why it
 // stops and how many steps it used.
@@ -351,78 +349,90 @@ const TAKEN: &[Row] = &[
 ];
 
 // The accepted program of a text.
-fn accepted(alloc: Global, text: &[u8], width: Width) -> Result<Option<Accepted>, Fail> {
-    match accept(alloc, program_of(alloc, text)?, width) {
-        Ok(program) => Ok(Some(program)),
-        Err(_) => Ok(None),
-    }
+fn accepted<R: Abort + AllocGlobal>(rt: &R, row: &Row) -> Accepted {
+    accept(rt.alloc(), program_of(rt, row.text), row.width)
+        .ok()
+        .expect(rt, "a program")
 }
 
-// Why a run stopped, after what it said.
-fn add_stop(said: &mut Vec<u8>, stop: Stop) -> Result<(), Fail> {
+// Why a run stopped, in pieces.
+fn pieces_of(stop: Stop, digits: &mut Buffer) -> [&[u8]; 4] {
     match stop {
-        Stop::Quit => said.extend_from_slice(b"quit")?,
-        Stop::NeedsLine => said.extend_from_slice(b"line")?,
-        Stop::NeedsDraw => said.extend_from_slice(b"draw")?,
-        Stop::Spent => said.extend_from_slice(b"spent")?,
+        Stop::Quit => [b"quit", b"", b"", b""],
+        Stop::NeedsLine => [b"line", b"", b"", b""],
+        Stop::NeedsDraw => [b"draw", b"", b"", b""],
+        Stop::Spent => [b"spent", b"", b"", b""],
         Stop::Trap(kind, directive) => {
-            let mut digits = Buffer::new();
-            said.extend_from_slice(b"trap ")?;
-            said.extend_from_slice(kind.word())?;
-            said.extend_from_slice(b" in ")?;
-            said.extend_from_slice(digits.format(directive).as_bytes())?;
+            [
+                b"trap ",
+                kind.word(),
+                b" in ",
+                digits.format(directive).as_bytes(),
+            ]
         }
     }
-    Ok(())
 }
 
-fn console_of(alloc: Global, lines: &[&[u8]]) -> Result<MemoryConsole, Fail> {
+fn console_of<R: Abort + AllocGlobal>(rt: &R, lines: &[&[u8]]) -> MemoryConsole {
+    let alloc = rt.alloc();
     let mut typed = Vec::new(alloc);
     for line in lines {
-        typed.push(Line::of(line))?;
+        typed.push(Line::of(line)).expect(rt, "memory");
     }
-    Ok(MemoryConsole::new(alloc, typed, Vec::new(alloc), 10_000)?)
+    MemoryConsole::new(alloc, typed, Vec::new(alloc), 10_000).expect(rt, "memory")
 }
 
-fn outcome(alloc: Global, row: &Row) -> Result<Vec<u8>, Fail> {
-    let program = accepted(alloc, row.text, row.width)?.ok_or("not accepted")?;
-    let mut console = console_of(alloc, row.lines)?;
-    let mut draws = Draws::listed(alloc, row.draws)?;
-    let mut runner = Runner::open(alloc, &program)?;
-    let stop = runner.run(&mut draws, row.steps, &mut console)?;
-    let mut said = console.said().to_vec(alloc)?;
-    said.push(b'|')?;
-    add_stop(&mut said, stop)?;
-    let mut digits = Buffer::new();
-    said.push(b'|')?;
-    said.extend_from_slice(digits.format(runner.used()).as_bytes())?;
-    Ok(said)
+// Runs a program on a console: why it stops, and how many steps it used.
+fn stopped<R: Abort + AllocGlobal>(rt: &R, row: &Row, console: &mut MemoryConsole) -> (Stop, u64) {
+    let program = accepted(rt, row);
+    let mut draws = Draws::listed(rt.alloc(), row.draws).expect(rt, "draws");
+    let mut runner = Runner::open(rt.alloc(), &program).expect(rt, "memory");
+    let stop = runner
+        .run(&mut draws, row.steps, console)
+        .expect(rt, "a run");
+    (stop, runner.used())
 }
 
-fn check(rt: &impl Abort, alloc: Global, rows: &[Row]) -> Result<(), Fail> {
+// What a program says, then why it stops and how many steps it used.
+fn outcome<R: Abort + AllocGlobal>(rt: &R, row: &Row) -> Vec<u8> {
+    let mut console = console_of(rt, row.lines);
+    let (stop, used) = stopped(rt, row, &mut console);
+    let (mut number, mut steps) = (Buffer::new(), Buffer::new());
+    let reason = pieces_of(stop, &mut number)
+        .concat(rt.alloc())
+        .expect(rt, "memory");
+    let pieces = [
+        console.said(),
+        b"|",
+        &reason,
+        b"|",
+        steps.format(used).as_bytes(),
+    ];
+    pieces.concat(rt.alloc()).expect(rt, "memory")
+}
+
+fn expect_all<R: Abort + AllocGlobal>(rt: &R, rows: &[Row]) {
     for row in rows {
-        let said = outcome(alloc, row)?;
-        expect!(rt; said.as_slice() == row.outcome);
+        expect!(rt; outcome(rt, row).as_slice() == row.outcome);
     }
-    Ok(())
 }
 
 #[test]
-fn runs_stop(rt: HostRuntime) -> Result<(), Fail> {
-    check(&rt, rt.alloc(), STOPS)
+fn runs_stop(rt: HostRuntime) {
+    expect_all(&rt, STOPS);
 }
 
 #[test]
-fn words_have_two_widths(rt: HostRuntime) -> Result<(), Fail> {
-    check(&rt, rt.alloc(), WORDS)
+fn words_have_two_widths(rt: HostRuntime) {
+    expect_all(&rt, WORDS);
 }
 
 #[test]
-fn statements_are_done(rt: HostRuntime) -> Result<(), Fail> {
-    check(&rt, rt.alloc(), STATEMENTS)
+fn statements_are_done(rt: HostRuntime) {
+    expect_all(&rt, STATEMENTS);
 }
 
 #[test]
-fn lines_and_draws_are_taken(rt: HostRuntime) -> Result<(), Fail> {
-    check(&rt, rt.alloc(), TAKEN)
+fn lines_and_draws_are_taken(rt: HostRuntime) {
+    expect_all(&rt, TAKEN);
 }

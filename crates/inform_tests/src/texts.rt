@@ -2,20 +2,22 @@
 use inform_lexer::tokens;
 use inform_parser::parse;
 use inform_tree::Program;
-use std::alloc::{AllocError, Global};
-use std::test::Fail;
+use std::process::Abort;
 
 /// The program of a text.
-pub fn program_of(alloc: Global, text: &[u8]) -> Result<Program, Fail> {
-    let read = tokens(alloc, text)?;
-    Ok(parse(alloc, &read, text)?)
+pub fn program_of<R: Abort + AllocGlobal>(rt: &R, text: &[u8]) -> Program {
+    let read = tokens(rt.alloc(), text).expect(rt, "tokens");
+    parse(rt.alloc(), &read, text).expect(rt, "a program")
 }
 
-/// A text so many times.
-pub fn repeated(alloc: Global, text: &str, count: u32) -> Result<Vec<u8>, AllocError> {
-    let mut whole = Vec::new(alloc);
+/// These parts, one after another.
+pub fn joined<R: Abort + AllocGlobal>(rt: &R, parts: &[&str]) -> String {
+    parts.concat(rt.alloc()).expect(rt, "memory")
+}
+
+/// Puts a text so many times after another one.
+pub fn put_many(rt: &impl Abort, whole: &mut String, text: &str, count: u32) {
     for _ in 0..count {
-        whole.extend_from_slice(text.as_bytes())?;
+        whole.push_str(text).expect(rt, "memory");
     }
-    Ok(whole)
 }

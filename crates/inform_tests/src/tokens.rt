@@ -4,7 +4,6 @@ use inform_lexemes::{Keyword, Symbol};
 use inform_lexer::{Glance, Kind, LexFault, glance, name, text, tokens};
 use itoa::Buffer;
 use std::alloc::Global;
-use std::test::Fail;
 
 // Each fault, with its place.
 const FAULTS: &[(&[u8], LexFault)] = &[

@@ -4,8 +4,7 @@ use inform_tree::{
     Case, Change, Cond, Const, Directive, Expr, Item, Name, Program, Routine, Stmt, Text, Width,
     depth, is_character, is_name, is_reserved,
 };
-use std::alloc::{AllocError, Global};
-use std::test::Fail;
+use std::process::Abort;
 
 // The reserved words, as the profile lists them.
 const LISTED: &str = "array attribute box break buffer char class constant continue default do \
@@ -25,41 +24,46 @@ fn words_are_reserved(rt: HostRuntime) {
     expect!(rt; count == 55);
 }
 
+const WORDS: &[(&str, bool)] = &[
+    ("main", true),
+    ("line_12", true),
+    ("abcdefghijklmnopqrstuvwxyz_01234", true),
+    ("abcdefghijklmnopqrstuvwxyz_012345", false),
+    ("", false),
+    ("1a", false),
+    ("Main", false),
+    ("switch", false),
+];
+
+const BYTES: &[(u8, bool)] = &[
+    (b' ', true),
+    (b'a', true),
+    (31, false),
+    (127, false),
+    (b'~', false),
+];
+
 #[test]
 fn names_and_characters(rt: HostRuntime) {
-    for (word, fits) in [
-        ("main", true),
-        ("line_12", true),
-        ("abcdefghijklmnopqrstuvwxyz_01234", true),
-        ("abcdefghijklmnopqrstuvwxyz_012345", false),
-        ("", false),
-        ("1a", false),
-        ("Main", false),
-        ("switch", false),
-    ] {
-        expect!(rt; is_name(word.as_bytes()) == fits, word);
+    for (word, fits) in WORDS {
+        expect!(rt; is_name(word.as_bytes()) == *fits, word);
     }
-    for (byte, fits) in [
-        (b' ', true),
-        (b'a', true),
-        (31, false),
-        (127, false),
-        (b'~', false),
-    ] {
-        assert!(rt; is_character(byte) == fits, "at {byte}");
+    for (byte, fits) in BYTES {
+        assert!(rt; is_character(*byte) == *fits, "at {byte}");
     }
 }
 
 // The program of one routine `main` with these statements.
-fn program(alloc: Global, body: Vec<Stmt>) -> Result<Program, AllocError> {
+fn program<R: Abort + AllocGlobal>(rt: &R, body: Vec<Stmt>) -> Program {
+    let alloc = rt.alloc();
     let main = Routine {
-        name: Name::of(b"main".to_vec(alloc)?),
+        name: Name::of(b"main".to_vec(alloc).expect(rt, "memory")),
         locals: Vec::new(alloc),
         body,
     };
-    Ok(Program {
-        directives: vec![in alloc; Directive::Routine(main)]?,
-    })
+    Program {
+        directives: vec![in alloc; Directive::Routine(main)].expect(rt, "memory"),
+    }
 }
 
 fn depth_of(program: &Program) -> u32 {
@@ -70,83 +74,85 @@ fn depth_of(program: &Program) -> u32 {
 }
 
 // So many blocks, one in another.
-fn nested(alloc: Global, count: u32) -> Result<Vec<Stmt>, AllocError> {
-    let mut body = Vec::new(alloc);
+fn nested<R: Abort + AllocGlobal>(rt: &R, count: u32) -> Vec<Stmt> {
+    let mut body = Vec::new(rt.alloc());
     for _ in 0..count {
-        body = vec![in alloc; Stmt::Block(body)]?;
+        body = vec![in rt.alloc(); Stmt::Block(body)].expect(rt, "memory");
     }
-    Ok(body)
+    body
 }
 
+// How many blocks stand in one another, and whether they may.
+const NESTED: &[(u32, bool)] = &[(0, true), (63, true), (64, true), (65, false), (200, false)];
+
 #[test]
-fn depth_64_is_the_limit(rt: HostRuntime) -> Result<(), Fail> {
-    for (count, fits) in [(0, true), (63, true), (64, true), (65, false), (200, false)] {
-        let deep = program(rt.alloc(), nested(rt.alloc(), count)?)?;
-        expect!(rt; depth_of(&deep) == count);
-        assert!(rt; deep.well_formed() == fits, "at {count}");
+fn depth_64_is_the_limit(rt: HostRuntime) {
+    for (count, fits) in NESTED {
+        let deep = program(&rt, nested(&rt, *count));
+        expect!(rt; (depth_of(&deep), deep.well_formed()) == (*count, *fits));
     }
-    Ok(())
 }
 
 // A loop whose test is a chain of so many conditions.
-fn chained(alloc: Global, count: u32) -> Result<Stmt, AllocError> {
-    let mut members = Vec::new(alloc);
+fn chained<R: Abort + AllocGlobal>(rt: &R, count: u32) -> Stmt {
+    let mut members = Vec::new(rt.alloc());
     for _ in 0..count {
-        members.push(Cond::Nonzero(Expr::Number(1)))?;
+        members
+            .push(Cond::Nonzero(Expr::Number(1)))
+            .expect(rt, "memory");
     }
-    Ok(Stmt::While(Cond::All(members), Vec::new(alloc)))
+    Stmt::While(Cond::All(members), Vec::new(rt.alloc()))
 }
 
 // A `switch` with one case, of blocks so deep, with its choice or without.
-fn switched(alloc: Global, count: u32, chosen: bool) -> Result<Stmt, AllocError> {
-    let mut choices = Vec::new(alloc);
+fn switched<R: Abort + AllocGlobal>(rt: &R, count: u32, chosen: bool) -> Stmt {
+    let mut choices = Vec::new(rt.alloc());
     if chosen {
-        choices.push((Const::Number(1), None))?;
+        choices.push((Const::Number(1), None)).expect(rt, "memory");
     }
-    let body = nested(alloc, count)?;
-    let cases = vec![in alloc; Case { choices, body }]?;
-    Ok(Stmt::Switch(Expr::Char(b'a'), cases, None))
+    let body = nested(rt, count);
+    let cases = vec![in rt.alloc(); Case { choices, body }].expect(rt, "memory");
+    Stmt::Switch(Expr::Char(b'a'), cases, None)
 }
 
 // A `print` of so many texts.
-fn printed(alloc: Global, count: u32) -> Result<Stmt, AllocError> {
-    let mut items = Vec::new(alloc);
+fn printed<R: Abort + AllocGlobal>(rt: &R, count: u32) -> Stmt {
+    let mut items = Vec::new(rt.alloc());
     for _ in 0..count {
-        items.push(Item::Text(Text::of(b"hall".to_vec(alloc)?)))?;
+        let text = Text::of(b"hall".to_vec(rt.alloc()).expect(rt, "memory"));
+        items.push(Item::Text(text)).expect(rt, "memory");
     }
-    Ok(Stmt::Print(items))
+    Stmt::Print(items)
 }
 
-fn counted_up(alloc: Global, name: &[u8]) -> Result<Stmt, AllocError> {
-    Ok(Stmt::Change(Change::Inc(Name::of(name.to_vec(alloc)?))))
+fn counted_up<R: Abort + AllocGlobal>(rt: &R, name: &[u8]) -> Stmt {
+    let name = Name::of(name.to_vec(rt.alloc()).expect(rt, "memory"));
+    Stmt::Change(Change::Inc(name))
+}
+
+// Expects that a routine of one statement is so deep, and whether it is well formed.
+fn expect_one<R: Abort + AllocGlobal>(rt: &R, statement: Stmt, deep: u32, fits: bool) {
+    let one = program(rt, vec![in rt.alloc(); statement].expect(rt, "memory"));
+    expect!(rt; (depth_of(&one), one.well_formed()) == (deep, fits));
 }
 
 #[test]
-fn statements(rt: HostRuntime) -> Result<(), Fail> {
-    let alloc = rt.alloc();
-    let mut rows = Vec::new(alloc);
-    rows.push((chained(alloc, 1)?, 4, false))?;
-    rows.push((chained(alloc, 2)?, 4, true))?;
-    rows.push((switched(alloc, 3, true)?, 4, true))?;
-    rows.push((switched(alloc, 0, false)?, 2, false))?;
-    rows.push((printed(alloc, 0)?, 1, false))?;
-    rows.push((printed(alloc, 2)?, 1, true))?;
-    rows.push((counted_up(alloc, b"x")?, 1, true))?;
-    rows.push((counted_up(alloc, b"if")?, 1, false))?;
-    for (statement, deep, fits) in rows {
-        let one = program(alloc, vec![in alloc; statement]?)?;
-        expect!(rt; depth_of(&one) == deep);
-        expect!(rt; one.well_formed() == fits);
-    }
-    Ok(())
+fn statements(rt: HostRuntime) {
+    expect_one(&rt, chained(&rt, 1), 4, false);
+    expect_one(&rt, chained(&rt, 2), 4, true);
+    expect_one(&rt, switched(&rt, 3, true), 4, true);
+    expect_one(&rt, switched(&rt, 0, false), 2, false);
+    expect_one(&rt, printed(&rt, 0), 1, false);
+    expect_one(&rt, printed(&rt, 2), 1, true);
+    expect_one(&rt, counted_up(&rt, b"x"), 1, true);
+    expect_one(&rt, counted_up(&rt, b"if"), 1, false);
 }
 
 #[test]
-fn texts_and_widths(rt: HostRuntime) -> Result<(), Fail> {
-    let text = Text::of(b"a~b".to_vec(rt.alloc())?);
+fn texts_and_widths(rt: HostRuntime) {
+    let text = Text::of(b"a~b".to_vec(rt.alloc()).expect(&rt, "memory"));
     expect!(rt; text.bytes() == b"a~b".as_slice());
-    let name = Name::of(b"lamp".to_vec(rt.alloc())?);
+    let name = Name::of(b"lamp".to_vec(rt.alloc()).expect(&rt, "memory"));
     expect!(rt; name.bytes() == b"lamp".as_slice());
     expect!(rt; Width::W16 != Width::W32);
-    Ok(())
 }

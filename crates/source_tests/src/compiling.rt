@@ -1,9 +1,9 @@
 //! Sources that mean a database, and those that are refused, with ample memory.
 use crate::expect;
 use adv_compiler::{CompileFault, compile};
+use scott_types::Db;
 use source_reader::read_source;
-use std::alloc::{AllocError, Global};
-use std::test::Fail;
+use std::process::Abort;
 
 const HEADER: &[u8] = b"header {
 unused 0;
@@ -51,23 +51,36 @@ trailer {
 
 const NO_ACTION: &[u8] = b"also { } { } \"\";";
 
-// A text with this header, these rooms and this line.
-fn text_of(alloc: Global, header: &[u8], rooms: &[u8], line: &[u8]) -> Result<Vec<u8>, AllocError> {
-    let mut bytes = Vec::from_slice(alloc, header)?;
-    bytes.extend_from_slice(WORDS)?;
-    bytes.extend_from_slice(rooms)?;
-    bytes.extend_from_slice(MESSAGES_AND_ITEMS)?;
-    bytes.extend_from_slice(b"lines {\n")?;
-    bytes.extend_from_slice(line)?;
-    bytes.extend_from_slice(TRAILER)?;
-    Ok(bytes)
+// What the source with this header, these rooms and this line means.
+fn compiled<R: Abort + AllocGlobal>(
+    rt: &R,
+    header: &[u8],
+    rooms: &[u8],
+    line: &[u8],
+) -> Result<Db, CompileFault> {
+    let lines = b"lines {\n".as_slice();
+    let pieces = [
+        header,
+        WORDS,
+        rooms,
+        MESSAGES_AND_ITEMS,
+        lines,
+        line,
+        TRAILER,
+    ];
+    let text = pieces.concat(rt.alloc()).expect(rt, "memory");
+    let source = read_source(rt.alloc(), &text).expect(rt, "a source");
+    compile(rt.alloc(), &source)
+}
+
+// The database that a source with this line means.
+fn database<R: Abort + AllocGlobal>(rt: &R, line: &[u8]) -> Db {
+    compiled(rt, HEADER, ROOMS, line).expect(rt, "a database")
 }
 
 #[test]
-fn a_source_means_its_database(rt: HostRuntime) -> Result<(), Fail> {
-    let bytes = text_of(rt.alloc(), HEADER, ROOMS, NO_ACTION)?;
-    let source = read_source(rt.alloc(), &bytes)?;
-    let db = compile(rt.alloc(), &source)?;
+fn a_source_means_its_database(rt: HostRuntime) {
+    let db = database(&rt, NO_ACTION);
     let parts = db.parts();
     let header = &parts.header;
     expect!(rt; (header.unused, header.carry, header.start) == (0, 5, 1));
@@ -75,143 +88,128 @@ fn a_source_means_its_database(rt: HostRuntime) -> Result<(), Fail> {
     expect!(rt; (header.light, header.home) == (-1, 0));
     expect!(rt; (parts.words.len(), parts.rooms.len()) == (7, 3));
     expect!(rt; (parts.messages.len(), parts.items.len()) == (1, 1));
-    for item in &parts.items {
-        expect!(rt; item.place == 1);
-        expect!(rt; item.text.bytes() == b"Rug".as_slice());
-    }
-    for comment in &parts.comments {
-        expect!(rt; comment.bytes() == b"".as_slice());
-    }
     let trailer = &parts.trailer;
     expect!(rt; (trailer.version, trailer.adventure, trailer.third) == (416, 1, 0));
-    Ok(())
 }
 
 #[test]
-fn lines_mean_actions(rt: HostRuntime) -> Result<(), Fail> {
-    for (line, vocab, conds, pairs) in [
-        (
-            b"line \"LOOK\" \"WEST\" { near i0; at r2; } { say 52; look; put(i0, r2); } \"done\";".as_slice(),
-            454,
-            [3, 44, 0, 40, 0],
-            [15364, 9300],
-        ),
-        (
-            b"also { carried i0; param 7; } { get(r2); drop; };".as_slice(),
-            0,
-            [1, 140, 40, 0, 0],
-            [7853, 0],
-        ),
-        (
-            b"auto 30 { } { op 101; say 51; say 52; op 149; } \"x\";".as_slice(),
-            30,
-            [0, 0, 0, 0, 0],
-            [15201, 15449],
-        ),
-        (NO_ACTION, 0, [0, 0, 0, 0, 0], [0, 0]),
-    ] {
-        let bytes = text_of(rt.alloc(), HEADER, ROOMS, line)?;
-        let source = read_source(rt.alloc(), &bytes)?;
-        let db = compile(rt.alloc(), &source)?;
-        for action in &db.parts().actions {
-            expect!(rt; action.vocab == vocab);
-            expect!(rt; action.conds == conds);
-            expect!(rt; action.pairs == pairs);
+fn a_source_means_its_item_and_comment(rt: HostRuntime) {
+    let db = database(&rt, NO_ACTION);
+    for item in &db.parts().items {
+        expect!(rt; (item.place, item.text.bytes()) == (1, b"Rug".as_slice()));
+    }
+    for comment in &db.parts().comments {
+        expect!(rt; comment.bytes().is_empty());
+    }
+}
+
+// Lines, and the numbers of the actions that they mean.
+const ACTIONS: &[(&[u8], u32, [u32; 5], [u32; 2])] = &[
+    (
+        b"line \"LOOK\" \"WEST\" { near i0; at r2; } { say 52; look; put(i0, r2); } \"done\";",
+        454,
+        [3, 44, 0, 40, 0],
+        [15364, 9300],
+    ),
+    (
+        b"also { carried i0; param 7; } { get(r2); drop; };",
+        0,
+        [1, 140, 40, 0, 0],
+        [7853, 0],
+    ),
+    (
+        b"auto 30 { } { op 101; say 51; say 52; op 149; } \"x\";",
+        30,
+        [0, 0, 0, 0, 0],
+        [15201, 15449],
+    ),
+    (NO_ACTION, 0, [0, 0, 0, 0, 0], [0, 0]),
+];
+
+#[test]
+fn lines_mean_actions(rt: HostRuntime) {
+    for (line, vocab, conds, pairs) in ACTIONS {
+        for action in &database(&rt, line).parts().actions {
+            expect!(rt; (action.vocab, action.conds, action.pairs) == (*vocab, *conds, *pairs));
         }
     }
-    Ok(())
 }
 
-#[test]
-fn lines_are_refused(rt: HostRuntime) -> Result<(), Fail> {
-    for (line, fault) in [
-        (
-            b"also { param 0; param 0; param 0; param 0; param 0; param 0; } { } \"\";".as_slice(),
-            CompileFault::TooManyConditions(418),
-        ),
-        (
-            b"also { } { op 0; op 0; op 0; op 0; op 0; } \"\";".as_slice(),
-            CompileFault::TooManyOpcodes(401),
-        ),
-        (
-            b"line 3 150 { } { } \"\";".as_slice(),
-            CompileFault::Limit(373, 150),
-        ),
-        (
-            b"also { } { say nosuch; } \"\";".as_slice(),
-            CompileFault::Unnamed(381),
-        ),
-        (
-            b"line \"look\" 0 { } { };".as_slice(),
-            CompileFault::Unnamed(371),
-        ),
-        (
-            b"line -1 0 { } { };".as_slice(),
-            CompileFault::Limit(371, -1),
-        ),
-        (
-            b"line 14316558 0 { } { };".as_slice(),
-            CompileFault::Limit(371, 14316558),
-        ),
-        (
-            b"auto 150 { } { };".as_slice(),
-            CompileFault::Limit(371, 150),
-        ),
-        (
-            b"also { near 107374183; } { };".as_slice(),
-            CompileFault::Limit(378, 107374183),
-        ),
-        (
-            b"also { } { say 0; };".as_slice(),
-            CompileFault::Limit(381, 0),
-        ),
-        (
-            b"also { } { op 1; op 150; };".as_slice(),
-            CompileFault::Limit(386, 150),
-        ),
-        (
-            b"also { carried i0; carried i0; carried i0; carried i0; } { put(i0, nosuch); };".as_slice(),
-            CompileFault::Unnamed(433),
-        ),
-        (
-            b"also { carried i0; carried i0; carried i0; carried i0; } { put(i0, r1); };".as_slice(),
-            CompileFault::TooManyConditions(433),
-        ),
-    ] {
-        let bytes = text_of(rt.alloc(), HEADER, ROOMS, line)?;
-        let source = read_source(rt.alloc(), &bytes)?;
-        expect!(rt; compile(rt.alloc(), &source).err() == Some(fault));
-    }
-    Ok(())
-}
+// Lines that mean no action.
+const REFUSED_LINES: &[(&[u8], CompileFault)] = &[
+    (
+        b"also { param 0; param 0; param 0; param 0; param 0; param 0; } { } \"\";",
+        CompileFault::TooManyConditions(418),
+    ),
+    (
+        b"also { } { op 0; op 0; op 0; op 0; op 0; } \"\";",
+        CompileFault::TooManyOpcodes(401),
+    ),
+    (b"line 3 150 { } { } \"\";", CompileFault::Limit(373, 150)),
+    (
+        b"also { } { say nosuch; } \"\";",
+        CompileFault::Unnamed(381),
+    ),
+    (b"line \"look\" 0 { } { };", CompileFault::Unnamed(371)),
+    (b"line -1 0 { } { };", CompileFault::Limit(371, -1)),
+    (
+        b"line 14316558 0 { } { };",
+        CompileFault::Limit(371, 14316558),
+    ),
+    (b"auto 150 { } { };", CompileFault::Limit(371, 150)),
+    (
+        b"also { near 107374183; } { };",
+        CompileFault::Limit(378, 107374183),
+    ),
+    (b"also { } { say 0; };", CompileFault::Limit(381, 0)),
+    (
+        b"also { } { op 1; op 150; };",
+        CompileFault::Limit(386, 150),
+    ),
+    (
+        b"also { carried i0; carried i0; carried i0; carried i0; } { put(i0, nosuch); };",
+        CompileFault::Unnamed(433),
+    ),
+    (
+        b"also { carried i0; carried i0; carried i0; carried i0; } { put(i0, r1); };",
+        CompileFault::TooManyConditions(433),
+    ),
+];
 
 #[test]
-fn headers_and_rooms_are_refused(rt: HostRuntime) -> Result<(), Fail> {
-    for (header, rooms, fault) in [
-        (
-            b"header { unused 0; carry 5; start r9; treasures 0; length 3; light -1; home 0; }".as_slice(),
-            ROOMS,
-            CompileFault::Unnamed(34),
-        ),
-        (
-            b"header { unused 0; carry 5; start 3; treasures 0; length 3; light -1; home 0; }".as_slice(),
-            ROOMS,
-            CompileFault::Limit(34, 3),
-        ),
-        (
-            b"header { unused 0; carry 5; start 0; treasures 0; length 21; light -1; home 0; }".as_slice(),
-            ROOMS,
-            CompileFault::Limit(57, 21),
-        ),
-        (
-            HEADER,
-            b"rooms { room r1 \"\": 0, 0, 0, 0, 0, 0; room r1 \"\": 0, 0, 0, 0, 0, 0; }".as_slice(),
-            CompileFault::Twice(224),
-        ),
-    ] {
-        let bytes = text_of(rt.alloc(), header, rooms, NO_ACTION)?;
-        let source = read_source(rt.alloc(), &bytes)?;
-        expect!(rt; compile(rt.alloc(), &source).err() == Some(fault));
+fn lines_are_refused(rt: HostRuntime) {
+    for (line, fault) in REFUSED_LINES {
+        expect!(rt; compiled(&rt, HEADER, ROOMS, line).err() == Some(*fault));
     }
-    Ok(())
+}
+
+// Headers and rooms that mean nothing.
+const REFUSED: &[(&[u8], &[u8], CompileFault)] = &[
+    (
+        b"header { unused 0; carry 5; start r9; treasures 0; length 3; light -1; home 0; }",
+        ROOMS,
+        CompileFault::Unnamed(34),
+    ),
+    (
+        b"header { unused 0; carry 5; start 3; treasures 0; length 3; light -1; home 0; }",
+        ROOMS,
+        CompileFault::Limit(34, 3),
+    ),
+    (
+        b"header { unused 0; carry 5; start 0; treasures 0; length 21; light -1; home 0; }",
+        ROOMS,
+        CompileFault::Limit(57, 21),
+    ),
+    (
+        HEADER,
+        b"rooms { room r1 \"\": 0, 0, 0, 0, 0, 0; room r1 \"\": 0, 0, 0, 0, 0, 0; }",
+        CompileFault::Twice(224),
+    ),
+];
+
+#[test]
+fn headers_and_rooms_are_refused(rt: HostRuntime) {
+    for (header, rooms, fault) in REFUSED {
+        expect!(rt; compiled(&rt, header, rooms, NO_ACTION).err() == Some(*fault));
+    }
 }

@@ -3,8 +3,7 @@ use crate::expect;
 use adv_compiler::compile;
 use adv_decompiler::decompile;
 use source_reader::read_source;
-use std::alloc::Global;
-use std::test::Fail;
+use std::process::Abort;
 
 const PLAIN: &[u8] = b"header {
 unused 0;
@@ -101,118 +100,106 @@ trailer {
 ";
 
 // The plain text of the database that a source means.
-fn plain_of(alloc: Global, source: &[u8]) -> Result<Vec<u8>, Fail> {
-    let source = read_source(alloc, source)?;
-    let db = compile(alloc, &source)?;
-    Ok(decompile(alloc, &db)?)
-}
-
-// Three texts, one after another.
-fn joined(alloc: Global, front: &[u8], line: &[u8], back: &[u8]) -> Result<Vec<u8>, Fail> {
-    let mut bytes = Vec::from_slice(alloc, front)?;
-    bytes.extend_from_slice(line)?;
-    bytes.extend_from_slice(back)?;
-    Ok(bytes)
-}
-
-// Whether a line is written as the second one.
-fn is_written(alloc: Global, line: &[u8], plain: &[u8]) -> Result<bool, Fail> {
-    let source = joined(alloc, FRONT, line, BACK)?;
-    let expected = joined(alloc, PLAIN_FRONT, plain, PLAIN_BACK)?;
-    let written = plain_of(alloc, &source)?;
-    Ok(written.as_slice() == expected.as_slice())
+fn plain_of<R: Abort + AllocGlobal>(rt: &R, text: &[u8]) -> Vec<u8> {
+    let source = read_source(rt.alloc(), text).expect(rt, "a source");
+    let db = compile(rt.alloc(), &source).expect(rt, "a database");
+    decompile(rt.alloc(), &db).expect(rt, "memory")
 }
 
 #[test]
-fn a_plain_text_is_written_again(rt: HostRuntime) -> Result<(), Fail> {
-    let written = plain_of(rt.alloc(), PLAIN)?;
-    expect!(rt; written.as_slice() == PLAIN);
-    Ok(())
+fn a_plain_text_is_written_again(rt: HostRuntime) {
+    expect!(rt; plain_of(&rt, PLAIN).as_slice() == PLAIN);
 }
 
-#[test]
-fn tests_and_heads_are_written(rt: HostRuntime) -> Result<(), Fail> {
-    for (line, plain) in [
-        (
-            b"also { } { };".as_slice(),
-            b"also { } { } \"\";".as_slice(),
-        ),
-        (
-            b"auto 50 { carried 0; at 1; not_at 9; near 7; flag_set 1; } { more; } \"after\";".as_slice(),
-            b"auto 50 { carried i0; at r1; not_at 9; near 7; flag_set 1; } { more; } \"after\";".as_slice(),
-        ),
-        (
-            b"line \"GO\" 149 { in_game 3; out_of_game 4; at_start 0; not_at_start 1; at 0; } { op 0; op 90; op 0; say 1; } \"say \"\"hi\"\"\";".as_slice(),
-            b"line 1 149 { in_game i3; out_of_game 4; at_start i0; not_at_start i1; at 0; } { op 0; op 90; op 0; say m1; } \"say \"\"hi\"\"\";".as_slice(),
-        ),
-        (
-            b"also { param 0; param 5; } { } \"x\";".as_slice(),
-            b"also { param 0; param 5; } { } \"x\";".as_slice(),
-        ),
-        (
-            b"also { none_carried 5; some_carried 0; } { swap_room(3); picture(9); set(1); } \"\";".as_slice(),
-            b"also { none_carried 5; some_carried 0; } { swap_room(3); picture(9); set(1); } \"\";".as_slice(),
-        ),
-    ] {
-        expect!(rt; is_written(rt.alloc(), line, plain)?);
+// Expects that each line is written as the second one.
+fn expect_written<R: Abort + AllocGlobal>(rt: &R, rows: &[(&[u8], &[u8])]) {
+    for (line, plain) in rows {
+        let text = [FRONT, line, BACK].concat(rt.alloc()).expect(rt, "memory");
+        let expected = [PLAIN_FRONT, plain, PLAIN_BACK].concat(rt.alloc());
+        expect!(rt; plain_of(rt, &text) == expected.expect(rt, "memory"));
     }
-    Ok(())
 }
 
-#[test]
-fn brackets_are_written(rt: HostRuntime) -> Result<(), Fail> {
-    for (line, plain) in [
-        (
-            b"line 3 0 { param 0; param 1; } { get; drop; } \"\";".as_slice(),
-            b"line 3 0 { } { get(i0); drop(i1); } \"\";".as_slice(),
-        ),
-        (
-            b"also { not_here 1; param 1; param 2; } { put; go(1); } \"\";".as_slice(),
-            b"also { not_here i1; } { put(i1, r2); go(r1); } \"\";".as_slice(),
-        ),
-        (
-            b"line 1 1 { param 0; param 1; param 2; param 3; param 4; } { swap; join; get; look; } \"\";".as_slice(),
-            b"line 1 1 { } { swap(i0, i1); join(i2, i3); get(4); look; } \"\";".as_slice(),
-        ),
-        (
-            b"also { counter_is 3; param 2; } { counter_set; } \"\";".as_slice(),
-            b"also { counter_is 3; } { counter_set(2); } \"\";".as_slice(),
-        ),
-        (
-            b"also { } { say 100; say 51; remove2; look2; } \"\";".as_slice(),
-            b"also { } { say 100; say 51; remove2(i0); look2; } \"\";".as_slice(),
-        ),
-        (
-            b"also { carried 0; } { get; drop; } \"\";".as_slice(),
-            b"also { carried i0; } { get(i0); drop(i0); } \"\";".as_slice(),
-        ),
-    ] {
-        expect!(rt; is_written(rt.alloc(), line, plain)?);
-    }
-    Ok(())
-}
+// Lines, and how they are written.
+const HEADS: &[(&[u8], &[u8])] = &[
+    (b"also { } { };", b"also { } { } \"\";"),
+    (
+        b"auto 50 { carried 0; at 1; not_at 9; near 7; flag_set 1; } { more; } \"after\";",
+        b"auto 50 { carried i0; at r1; not_at 9; near 7; flag_set 1; } { more; } \"after\";",
+    ),
+    (
+        b"line \"GO\" 149 { in_game 3; out_of_game 4; at_start 0; not_at_start 1; at 0; } { op 0; op 90; op 0; say 1; } \"say \"\"hi\"\"\";",
+        b"line 1 149 { in_game i3; out_of_game 4; at_start i0; not_at_start i1; at 0; } { op 0; op 90; op 0; say m1; } \"say \"\"hi\"\"\";",
+    ),
+    (
+        b"also { param 0; param 5; } { } \"x\";",
+        b"also { param 0; param 5; } { } \"x\";",
+    ),
+    (
+        b"also { none_carried 5; some_carried 0; } { swap_room(3); picture(9); set(1); } \"\";",
+        b"also { none_carried 5; some_carried 0; } { swap_room(3); picture(9); set(1); } \"\";",
+    ),
+];
 
 #[test]
-fn brackets_are_left_out(rt: HostRuntime) -> Result<(), Fail> {
-    for (line, plain) in [
-        (
-            b"line 3 0 { param 0; param 1; param 0; param 0; carried 0; } { get; drop; } \"\";".as_slice(),
-            b"line 3 0 { param 0; param 1; param 0; param 0; carried i0; } { get; drop; } \"\";".as_slice(),
-        ),
-        (
-            b"line 1 1 { param 0; param 1; param 2; param 3; param 4; } { swap; join; put; } \"\";".as_slice(),
-            b"line 1 1 { param 0; param 1; param 2; param 3; param 4; } { swap; join; put; } \"\";".as_slice(),
-        ),
-        (
-            b"also { param 1; here 0; } { take; } \"\";".as_slice(),
-            b"also { param 1; here i0; } { take; } \"\";".as_slice(),
-        ),
-        (
-            b"also { param 2; param 7; } { go; } \"\";".as_slice(),
-            b"also { param 2; param 7; } { go; } \"\";".as_slice(),
-        ),
-    ] {
-        expect!(rt; is_written(rt.alloc(), line, plain)?);
-    }
-    Ok(())
+fn tests_and_heads_are_written(rt: HostRuntime) {
+    expect_written(&rt, HEADS);
+}
+
+// Lines whose opcodes are written with their parameters.
+const BRACKETS: &[(&[u8], &[u8])] = &[
+    (
+        b"line 3 0 { param 0; param 1; } { get; drop; } \"\";",
+        b"line 3 0 { } { get(i0); drop(i1); } \"\";",
+    ),
+    (
+        b"also { not_here 1; param 1; param 2; } { put; go(1); } \"\";",
+        b"also { not_here i1; } { put(i1, r2); go(r1); } \"\";",
+    ),
+    (
+        b"line 1 1 { param 0; param 1; param 2; param 3; param 4; } { swap; join; get; look; } \"\";",
+        b"line 1 1 { } { swap(i0, i1); join(i2, i3); get(4); look; } \"\";",
+    ),
+    (
+        b"also { counter_is 3; param 2; } { counter_set; } \"\";",
+        b"also { counter_is 3; } { counter_set(2); } \"\";",
+    ),
+    (
+        b"also { } { say 100; say 51; remove2; look2; } \"\";",
+        b"also { } { say 100; say 51; remove2(i0); look2; } \"\";",
+    ),
+    (
+        b"also { carried 0; } { get; drop; } \"\";",
+        b"also { carried i0; } { get(i0); drop(i0); } \"\";",
+    ),
+];
+
+#[test]
+fn brackets_are_written(rt: HostRuntime) {
+    expect_written(&rt, BRACKETS);
+}
+
+// Lines whose opcodes are written without parameters.
+const NO_BRACKETS: &[(&[u8], &[u8])] = &[
+    (
+        b"line 3 0 { param 0; param 1; param 0; param 0; carried 0; } { get; drop; } \"\";",
+        b"line 3 0 { param 0; param 1; param 0; param 0; carried i0; } { get; drop; } \"\";",
+    ),
+    (
+        b"line 1 1 { param 0; param 1; param 2; param 3; param 4; } { swap; join; put; } \"\";",
+        b"line 1 1 { param 0; param 1; param 2; param 3; param 4; } { swap; join; put; } \"\";",
+    ),
+    (
+        b"also { param 1; here 0; } { take; } \"\";",
+        b"also { param 1; here i0; } { take; } \"\";",
+    ),
+    (
+        b"also { param 2; param 7; } { go; } \"\";",
+        b"also { param 2; param 7; } { go; } \"\";",
+    ),
+];
+
+#[test]
+fn brackets_are_left_out(rt: HostRuntime) {
+    expect_written(&rt, NO_BRACKETS);
 }

@@ -8,15 +8,15 @@ use std::process::Abort;
 #[macro_export]
 macro_rules! expect {
     ($rt:expr; $holds:expr) => {
-        $crate::expecting::expect_at(&$rt, $holds, stringify!($holds))
+        $crate::expecting::expect_at($rt, $holds, stringify!($holds))
     };
     ($rt:expr; $holds:expr, $at:expr) => {
-        $crate::expecting::expect_at(&$rt, $holds, $at)
+        $crate::expecting::expect_at($rt, $holds, $at)
     };
 }
 
 /// Ends the test with a text where something doesn't hold.
-pub fn expect_at<R: Abort>(rt: &R, holds: bool, at: &str)
+pub fn expect_at<R: Abort + Copy>(rt: R, holds: bool, at: &str)
     ensures { holds ≡ true }
 {
     assert!(rt; holds, "it doesn't hold: {at}");

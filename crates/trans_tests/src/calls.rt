@@ -2,11 +2,9 @@
 use super::games::smallest;
 use super::sizes::sizes;
 use crate::expect;
-use adv_io::Memory;
 use inform_tree::Width;
 use scott_types::{Db, Position, State, Style};
-use std::alloc::Global;
-use std::test::Fail;
+use std::process::Abort;
 use trans_commands::{commands, search};
 use trans_data::tables;
 use trans_programs::program;
@@ -19,41 +17,55 @@ use translator::translate;
 const COMMANDS: &[usize] = &[3, 4, 6, 2, 3, 5, 3, 6, 6, 3, 3, 2, 2, 2];
 
 #[test]
-fn routines_are_made(rt: HostRuntime) -> Result<(), Fail> {
-    let alloc = rt.alloc();
-    let db = smallest(alloc)?;
-    let plain = Style::plain();
-    expect!(rt; sizes(alloc, &commands(alloc, &db, plain)?)?.as_slice() == COMMANDS);
-    expect!(rt; sizes(alloc, &search(alloc)?)?.as_slice() == [1].as_slice());
-    // Five routines of a line, and two of each column.
-    expect!(rt; words(alloc, &db)?.len() == 9);
-    // Those of commands and the search, the automatic step, and seven of a round.
-    expect!(rt; turn(alloc, &db, plain, Position::Fresh)?.len() == 23);
-    Ok(())
+fn commands_are_made(rt: HostRuntime) {
+    let made = commands(rt.alloc(), &smallest(&rt), Style::plain()).expect(&rt, "memory");
+    expect!(rt; sizes(&rt, &made).as_slice() == COMMANDS);
+    let made = search(rt.alloc()).expect(&rt, "memory");
+    expect!(rt; sizes(&rt, &made).as_slice() == [1].as_slice());
 }
 
-// How many directives the tables have, the program from the beginning, and that from a first state.
-fn counts(alloc: Global, db: &Db) -> Result<[usize; 3], Memory> {
+// Five routines of a line, and two of each column.
+#[test]
+fn routines_of_words_are_made(rt: HostRuntime) {
+    let made = words(rt.alloc(), &smallest(&rt)).expect(&rt, "memory");
+    expect!(rt; made.len() == 9);
+}
+
+// Those of commands and the search, the automatic step, and seven of a round.
+#[test]
+fn routines_of_a_turn_are_made(rt: HostRuntime) {
+    let db = smallest(&rt);
+    let made = turn(rt.alloc(), &db, Style::plain(), Position::Fresh).expect(&rt, "memory");
+    expect!(rt; made.len() == 23);
+}
+
+// 12 globals, 17 arrays, 17 routines of codes, two of texts and one of a message.
+#[test]
+fn tables_are_made(rt: HostRuntime) {
+    let db = smallest(&rt);
     let _parts = db.parts();
     none_wide_at_32();
-    let state = State::start(db);
-    let plain = Style::plain();
-    let begun = program(alloc, db, plain, Width::W32, None)?;
-    let handed_in = program(alloc, db, plain, Width::W32, Some(&state))?;
-    let tables = tables(alloc, db, plain, Width::W32, &state)?;
-    Ok([
-        tables.len(),
-        begun.directives.len(),
-        handed_in.directives.len(),
-    ])
+    let state = State::start(&db);
+    let made = tables(rt.alloc(), &db, Style::plain(), Width::W32, &state);
+    expect!(rt; made.expect(&rt, "memory").len() == 49);
 }
 
-// 12 globals, 17 arrays, 17 routines of codes, two of texts and one of a message; and with them the
-// nine routines of the reader and the 23 of a turn.
+// The tables, the nine routines of the reader and the 23 of a turn, from the beginning and from a
+// state.
 #[test]
-fn programs_are_made(rt: HostRuntime) -> Result<(), Fail> {
-    let db = smallest(rt.alloc())?;
-    expect!(rt; counts(rt.alloc(), &db)? == [49, 81, 81]);
+fn programs_are_made(rt: HostRuntime) {
+    let db = smallest(&rt);
+    let _parts = db.parts();
+    none_wide_at_32();
+    let state = State::start(&db);
+    let begun = program(rt.alloc(), &db, Style::plain(), Width::W32, None);
+    expect!(rt; begun.expect(&rt, "memory").directives.len() == 81);
+    let handed_in = program(rt.alloc(), &db, Style::plain(), Width::W32, Some(&state));
+    expect!(rt; handed_in.expect(&rt, "memory").directives.len() == 81);
+}
+
+#[test]
+fn translations_are_made(rt: HostRuntime) {
+    let db = smallest(&rt);
     expect!(rt; translate(rt.alloc(), &db, Style::plain(), Width::W16, None).is_ok());
-    Ok(())
 }

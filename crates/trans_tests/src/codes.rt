@@ -4,7 +4,6 @@ use crate::expect;
 use inform_codes::examples::{CALL, CARRIED, FORK, MESSAGE, NAMES, ROUTINES};
 use inform_codes::{before, body, fork, numbered, routines};
 use inform_tree::{Change, Cond, Expr, Head, Name, Relation, Stmt};
-use std::test::Fail;
 
 fn is(name: &Name, text: &str) -> bool {
     name.bytes() == text.as_bytes()
@@ -63,33 +62,46 @@ fn returns_count(statement: &Stmt) -> bool {
     }
 }
 
-#[test]
-fn carried_is_grown(rt: HostRuntime) -> Result<(), Fail> {
-    let grown = body(rt.alloc(), &NAMES, &[9], &CARRIED)?;
-    expect!(rt; grown.len() == 2);
-    let turn = turn_of(&grown[0]).ok_or("no such loop")?;
-    expect!(rt; turn.len() == 1);
-    let (body, other) = branches_of(&turn[0]).ok_or("no such test")?;
-    expect!(rt; body.len() == 1);
-    expect!(rt; counts_up(&body[0]) && other.is_empty());
-    expect!(rt; returns_count(&grown[1]));
-    Ok(())
+// Whether these are the statements that count the items that are carried.
+fn counts_carried(grown: &[Stmt]) -> bool {
+    let [counting, last] = grown else {
+        return false;
+    };
+    let Some([choice]) = turn_of(counting).map(|turn| turn.as_slice()) else {
+        return false;
+    };
+    let Some((body, other)) = branches_of(choice) else {
+        return false;
+    };
+    let [once] = body.as_slice() else {
+        return false;
+    };
+    counts_up(once) && other.is_empty() && returns_count(last)
 }
 
 #[test]
-fn calls_succeed(rt: HostRuntime) -> Result<(), Fail> {
+fn carried_is_grown(rt: HostRuntime) {
+    let grown = body(rt.alloc(), &NAMES, &[9], &CARRIED).expect(&rt, "memory");
+    expect!(rt; counts_carried(&grown));
+}
+
+#[test]
+fn tables_are_grown(rt: HostRuntime) {
+    let table = routines(rt.alloc(), &NAMES, &[9], &ROUTINES).expect(&rt, "memory");
+    expect!(rt; sizes(&rt, &table).as_slice() == [2, 3].as_slice());
+}
+
+#[test]
+fn calls_succeed(rt: HostRuntime) {
     let alloc = rt.alloc();
-    let table = routines(alloc, &NAMES, &[9], &ROUTINES)?;
-    expect!(rt; sizes(alloc, &table)?.as_slice() == [2, 3].as_slice());
-    let name = numbered(alloc, b"msg_", 12)?;
+    let name = numbered(alloc, b"msg_", 12).expect(&rt, "memory");
     expect!(rt; name.as_slice() == b"msg_12".as_slice());
     let names = [name.as_slice()];
-    let message = body(alloc, &names, &[], &MESSAGE)?;
+    let message = body(alloc, &names, &[], &MESSAGE).expect(&rt, "memory");
     expect!(rt; message.len() == 2);
-    let called = before(alloc, &names, &[], &CALL, message)?;
+    let called = before(alloc, &names, &[], &CALL, message).expect(&rt, "memory");
     expect!(rt; called.len() == 3);
     let branches = (called, Vec::new(alloc));
-    let forked = fork(alloc, &names, &[7], &FORK, branches, Vec::new(alloc))?;
-    expect!(rt; forked.len() == 1);
-    Ok(())
+    let forked = fork(alloc, &names, &[7], &FORK, branches, Vec::new(alloc));
+    expect!(rt; forked.expect(&rt, "memory").len() == 1);
 }

@@ -1,7 +1,7 @@
 //! A small game.
 use scott_types::{Action, Db, Header, Item, Parts, Room, Text, Trailer, Word};
 use std::alloc::Global;
-use std::test::Fail;
+use std::process::Abort;
 
 const HEADER: Header = Header {
     unused: 0,
@@ -30,7 +30,8 @@ fn empty_text(alloc: Global) -> Text {
 }
 
 // One entry in each list, and each text empty.
-fn parts(alloc: Global) -> Result<Parts, Fail> {
+fn parts<R: Abort + AllocGlobal>(rt: &R) -> Parts {
+    let alloc = rt.alloc();
     let word = Word {
         verb: empty_text(alloc),
         noun: empty_text(alloc),
@@ -43,22 +44,19 @@ fn parts(alloc: Global) -> Result<Parts, Fail> {
         text: empty_text(alloc),
         place: 0,
     };
-    Ok(Parts {
+    Parts {
         header: HEADER,
-        actions: vec![in alloc; ACTION]?,
-        words: vec![in alloc; word]?,
-        rooms: vec![in alloc; room]?,
-        messages: vec![in alloc; empty_text(alloc)]?,
-        items: vec![in alloc; item]?,
-        comments: vec![in alloc; empty_text(alloc)]?,
+        actions: vec![in alloc; ACTION].expect(rt, "memory"),
+        words: vec![in alloc; word].expect(rt, "memory"),
+        rooms: vec![in alloc; room].expect(rt, "memory"),
+        messages: vec![in alloc; empty_text(alloc)].expect(rt, "memory"),
+        items: vec![in alloc; item].expect(rt, "memory"),
+        comments: vec![in alloc; empty_text(alloc)].expect(rt, "memory"),
         trailer: TRAILER,
-    })
+    }
 }
 
 /// A database with one entry in each list.
-pub fn smallest(alloc: Global) -> Result<Db, Fail> {
-    match Db::new(parts(alloc)?) {
-        Ok(db) => Ok(db),
-        Err(_) => Err(Fail::from("its limits")),
-    }
+pub fn smallest<R: Abort + AllocGlobal>(rt: &R) -> Db {
+    Db::new(parts(rt)).ok().expect(rt, "a game")
 }

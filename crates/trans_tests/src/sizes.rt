@@ -1,15 +1,15 @@
 //! How much a table of directives has.
 use inform_tree::Directive;
-use std::alloc::{AllocError, Global};
+use std::process::Abort;
 
 /// How many statements each routine has.
-pub fn sizes(alloc: Global, table: &[Directive]) -> Result<Vec<usize>, AllocError> {
-    let mut sizes = Vec::new(alloc);
+pub fn sizes<R: Abort + AllocGlobal>(rt: &R, table: &[Directive]) -> Vec<usize> {
+    let mut sizes = Vec::new(rt.alloc());
     for directive in table {
         match directive {
-            Directive::Routine(routine) => sizes.push(routine.body.len())?,
+            Directive::Routine(routine) => sizes.push(routine.body.len()).expect(rt, "memory"),
             _ => {}
         }
     }
-    Ok(sizes)
+    sizes
 }
