@@ -95,10 +95,12 @@ fn a_source_means_its_database(rt: HostRuntime) {
 #[test]
 fn a_source_means_its_item_and_comment(rt: HostRuntime) {
     let db = database(&rt, NO_ACTION);
-    for item in &db.parts().items {
+    let parts = db.parts();
+    expect!(rt; (parts.items.len(), parts.comments.len()) == (1, 1));
+    for item in &parts.items {
         expect!(rt; (item.place, item.text.bytes()) == (1, b"Rug".as_slice()));
     }
-    for comment in &db.parts().comments {
+    for comment in &parts.comments {
         expect!(rt; comment.bytes().is_empty());
     }
 }
@@ -129,7 +131,10 @@ const ACTIONS: &[(&[u8], u32, [u32; 5], [u32; 2])] = &[
 #[test]
 fn lines_mean_actions(rt: HostRuntime) {
     for (line, vocab, conds, pairs) in ACTIONS {
-        for action in &database(&rt, line).parts().actions {
+        let db = database(&rt, line);
+        let actions = &db.parts().actions;
+        expect!(rt; actions.len() == 1);
+        for action in actions {
             expect!(rt; (action.vocab, action.conds, action.pairs) == (*vocab, *conds, *pairs));
         }
     }

@@ -85,17 +85,25 @@ fn is_item(item: &At<ItemPart>) -> bool {
 #[test]
 fn words_and_items_are_read(rt: HostRuntime) {
     let source = source(&rt);
-    for word in source.words.entries.as_slice() {
-        expect!(rt; word.at != 102 || word.what.noun.as_slice() == b"NORTH".as_slice());
+    let words = source.words.entries.as_slice();
+    expect!(rt; words.len() == 2);
+    for word in words {
+        let found = (word.at, word.what.noun.as_slice());
+        expect!(rt; found == (89, b"ANY".as_slice()) || found == (102, b"NORTH".as_slice()));
     }
-    for item in source.items.entries.as_slice() {
+    let items = source.items.entries.as_slice();
+    expect!(rt; items.len() == 3);
+    for item in items {
         expect!(rt; is_item(item));
     }
 }
 
 #[test]
 fn rooms_are_read(rt: HostRuntime) {
-    for room in source(&rt).rooms.entries.as_slice() {
+    let source = source(&rt);
+    let rooms = source.rooms.entries.as_slice();
+    expect!(rt; rooms.len() == 2);
+    for room in rooms {
         let [north, _, _, west, _, _] = &room.what.exits;
         expect!(rt; room.at == 126 || room.what.text.as_slice() == b"hall".as_slice());
         expect!(rt; room.at == 126 || matches!(&north.what, Ref::Name(_)));
@@ -116,30 +124,34 @@ fn is_op(op: &At<Op>) -> bool {
     }
 }
 
-// How many opcodes the line at a place has.
-fn opcodes_at(at: usize) -> usize {
+// How many conditions and opcodes the line at a place has.
+fn counts_at(at: usize) -> (usize, usize) {
     match at {
-        307 => 5,
-        418 => 1,
-        _ => 0,
+        307 => (2, 5),
+        418 => (1, 1),
+        _ => (0, 0),
     }
 }
 
 // Expects that the conditions and opcodes of a line are those that stand at their places.
 fn expect_line(rt: &impl Abort, line: &At<LinePart>) {
-    expect!(rt; line.what.ops.as_slice().len() == opcodes_at(line.at));
-    for cond in line.what.conds.as_slice() {
+    let (conds, ops) = (line.what.conds.as_slice(), line.what.ops.as_slice());
+    expect!(rt; (conds.len(), ops.len()) == counts_at(line.at));
+    for cond in conds {
         let found = (cond.at, cond.what.code);
         expect!(rt; found == (321, 3) || found == (331, 0) || found == (428, 1));
     }
-    for op in line.what.ops.as_slice() {
+    for op in ops {
         expect!(rt; is_op(op));
     }
 }
 
 #[test]
 fn lines_are_read(rt: HostRuntime) {
-    for line in source(&rt).lines.entries.as_slice() {
+    let source = source(&rt);
+    let lines = source.lines.entries.as_slice();
+    expect!(rt; lines.len() == 3);
+    for line in lines {
         expect_line(&rt, line);
     }
 }
