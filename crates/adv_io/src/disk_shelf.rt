@@ -10,9 +10,9 @@ ghost use Rattle.adv_io.specs.Shelf.{Loads, Stores, TellsLength, count_after, di
 
 use crate::faults::ShelfFault;
 use crate::shelves::Shelf;
+use crate::writing::{fill, open_target};
 use std::alloc::Global;
-use std::fs::OpenFile;
-use std::io::{ErrorKind, Read, Write};
+use std::io::{ErrorKind, Read};
 use std::marker::Model;
 use std::rt::Files;
 use std::{fs, io};
@@ -57,6 +57,14 @@ impl<'a, R: Files> DiskShelf<'a, R> {
         if fault.kind() == ErrorKind::OutOfMemory {
             return ShelfFault::Memory;
         }
+        self.count_fault()
+    }
+
+    fn count_fault(&mut self) -> ShelfFault
+        ensures answer { result ≡ Failed }
+        ensures counted { self.new ≡ raised self.old }
+        ensures never_falls { self.old ≤ self.new }
+    {
         self.faults = self.faults.saturating_add(1);
         ShelfFault::Failed
     }
@@ -87,7 +95,9 @@ impl<'a, R: Files> Shelf for DiskShelf<'a, R> {
         }
     }
 
-    /// A file of which only a part could be written is removed.
+    /// The old file stays where the new one can't be written, but for one that can't be replaced:
+    /// crate::writing has the rule. Want of memory is answered only where nothing was touched; each
+    /// failure after that counts as a fault.
     fn store(&mut self, alloc: Global, name: &str, bytes: &[u8]) -> Result<(), ShelfFault>
         ensures counted { self.new ≡ count_after result self.old }
 
@@ -95,10 +105,13 @@ impl<'a, R: Files> Shelf for DiskShelf<'a, R> {
         ensures every { Stores (disk_stock self.old)
             (disk_stock self.new) name.now bytes.now result }
     {
-        let _ = alloc;
-        match write_file(self.rt, name, bytes) {
+        let target = match open_target(self.rt, alloc, name) {
+            Ok(target) => target,
+            Err(fault) => return Err(self.failed(&fault)),
+        };
+        match fill(self.rt, name, target, bytes) {
             Ok(()) => Ok(()),
-            Err(fault) => Err(self.failed(&fault)),
+            Err(_) => Err(self.count_fault()),
         }
     }
 }
@@ -110,14 +123,4 @@ fn read_file<R: Files>(rt: &R, alloc: Global, name: &str, limit: usize) -> io::R
     let most = (limit as u64).saturating_add(1);
     let _ = file.take(most).read_to_end(&mut bytes)?;
     Ok(bytes)
-}
-
-// Makes the bytes the file's. What is half written doesn't stay, unless it is no plain file.
-fn write_file<R: Files>(rt: &R, name: &str, bytes: &[u8]) -> io::Result<()> {
-    let mut file = fs::create(rt, name)?;
-    let written = file.write_all(bytes);
-    if written.is_err() && file.metadata()?.is_file() {
-        fs::remove_file(rt, name)?;
-    }
-    written
 }

@@ -22,6 +22,7 @@ pub mod script_console;
 // Both of the system.
 pub mod disk_shelf;
 pub mod std_console;
+mod writing;
 
 pub use bytes::is_whitespace;
 pub use consoles::{Console, Taken};
