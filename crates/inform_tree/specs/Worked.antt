@@ -1,5 +1,7 @@
--- Worked examples: names, depths and shapes that were judged by hand.
-use Rattle.std.specs.Prelude.{ℕ, ◌≡◌, true, false, List, [], ◌∷◌, codes, replicate}
+-- Worked examples: tables, limits, names, depths and shapes that were judged by hand.
+use Rattle.std.specs.Prelude.{ℕ, ◌≡◌, true, false, List, [], ◌∷◌, codes, replicate, map}
+use Rattle.inform_tree.specs.declared.words.TheConstants.{RESERVED, NAME_LIMIT, SPECIAL}
+use Rattle.inform_tree.specs.declared.formed_programs.TheConstants.{DEPTH_LIMIT}
 use Rattle.inform_tree.specs.declared.values.SumOp.TheVariants.{Add}
 use Rattle.inform_tree.specs.declared.values.Const.TheVariants as k
 use Rattle.inform_tree.specs.Values as v
@@ -12,6 +14,35 @@ use Rattle.inform_tree.specs.Programs.{DirectiveTree}
 use Rattle.inform_tree.specs.Depths.{statement_depth}
 use Rattle.inform_tree.specs.Words.{is_name, is_character}
 use Rattle.inform_tree.specs.Formed.{is_formed_expression, is_formed_statement, is_well_formed}
+
+-- ---- the tables and limits that the definitions read
+
+-- the words of the grammar, and those that Inform has beside them
+abbrev pub reserved_words : List (List ℕ)
+reserved_words =
+    codes "array" ∷ codes "attribute" ∷ codes "box" ∷ codes "break" ∷ codes "buffer" ∷
+    codes "char" ∷ codes "class" ∷ codes "constant" ∷ codes "continue" ∷ codes "default" ∷
+    codes "do" ∷ codes "else" ∷ codes "extend" ∷ codes "font" ∷ codes "for" ∷ codes "give" ∷
+    codes "global" ∷ codes "has" ∷ codes "hasnt" ∷ codes "if" ∷ codes "in" ∷ codes "include" ∷
+    codes "inversion" ∷ codes "jump" ∷ codes "move" ∷ codes "new_line" ∷ codes "notin" ∷
+    codes "object" ∷ codes "objectloop" ∷ codes "ofclass" ∷ codes "or" ∷ codes "print" ∷
+    codes "print_ret" ∷ codes "property" ∷ codes "provides" ∷ codes "quit" ∷ codes "random" ∷
+    codes "read" ∷ codes "remove" ∷ codes "restore" ∷ codes "return" ∷ codes "rfalse" ∷
+    codes "rtrue" ∷ codes "save" ∷ codes "self" ∷ codes "sender" ∷ codes "spaces" ∷
+    codes "string" ∷ codes "style" ∷ codes "switch" ∷ codes "table" ∷ codes "to" ∷
+    codes "until" ∷ codes "verb" ∷ codes "while" ∷ []
+
+-- these words are reserved, and no others
+abbrev pub ReservedWordsListed : Type 0
+ReservedWordsListed = map (λ word. word.now) RESERVED ≡ reserved_words
+
+-- `'`, `"`, `\`, `@`, `^` and `~`
+abbrev pub SpecialBytesListed : Type 0
+SpecialBytesListed = SPECIAL ≡ 39 ∷ 34 ∷ 92 ∷ 64 ∷ 94 ∷ 126 ∷ []
+
+-- the bytes of a name, and the depth of a routine
+abbrev pub LimitsListed : Type 0
+LimitsListed = (NAME_LIMIT ≡ 32) × (DEPTH_LIMIT ≡ 64)
 
 -- ---- names and characters
 

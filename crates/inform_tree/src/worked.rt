@@ -1,6 +1,21 @@
-//! Worked examples of names, depths and shapes. Each is the contract of a function that does
-//! nothing, and is proved by computing.
-ghost use Rattle.inform_tree.specs.Worked.{NamesJudged, LongNamesJudged, CharactersJudged, TestCounts, ChangesCountNothing, DepthLimitJudged, ChainsJudged, EmptyListsRefused};
+//! Worked examples of tables, names, depths and shapes. Each is the contract of a function that
+//! does nothing, and is proved by computing.
+ghost use Rattle.inform_tree.specs.Worked.{ReservedWordsListed, SpecialBytesListed, LimitsListed, NamesJudged, LongNamesJudged, CharactersJudged, TestCounts, ChangesCountNothing, DepthLimitJudged, ChainsJudged, EmptyListsRefused};
+
+/// 55 words are reserved: these, and no others.
+pub fn reserved_words_listed()
+    ensures { ReservedWordsListed }
+{}
+
+/// Six printable bytes have a meaning of their own.
+pub fn special_bytes_listed()
+    ensures { SpecialBytesListed }
+{}
+
+/// The limits of a name and of a routine.
+pub fn limits_listed()
+    ensures { LimitsListed }
+{}
 
 /// Letters in lower case, digits and underscores are a name, where no digit is first and no word is
 /// reserved.
