@@ -1,4 +1,4 @@
--- Worked examples: words and programs that were judged by hand.
+-- Worked examples: limits, words and programs that were judged by hand.
 use Rattle.std.specs.Prelude.{ℕ, ◌≡◌, pos, negsuc, true, false, List, [], ◌∷◌, ◌++◌, codes, replicate, Option, Some, None}
 use Rattle.inform_tree.specs.declared.widths.Width.TheVariants.{W16, W32}
 use Rattle.inform_tree.specs.declared.values.Const.{Const}
@@ -10,9 +10,21 @@ use Rattle.inform_tree.specs.Statements as s
 use Rattle.inform_tree.specs.Statements.{Statement, statements}
 use Rattle.inform_tree.specs.Programs as d
 use Rattle.inform_tree.specs.Programs.{DirectiveTree}
+use Rattle.inform_names.specs.declared.limits.TheConstants.{LOCAL_LIMIT, ARGUMENT_LIMIT, LENGTH_LIMIT, ENTRY_LIMIT, DEEPEST}
 use Rattle.inform_names.specs.Words.{word, minus_word}
 use Rattle.inform_names.specs.Faults.{Fault, twice, missing, wrong_kind, too_many_locals, too_many_arguments, wide_number, wrong_size, outside, too_deep, main_locals, no_main}
 use Rattle.inform_names.specs.Acceptance.{main, has_wrong_size, name_fault}
+
+-- ---- the limits that the definitions read
+
+-- the locals of a routine, the arguments of a call, the entries of an array and of all of them, and
+-- the depth of a routine
+abbrev pub LimitsListed : Type 0
+LimitsListed = (LOCAL_LIMIT ≡ 15)
+    × (ARGUMENT_LIMIT ≡ 7)
+    × (LENGTH_LIMIT ≡ 32767)
+    × (ENTRY_LIMIT ≡ 4000000)
+    × (DEEPEST ≡ 64)
 
 -- ---- words
 

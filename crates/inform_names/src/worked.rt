@@ -1,6 +1,11 @@
-//! Worked examples of words and programs. Each is the contract of a function that does nothing, and
-//! is proved by computing.
-ghost use Rattle.inform_names.specs.Worked.{WordsJudged, ConstantsUseEarlierOnes, GlobalsUseConstants, SecondIsTwice, LengthsJudged, EntriesCounted, ArraysInTheirPlaces, LocalsCounted, ArgumentsCounted, LocalsHide, MainsJudged, DepthsJudged, LoopsLeft, WidthsJudged, LeftmostFirst};
+//! Worked examples of limits, words and programs. Each is the contract of a function that does
+//! nothing, and is proved by computing.
+ghost use Rattle.inform_names.specs.Worked.{LimitsListed, WordsJudged, ConstantsUseEarlierOnes, GlobalsUseConstants, SecondIsTwice, LengthsJudged, EntriesCounted, ArraysInTheirPlaces, LocalsCounted, ArgumentsCounted, LocalsHide, MainsJudged, DepthsJudged, LoopsLeft, WidthsJudged, LeftmostFirst};
+
+/// What a program may have at most.
+pub fn limits_listed()
+    ensures { LimitsListed }
+{}
 
 /// A number stands for the word of its lowest bits.
 pub fn words_judged()
