@@ -14,3 +14,4 @@ pub mod WrittenTables
 pub mod WrittenLexemes
 pub mod ReadLexemes
 pub mod Names
+pub mod LongestTokens

@@ -29,13 +29,13 @@ use Rattle.inform_lexer.proofs.WrittenStrings.{text_is_inside, reads_back}
 use Rattle.inform_lexer.proofs.WrittenTables.{kind_of, Stands, sign_stands, word_stands}
 
 -- the chain of tests of the first byte of a token, at given truth values
-abbrev picked : Bool → Bool → Bool → Bool → Bool → Bool → Bool → ℕ → ℕ → List ℕ → TokenStep
+abbrev pub picked : Bool → Bool → Bool → Bool → Bool → Bool → Bool → ℕ → ℕ → List ℕ → TokenStep
 picked blank word digit quote apostrophe mark dollar at b bytes =
     cond blank (gap (prefix_len is_blank bytes)) (cond word (word_here at bytes) (cond digit (decimal_here at (b ∷ bytes))
     (cond quote (string_here at bytes) (cond apostrophe (character_here at bytes) (cond mark (gap (prefix_len is_comment_byte bytes))
     (cond dollar (dollar_here at bytes) (symbol_token at (symbol_first (b ∷ bytes)))))))))
 
-step_is : (at b : ℕ) (bytes : List ℕ) → token_step tt at (b ∷ bytes)
+pub step_is : (at b : ℕ) (bytes : List ℕ) → token_step tt at (b ∷ bytes)
     ≡ picked (is_blank b) (begins_word b) (is_digit_in 10 b) (eqb b 34) (eqb b 39) (eqb b 33) (eqb b 36) at b bytes
 unfolding token_step
 step_is at b bytes = refl

@@ -8,6 +8,7 @@ pub mod Reserved
 pub mod Answers
 pub mod Views
 pub mod FaultTexts
+pub mod Longest
 pub mod Laws
 pub mod Written
 pub mod Worked

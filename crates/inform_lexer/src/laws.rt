@@ -1,5 +1,6 @@
 //! The laws of tokens. Each is the contract of a function that does nothing else.
 ghost use Rattle.inform_lexer.specs.Laws.{TokensOrFault, NeverBoth, OneTokenList, OneFault, TextReadsBack, TokensAreWritable};
+ghost use Rattle.inform_lexer.specs.Longest.{TokensAreLongest};
 
 /// Bytes have tokens, or a first fault.
 pub fn tokens_or_fault()
@@ -19,6 +20,12 @@ pub fn one_token_list()
 /// Bytes have one first fault at most.
 pub fn one_fault()
     ensures { OneFault }
+{}
+
+/// Each token is as long as possible: of the bytes that it begins, no more are a token of any kind.
+#[tactic(auto, using(crate::proofs::LongestTokens::tokens_are_longest))]
+pub fn tokens_are_longest()
+    ensures { TokensAreLongest }
 {}
 
 /// Lexemes that have a text are written as one, whose tokens say just these.
