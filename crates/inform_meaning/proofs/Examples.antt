@@ -1,6 +1,6 @@
 -- The worked examples hold by computing.
 use Rattle.std.proofs.Common.{refl}
-use Rattle.inform_meaning.specs.Worked.{DivisionTraps, StepsAreSpent, CallsNest, WordsWrap, DivisionGoesTowardZero, ChainsGoFromTheLeft, IndexIsTestedLast, LoopsAreLeft, BodyComesFirst, OneCaseIsDone, DrawsAreTaken, LinesAreKept, QuitEndsTheRun, RoutinesGiveValues, LocalsHide, RoutinesAreNoted}
+use Rattle.inform_meaning.specs.Worked.{DivisionTraps, StepsAreSpent, CallsNest, WordsWrap, DivisionGoesTowardZero, ChainsGoFromTheLeft, IndexIsTestedLast, LoopsAreLeft, BodyComesFirst, OneCaseIsDone, DrawsAreTaken, LinesAreKept, QuitEndsTheRun, RoutinesGiveValues, LocalsHide, RoutinesAreNoted, AbsentTestsTakeAStep, ContinueGoesToTheTest, RandomBelowOneTraps, ShortBuffersTrap, BytesAreLow, CharactersAreLow}
 use Rattle.inform_meaning.proofs.Opened.{opened}
 
 pub division_traps : DivisionTraps
@@ -66,3 +66,27 @@ routines_are_noted = refl
 pub routines_give_values : RoutinesGiveValues
 unfolding opened
 routines_give_values = refl
+
+pub absent_tests_take_a_step : AbsentTestsTakeAStep
+unfolding opened
+absent_tests_take_a_step = refl
+
+pub continue_goes_to_the_test : ContinueGoesToTheTest
+unfolding opened
+continue_goes_to_the_test = (refl, refl)
+
+pub random_below_one_traps : RandomBelowOneTraps
+unfolding opened
+random_below_one_traps = (refl, refl)
+
+pub short_buffers_trap : ShortBuffersTrap
+unfolding opened
+short_buffers_trap = refl
+
+pub bytes_are_low : BytesAreLow
+unfolding opened
+bytes_are_low = (refl, refl)
+
+pub characters_are_low : CharactersAreLow
+unfolding opened
+characters_are_low = refl

@@ -138,6 +138,27 @@ LoopsAreLeft = Ends
     ∷ s.Print (s.Value (v.Name (codes "i")) ∷ []) ∷ [])) ∷ []) ∷ []) 99 [] []
     (Halted Quits) (says (codes "02")) 83
 
+-- `for (::) break;`: a step for the statement, one for the absent test, and one for `break`
+abbrev pub AbsentTestsTakeAStep : Type 0
+AbsentTestsTakeAStep = Ends
+    (main (s.For None None None (statements (s.Break ∷ [])) ∷ []) ∷ []) 9 [] []
+    (Halted Quits) [] 6
+
+-- `{ i++; if (i == 2) continue; print i; }`
+abbrev counting : s.Statements
+counting = statements (s.Assign (s.Inc (codes "i")) ∷ if_i_is 2 s.Continue
+    ∷ s.Print (s.Value (v.Name (codes "i")) ∷ []) ∷ [])
+
+-- that is the body of `while (i < 2)`, and of `do .. until (i == 2);`: both loops end at their test
+abbrev pub ContinueGoesToTheTest : Type 0
+ContinueGoesToTheTest =
+    Ends (d.Global (codes "i") None
+    ∷ main (s.While (c.Compare Lt (v.Name (codes "i")) (v.Number 2)) counting ∷ []) ∷ []) 99 [] []
+    (Halted Quits) (says (codes "1")) 89
+    × Ends (d.Global (codes "i") None
+    ∷ main (s.Do counting (c.Compare Eq (v.Name (codes "i")) (v.Number 2)) ∷ []) ∷ []) 99 [] []
+    (Halted Quits) (says (codes "1")) 90
+
 -- `do print 1; until (1 == 1);` does its body once
 abbrev pub BodyComesFirst : Type 0
 BodyComesFirst = Ends
@@ -171,6 +192,15 @@ DrawsAreTaken =
     × (begun_of (run_of W16 dice no_notes 9 [] (8 ∷ [])).0 ≡ Begins (DrawDue (pos 6))
     ∷ Wants (SaysNumber []) ∷ Begins (Blocks s.NoStatements) ∷ Main ∷ [])
 
+-- `print random(0);` and `print random(-1);`: no draw is taken
+abbrev drawn : Expression → List DirectiveTree
+drawn x = main (s.Print (s.Value (v.Random x) ∷ []) ∷ []) ∷ []
+
+abbrev pub RandomBelowOneTraps : Type 0
+RandomBelowOneTraps =
+    Ends (drawn (v.Number 0)) 9 [] (8 ∷ []) (Halted (Trapped t.Random 0)) [] 8
+    × Ends (drawn (v.Neg (v.Number 1))) 9 [] (8 ∷ []) (Halted (Trapped t.Random 0)) [] 8
+
 -- `Array t -> 2 0 0 0; Array p -> 1; [ Main; read t p; print t->1, (char) t->2; ];`
 abbrev reader : List DirectiveTree
 reader = d.Array (codes "t") false (k.Number 2 ∷ k.Number 0 ∷ k.Number 0 ∷ k.Number 0 ∷ [])
@@ -184,6 +214,39 @@ LinesAreKept =
     Ends reader 9 [] [] (Lacking NeedsLine) [] 8
     × Ends reader 9 (codes "look" ∷ []) [] (Halted Quits) (Take (codes "look") ∷ says (codes "2l"))
     7
+
+-- `Array t -> 2 0 0; Array p -> 1; [ Main; read t p; ];`: no line is taken
+abbrev pub ShortBuffersTrap : Type 0
+ShortBuffersTrap = Ends
+    (d.Array (codes "t") false (k.Number 2 ∷ k.Number 0 ∷ k.Number 0 ∷ [])
+    ∷ d.Array (codes "p") false (k.Number 1 ∷ [])
+    ∷ main (s.Read (codes "t") (codes "p") ∷ []) ∷ []) 9 (codes "look" ∷ []) []
+    (Halted (Trapped t.Line 2)) [] 8
+
+-- `print a->0, " ", a->1;`
+abbrev two_bytes : Statement
+two_bytes = s.Print (s.Value (v.Entry (codes "a") false (v.Number 0)) ∷ s.Text (codes " ")
+    ∷ s.Value (v.Entry (codes "a") false (v.Number 1)) ∷ [])
+
+-- `a->INDEX = VALUE;`
+abbrev store_byte : ℕ → Expression → Statement
+store_byte index x = s.Assign (s.SetEntry (codes "a") false (v.Number index) x)
+
+-- `Array a -> 300 (-1); [ Main; print a->0, " ", a->1; ];`, and `Array a -> 2;` whose entries are
+-- stored before that
+abbrev pub BytesAreLow : Type 0
+BytesAreLow =
+    Ends (d.Array (codes "a") false (k.Number 300 ∷ k.Minus 1 ∷ []) ∷ main (two_bytes ∷ []) ∷ [])
+    9 [] [] (Halted Quits) (says (codes "44 255")) 8
+    × Ends (d.Array (codes "a") false (k.Number 2 ∷ [])
+    ∷ main (store_byte 0 (v.Number 300) ∷ store_byte 1 (v.Neg (v.Number 1)) ∷ two_bytes ∷ []) ∷ [])
+    9 [] [] (Halted Quits) (says (codes "44 255")) 6
+
+-- `print (char) -159;` says `a`, which is 97
+abbrev pub CharactersAreLow : Type 0
+CharactersAreLow = Ends
+    (main (s.Print (s.Char (v.Neg (v.Number 159)) ∷ []) ∷ []) ∷ []) 9 [] []
+    (Halted Quits) (says (codes "a")) 8
 
 -- `[ Main; F(); print "a"; ]; [ F; quit; ];`, and a `Main` that is called
 abbrev pub QuitEndsTheRun : Type 0

@@ -1,6 +1,6 @@
 //! Worked examples of runs. Each is the contract of a function that does nothing, and is proved by
 //! computing.
-ghost use Rattle.inform_meaning.specs.Worked.{DivisionTraps, StepsAreSpent, CallsNest, WordsWrap, DivisionGoesTowardZero, ChainsGoFromTheLeft, IndexIsTestedLast, LoopsAreLeft, BodyComesFirst, OneCaseIsDone, DrawsAreTaken, LinesAreKept, QuitEndsTheRun, RoutinesGiveValues, LocalsHide, RoutinesAreNoted};
+ghost use Rattle.inform_meaning.specs.Worked.{DivisionTraps, StepsAreSpent, CallsNest, WordsWrap, DivisionGoesTowardZero, ChainsGoFromTheLeft, IndexIsTestedLast, LoopsAreLeft, BodyComesFirst, OneCaseIsDone, DrawsAreTaken, LinesAreKept, QuitEndsTheRun, RoutinesGiveValues, LocalsHide, RoutinesAreNoted, AbsentTestsTakeAStep, ContinueGoesToTheTest, RandomBelowOneTraps, ShortBuffersTrap, BytesAreLow, CharactersAreLow};
 
 /// A division by 0 is a trap, in the routine that divides.
 #[tactic(auto, using(crate::proofs::Examples::division_traps))]
@@ -50,6 +50,18 @@ pub fn loops_are_left()
     ensures { LoopsAreLeft }
 {}
 
+/// The test of a `for` without a condition takes a step too.
+#[tactic(auto, using(crate::proofs::Examples::absent_tests_take_a_step))]
+pub fn absent_tests_take_a_step()
+    ensures { AbsentTestsTakeAStep }
+{}
+
+/// `continue` goes to the test of `while` and of `do`.
+#[tactic(auto, using(crate::proofs::Examples::continue_goes_to_the_test))]
+pub fn continue_goes_to_the_test()
+    ensures { ContinueGoesToTheTest }
+{}
+
 /// The body of `do` is done before its test.
 #[tactic(auto, using(crate::proofs::Examples::body_comes_first))]
 pub fn body_comes_first()
@@ -68,10 +80,34 @@ pub fn draws_are_taken()
     ensures { DrawsAreTaken }
 {}
 
+/// `random` of a number below 1 is a trap.
+#[tactic(auto, using(crate::proofs::Examples::random_below_one_traps))]
+pub fn random_below_one_traps()
+    ensures { RandomBelowOneTraps }
+{}
+
+/// A buffer with fewer entries than its first one and two is a trap.
+#[tactic(auto, using(crate::proofs::Examples::short_buffers_trap))]
+pub fn short_buffers_trap()
+    ensures { ShortBuffersTrap }
+{}
+
 /// `read` keeps as many bytes of a line as its buffer has room for.
 #[tactic(auto, using(crate::proofs::Examples::lines_are_kept))]
 pub fn lines_are_kept()
     ensures { LinesAreKept }
+{}
+
+/// An array of bytes keeps the low 8 bits of what is listed and of what is stored.
+#[tactic(auto, using(crate::proofs::Examples::bytes_are_low))]
+pub fn bytes_are_low()
+    ensures { BytesAreLow }
+{}
+
+/// `(char)` says the low 8 bits of a value, of a negative one too.
+#[tactic(auto, using(crate::proofs::Examples::characters_are_low))]
+pub fn characters_are_low()
+    ensures { CharactersAreLow }
 {}
 
 /// `quit` ends the run in a routine that was called.
