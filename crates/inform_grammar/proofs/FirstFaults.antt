@@ -1,24 +1,27 @@
 -- The fault that is read is the first one.
-use Rattle.std.proofs.Common.{◌≡◌, ◌⊎◌, inl, inr, ℕ, suc, Bool, true, false, cond, List, [], ◌∷◌, ◌++◌, Some, None, Err, refl, sym, ap, ap₂, subst, ◌∙◌, append_assoc, append-nil}
+use Rattle.std.proofs.Common.{◌≡◌, ◌⊎◌, inl, inr, ℕ, zero, suc, ◌≤◌, ◌<◌, Bool, true, false, cond, List, [], ◌∷◌, ◌++◌, Option, Some, None, Ok, Err, refl, sym, ap, ap₂, subst, ◌∙◌, append_assoc, append-nil, arith}
 use Rattle.std.specs.Bool.{MatchBool}
+use Rattle.std.proofs.lemmas.Bool.{cases_lt}
 use Rattle.std.specs.Prelude.{⊤}
 use Rattle.inform_tree.specs.Programs.{DirectiveTree}
 use Rattle.inform_lexemes.specs.Lexemes.{Lexeme}
 use Rattle.inform_lexemes.specs.Laws.{SymbolsTold, KeywordsTold}
 use Rattle.inform_grammar.specs.Faults.{FaultKind, Unexpected, Mixed, TooDeep, Fault, fault}
 use Rattle.inform_grammar.specs.Lexemes.{is_opener, is_closer, swapped, one_less}
-use Rattle.inform_grammar.specs.Plan.{Plan}
-use Rattle.inform_grammar.specs.Rule.{program}
-use Rattle.inform_grammar.specs.Reading.{Outcome, stops, gives, goes, step, Answer, opened_after, taken, at_end, at_lexeme, reads, no_limit}
-use Rattle.inform_grammar.specs.Laws.{IsPrefix, NoneGoesOn, Stands, FirstFault}
+use Rattle.inform_grammar.specs.Plan.{Plan, done, refuse, next, look, maybe, chain, shut, ◌>>=◌}
+use Rattle.inform_grammar.specs.Rule.{rule, program}
+use Rattle.inform_grammar.specs.Reading.{Outcome, stops, gives, goes, either_way, step, spot, Answer, opened_after, taken, at_end, at_lexeme, reads, open_after, open_before, no_limit}
+use Rattle.inform_grammar.specs.Laws.{IsPrefix, NoneGoesOn, NoOtherGoesOn, Stands, FirstFault}
 use Rattle.inform_grammar.proofs.Says.{Fits}
-use Rattle.inform_grammar.proofs.Held.{not-both}
+use Rattle.inform_grammar.proofs.Held.{not-both, same-answers}
 use Rattle.inform_grammar.proofs.ReadSentences.{read-sentence}
 use Rattle.inform_grammar.proofs.SaysSentences.{read-is-sentence}
 use Rattle.inform_grammar.proofs.Ready.{Place, Program, Good}
 use Rattle.inform_grammar.proofs.ReadyPlans.{GoodNext, good-step}
 use Rattle.inform_grammar.proofs.ReadyStatements.{ready, program-good}
 use Rattle.inform_grammar.proofs.FaultKinds.{Goes, Judged, judged, refused_with, same-faults, end-kind}
+use Rattle.inform_grammar.proofs.Paired.{Paired, PairedNext, Apart, apart-swapped, paired-step}
+use Rattle.inform_grammar.proofs.PairedRules.{paired, program-paired}
 
 -- ---- from a plan to another
 
@@ -69,6 +72,92 @@ leads-good : {X : Type 0} (place : Place) (room : ℕ → Bool) (before : List L
 leads-good place room [] p q n i l g = subst (Good place) l.0 g
 leads-good place room (x ∷ xs) p q n i l g =
     leads-good place room xs l.0 q (opened_after x l.1) i l.4 (subst (GoodNext place) l.2 (good-step ready place x p n g.onward))
+
+-- and so does one in which each connective has the other
+leads-paired : {X : Type 0} (room : ℕ → Bool) (before : List Lexeme) (p q : Plan X) (n i : ℕ) → Leads room before p n q i → Paired p → Paired q
+leads-paired room [] p q n i l h = subst Paired l.0 h
+leads-paired room (x ∷ xs) p q n i l h =
+    leads-paired room xs l.0 q (opened_after x l.1) i l.4 (subst PairedNext l.2 (paired-step paired x p n h.leading))
+
+-- ---- how many are open
+
+leads-open : {X : Type 0} (room : ℕ → Bool) (before : List Lexeme) (p q after : Plan X) (n i m : ℕ) (x : Lexeme) → Leads room before p n q i
+    → step (Some x) q i ≡ goes after m → open_before before x p n ≡ Some m
+unfolding open_before
+leads-open room [] p q after n i m x l e = ap (λ o. open_after o (λ q m. Some m)) (ap₂ (λ p n. step (Some x) p n) l.0 l.1 ∙ e)
+leads-open room (y ∷ ys) p q after n i m x l e =
+    ap (λ o. open_after o (λ q m. open_before ys x q (opened_after y m))) l.2 ∙ leads-open room ys l.0 q after (opened_after y l.1) i m x l.4 e
+
+-- no more are open before a lexeme that is taken
+abbrev Fewer : {X : Type 0} → ℕ → Outcome X → Type 0
+Fewer n (stops kind) = ⊤
+Fewer n (gives v m) = ⊤
+Fewer n (goes p m) = m ≤ n
+
+fewer-less : {X : Type 0} (n : ℕ) (o : Outcome X) → Fewer (one_less n) o → Fewer n o
+fewer-less n (stops kind) h = tt
+fewer-less n (gives v m) h = tt
+fewer-less zero (goes p m) h = h
+fewer-less (suc n) (goes p m) h = omega (arith, h)
+
+fewer-next : {X : Type 0} (b : Bool) (x : Lexeme) (k : Lexeme → Plan X) (n : ℕ) (other : Outcome X) → Fewer n other
+    → Fewer n (either_way (cond b (Some x) None) (λ x. goes (k x) n) other)
+fewer-next true x k n other h = omega arith
+fewer-next false x k n other h = h
+
+fewer-look : {X : Type 0} (b : Bool) (x : Lexeme) (n : ℕ) (same other : Outcome X) → Fewer n same → Fewer n other
+    → Fewer n (either_way (cond b (Some x) None) (λ _. same) other)
+fewer-look true x n same other g h = g
+fewer-look false x n same other g h = h
+
+fewer-rule : {X Y : Type 0} (o : Option (Plan Y)) (k : Y → Plan X) (n : ℕ) (other : Outcome X) → Fewer n other
+    → Fewer n (either_way o (λ p. goes (p >>= k) n) other)
+fewer-rule None k n other h = h
+fewer-rule (Some p) k n other h = omega arith
+
+step-fewer : {X : Type 0} (x : Lexeme) (p : Plan X) (n : ℕ) → Fewer n (step (Some x) p n)
+unfolding step
+step-fewer x (done v) n = tt
+step-fewer x refuse n = tt
+step-fewer x (next test k q) n = fewer-next (test x) x k n (step (Some x) q n) (step-fewer x q n)
+step-fewer x (look test p q) n = fewer-look (test x) x n (step (Some x) p n) (step (Some x) q n) (step-fewer x p n) (step-fewer x q n)
+step-fewer x (maybe r k q) n = fewer-rule (rule r x) k n (step (Some x) q n) (step-fewer x q n)
+step-fewer x (chain r test front k) n =
+    fewer-rule (rule r x) (λ y. chain r test (front ++ y ∷ []) k) n _
+    (fewer-look (test x) x n (stops Mixed) (step (Some x) (k front) n) tt (step-fewer x (k front) n))
+step-fewer x (shut p) n = fewer-less n (step (Some x) p (one_less n)) (step-fewer x p (one_less n))
+
+-- there was room for each of those that are open
+abbrev HadRoom : (ℕ → Bool) → ℕ → Type 0
+HadRoom room n = (k : ℕ) → k < n → room k ≡ true
+
+had-fewer : (room : ℕ → Bool) (n m : ℕ) → m ≤ n → HadRoom room n → HadRoom room m
+had-fewer room n m few h k below = h k (omega (arith, few, below))
+
+had-after : (room : ℕ → Bool) (x : Lexeme) (n : ℕ) → Fits room x n → HadRoom room n → HadRoom room (opened_after x n)
+had-after room x n = by (is_opener x) (is_closer x)
+  where
+    had-one : (m : ℕ) → room m ≡ true → HadRoom room m → HadRoom room (suc m)
+    had-one m free h k below = by-place (cases_lt k m)
+      where
+        by-place : (k < m) ⊎ (m ≤ k) → room k ≡ true
+        by-place (inl less) = h k less
+        by-place (inr most) = let same : m ≡ k = omega (arith, most, below) in subst (λ (i : ℕ). room i ≡ true) same free
+
+    had-less : (m : ℕ) → HadRoom room m → HadRoom room (one_less m)
+    had-less zero h = h
+    had-less (suc m) h = had-fewer room (suc m) m (omega arith) h
+
+    by : (a b : Bool) → MatchBool a (room n ≡ true) ⊤ → HadRoom room n → HadRoom room (cond a (suc n) (cond b (one_less n) n))
+    by true b free h = had-one n free h
+    by false true free h = had-less n h
+    by false false free h = h
+
+leads-room : {X : Type 0} (room : ℕ → Bool) (before : List Lexeme) (p q : Plan X) (n i : ℕ) → Leads room before p n q i → HadRoom room n → HadRoom room i
+leads-room room [] p q n i l h = subst (HadRoom room) l.1 h
+leads-room room (x ∷ xs) p q n i l h =
+    let few : l.1 ≤ n = subst (Fewer n) l.2 (step-fewer x p n) in
+    leads-room room xs l.0 q (opened_after x l.1) i l.4 (had-after room x l.1 l.3 (had-fewer room n l.1 few h))
 
 -- ---- where a fault stands
 
@@ -192,6 +281,16 @@ module _ (told : SymbolsTold) (words : KeywordsTold) where
         not-both (sym (e more) ∙ sym (leads-reads room before program q 0 i l (x ∷ more))
         ∙ ap (λ ts. reads room ts program 0) (sym (append_assoc before (x ∷ []) more)) ∙ read-sentence room p ((before ++ x ∷ []) ++ more) d)
 
+    -- all that is read ends before the lexeme
+    gives-none : (x : Lexeme) (rest : List Lexeme) (v : List DirectiveTree) (m : ℕ) → step (Some x) q i ≡ gives v m → NoneGoesOn room before (x ∷ rest)
+    unfolding reads
+    gives-none x rest v m e (more, p, d) =
+        let whole : reads room (before ++ x ∷ more) program 0 ≡ Ok (p, spot 0 []) =
+        ap (λ ts. reads room ts program 0) (sym (append_assoc before (x ∷ []) more)) ∙ read-sentence room p ((before ++ x ∷ []) ++ more) d in
+        let here : reads room (before ++ x ∷ more) program 0 ≡ Ok (v, spot m (x ∷ more)) =
+        leads-reads room before program q 0 i l (x ∷ more) ∙ ap (λ o. at_lexeme room x more o (reads room more)) e in
+        let none : x ∷ more ≡ [] = (same-answers v p m 0 (x ∷ more) [] (sym here ∙ whole)).2 in absurd (cc)
+
     stops-none : (x : Lexeme) (rest : List Lexeme) (kind : FaultKind) → step (Some x) q i ≡ stops kind → NoneGoesOn room before (x ∷ rest)
     stops-none x rest kind e = none-goes-on x rest kind (λ more. ap (λ o. at_lexeme room x more o (reads room more)) e)
 
@@ -205,10 +304,21 @@ module _ (told : SymbolsTold) (words : KeywordsTold) where
 
   -- ---- why it stands
 
-  module _ (room : ℕ → Bool) (before : List Lexeme) (q : Plan (List DirectiveTree)) (i : ℕ) (l : Leads room before program 0 q i) (g : Good Program q) where
+  module _ (room : ℕ → Bool) (before : List Lexeme) (q : Plan (List DirectiveTree)) (i : ℕ) (l : Leads room before program 0 q i) (g : Good Program q) (h : Paired q) where
+    -- a lexeme that isn't taken
+    not-taken : (y : Lexeme) (o : Outcome (List DirectiveTree)) → step (Some y) q i ≡ o → (Goes o → ⊥) → IsPrefix no_limit (before ++ y ∷ []) → ⊥
+    not-taken y (stops kind) e h = stops-none no_limit before q i (leads-free room before program q 0 i l) y [] kind e
+    not-taken y (gives v m) e h = gives-none no_limit before q i (leads-free room before program q 0 i l) y [] v m e
+    not-taken y (goes p m) e h = absurd (h tt)
+
+    none-other : (x : Lexeme) (rest : List Lexeme) → step (Some x) q i ≡ stops Unexpected → NoOtherGoesOn before (x ∷ rest)
+    none-other x rest e c =
+        not-taken (swapped x) (step (Some (swapped x)) q i) refl (subst (λ o. Apart o (step (Some (swapped x)) q i)) e (apart-swapped x q i c h.both))
+
     stands-stopped : (x : Lexeme) (rest : List Lexeme) (kind : FaultKind) → step (Some x) q i ≡ stops kind
-        → Judged x (stops kind) (step (Some (swapped x)) q i) → Stands kind before (x ∷ rest)
-    stands-stopped x rest Unexpected e j = stops-none no_limit before q i (leads-free room before program q 0 i l) x rest Unexpected e
+        → Judged x (stops kind) (step (Some (swapped x)) q i) → Stands room kind before (x ∷ rest)
+    stands-stopped x rest Unexpected e j =
+        (stops-none no_limit before q i (leads-free room before program q 0 i l) x rest Unexpected e, none-other x rest e)
     stands-stopped x rest Mixed e j = (
       j.0,
       stops-none no_limit before q i (leads-free room before program q 0 i l) x rest Mixed e,
@@ -217,27 +327,34 @@ module _ (told : SymbolsTold) (words : KeywordsTold) where
     stands-stopped x rest TooDeep e j = absurd j
 
     stands-deep : (x : Lexeme) (rest : List Lexeme) (after : Plan (List DirectiveTree)) (m : ℕ) → step (Some x) q i ≡ goes after m → is_opener x ≡ true
-        → Stands TooDeep before (x ∷ rest)
-    stands-deep x rest after m e b = (b, prefix-on before q i x (leads-free room before program q 0 i l) g (goes after m) e tt)
+        → room m ≡ false → Stands room TooDeep before (x ∷ rest)
+    stands-deep x rest after m e b c =
+        let few : m ≤ i = subst (Fewer i) e (step-fewer x q i) in
+        let had : HadRoom room m = had-fewer room i m few (leads-room room before program q 0 i l (λ k below. absurd (omega (arith, below)))) in (
+          b,
+          prefix-on before q i x (leads-free room before program q 0 i l) g (goes after m) e tt,
+          (m, leads-open room before program q after 0 i m x l e, (c, had)),
+        )
 
-    stands : (kind : FaultKind) (rest : List Lexeme) → StopsAt room q i kind rest → NoneGoesOn room before rest × Stands kind before rest
+    stands : (kind : FaultKind) (rest : List Lexeme) → StopsAt room q i kind rest → NoneGoesOn room before rest × Stands room kind before rest
     stands kind [] e = (
       none-at-end room before q i l kind e,
-      subst (λ kind. Stands kind before []) (end-kind q i kind [] e).0 (none-at-end no_limit before q i (leads-free room before program q 0 i l) kind e),
+      subst (λ kind. Stands room kind before []) (end-kind q i kind [] e).0 (none-at-end no_limit before q i (leads-free room before program q 0 i l) kind e, tt),
     )
     stands kind (x ∷ rest) (inl e) = (
       stops-none room before q i l x rest kind e,
       stands-stopped x rest kind e (subst (λ o. Judged x o (step (Some (swapped x)) q i)) e (judged Program x q i g.onward)),
     )
     stands kind (x ∷ rest) (inr (after, m, e, b, c, k)) =
-        (deep-none room before q i l x rest after m e b c, subst (λ kind. Stands kind before (x ∷ rest)) (sym k) (stands-deep x rest after m e b))
+        (deep-none room before q i l x rest after m e b c, subst (λ kind. Stands room kind before (x ∷ rest)) (sym k) (stands-deep x rest after m e b c))
 
   -- the fault that is read is the first one
   pub fault-is-first : (room : ℕ → Bool) (ts : List Lexeme) (f : Fault) → reads room ts program 0 ≡ Err f → FirstFault room ts f
   fault-is-first room ts f e =
       let t = trace room ts program 0 f.kind f.rest e in
       let g = leads-good Program room t.before program t.plan 0 t.opened t.leads program-good in
-      let s = stands room t.before t.plan t.opened t.leads g f.kind f.rest t.stop in
+      let h = leads-paired room t.before program t.plan 0 t.opened t.leads program-paired in
+      let s = stands room t.before t.plan t.opened t.leads g h f.kind f.rest t.stop in
       record {
         before = t.before;
         whole = t.whole;

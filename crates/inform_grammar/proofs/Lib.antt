@@ -19,3 +19,5 @@ pub mod ReadyValues
 pub mod ReadyStatements
 pub mod FaultKinds
 pub mod FirstFaults
+pub mod Paired
+pub mod PairedRules

@@ -1,11 +1,11 @@
 -- The laws of the grammar.
-use Rattle.std.specs.Prelude.{ℕ, Bool, true, ◌≡◌, ◌⊎◌, List, [], ◌∷◌, ◌++◌, Ok, Err}
+use Rattle.std.specs.Prelude.{ℕ, ◌<◌, Bool, true, false, ◌≡◌, ◌⊎◌, List, [], ◌∷◌, ◌++◌, Some, Ok, Err}
 use Rattle.inform_tree.specs.Programs.{DirectiveTree}
 use Rattle.inform_lexemes.specs.Lexemes.{Lexeme}
 use Rattle.inform_grammar.specs.Faults.{FaultKind, Unexpected, Mixed, TooDeep, Fault}
 use Rattle.inform_grammar.specs.Lexemes.{is_opener, is_connective, swapped}
 use Rattle.inform_grammar.specs.Rule.{program}
-use Rattle.inform_grammar.specs.Reading.{spot, reads, no_limit}
+use Rattle.inform_grammar.specs.Reading.{spot, reads, open_before, no_limit}
 use Rattle.inform_grammar.specs.Sentences.{Sentence}
 
 -- ---- sentences
@@ -51,17 +51,29 @@ abbrev pub NoneGoesOn : (ℕ → Bool) → List Lexeme → List Lexeme → Type 
 NoneGoesOn room before [] = (p : List DirectiveTree) → Sentence room p before → ⊥
 NoneGoesOn room before (x ∷ rest) = IsPrefix room (before ++ x ∷ []) → ⊥
 
+-- where a connective stands next, none goes on with the other one either
+abbrev pub NoOtherGoesOn : List Lexeme → List Lexeme → Type 0
+NoOtherGoesOn before [] = Unit {0}
+NoOtherGoesOn before (x ∷ rest) =
+    is_connective x ≡ true → IsPrefix no_limit (before ++ swapped x ∷ []) → ⊥
+
+-- there is no room where so many are open, but there was for each of them
+abbrev pub IsFull : (ℕ → Bool) → ℕ → Type 0
+IsFull room n = (room n ≡ false) × ((k : ℕ) → k < n → room k ≡ true)
+
 -- why each kind of fault stands between some lexemes and the others
-abbrev pub Stands : FaultKind → List Lexeme → List Lexeme → Type 0
--- no sentence goes on here, whatever room it takes
-Stands Unexpected before rest = NoneGoesOn no_limit before rest
+abbrev pub Stands : (ℕ → Bool) → FaultKind → List Lexeme → List Lexeme → Type 0
+-- no sentence goes on here, whatever room it takes, nor with the other connective
+Stands room Unexpected before rest = NoneGoesOn no_limit before rest × NoOtherGoesOn before rest
 -- the same at a connective, in whose place a sentence goes on with the other one
-Stands Mixed before (x ∷ rest) =
+Stands room Mixed before (x ∷ rest) =
     (is_connective x ≡ true) × NoneGoesOn no_limit before (x ∷ rest)
     × IsPrefix no_limit (before ++ swapped x ∷ [])
--- a sentence goes on with this opener, but takes more room
-Stands TooDeep before (x ∷ rest) = (is_opener x ≡ true) × IsPrefix no_limit (before ++ x ∷ [])
-Stands kind before [] = ⊥
+-- a sentence goes on with this opener, but so many are open before it that there is no room
+Stands room TooDeep before (x ∷ rest) =
+    (is_opener x ≡ true) × IsPrefix no_limit (before ++ x ∷ [])
+    × ((n : ℕ) × (open_before before x program 0 ≡ Some n) × IsFull room n)
+Stands room kind before [] = ⊥
 
 -- a fault of these lexemes, with those before it
 pub record FirstFault (room : ℕ → Bool) (ts : List Lexeme) (f : Fault) : Type 0 where
@@ -71,7 +83,7 @@ pub record FirstFault (room : ℕ → Bool) (ts : List Lexeme) (f : Fault) : Typ
   pub begun : IsPrefix no_limit before
   -- no sentence within the room goes on
   pub ends : NoneGoesOn room before f.rest
-  pub stands : Stands f.kind before f.rest
+  pub stands : Stands room f.kind before f.rest
 
 -- the fault that is read is the first one
 abbrev pub FaultIsFirst : Type 0

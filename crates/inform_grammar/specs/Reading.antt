@@ -81,6 +81,18 @@ unfoldable pub reads : {X : Type 0} → (ℕ → Bool) → List Lexeme → Plan 
 reads room [] p n = at_end (step None p n)
 reads room (x ∷ xs) p n = at_lexeme room x xs (step (Some x) p n) (reads room xs)
 
+-- ---- how many are open
+
+abbrev pub open_after : {X : Type 0} → Outcome X → (Plan X → ℕ → Option ℕ) → Option ℕ
+open_after (goes p n) go = go p n
+open_after _ go = None
+
+-- how many are open before the last lexeme, where it and all those before it are taken by a plan
+unfoldable pub open_before : {X : Type 0} → List Lexeme → Lexeme → Plan X → ℕ → Option ℕ
+open_before [] last p n = open_after (step (Some last) p n) (λ q m. Some m)
+open_before (x ∷ xs) last p n =
+    open_after (step (Some x) p n) (λ q m. open_before xs last q (opened_after x m))
+
 -- ---- a program
 
 -- fewer than so many are open

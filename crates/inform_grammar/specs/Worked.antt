@@ -14,6 +14,7 @@ use Rattle.inform_tree.specs.Programs.{DirectiveTree}
 use Rattle.inform_lexemes.specs.declared.symbols.Symbol.TheVariants.{Semicolon, Comma, Colon, LeftRound, RightRound, LeftBrace, RightBrace, LeftSquare, RightSquare, Assign, Equal, Less, And, Or, Plus, Minus, Times, ByteArrow, WordArrow, Increment}
 use Rattle.inform_lexemes.specs.declared.keywords.Keyword.TheVariants as w
 use Rattle.inform_lexemes.specs.Lexemes.{Lexeme, Word, Reserved, Name, Number, Quoted, Sign}
+use Rattle.inform_grammar.specs.declared.limits.TheConstants.{OPENER_LIMIT}
 use Rattle.inform_grammar.specs.Faults.{FaultKind, Unexpected, Mixed, TooDeep, fault}
 use Rattle.inform_grammar.specs.Rule.{program}
 use Rattle.inform_grammar.specs.Reading.{spot, reads, within_limit}
@@ -179,6 +180,10 @@ RoomJudged =
     (in_main (Word w.If ∷ Sign LeftRound ∷ Number 1 ∷ Sign RightRound ∷ Word w.If ∷ Sign LeftRound
     ∷ [])) program 0
     ≡ Err (fault TooDeep (Sign LeftRound ∷ Sign RightSquare ∷ Sign Semicolon ∷ [])))
+
+-- as many may be open
+abbrev pub LimitListed : Type 0
+LimitListed = OPENER_LIMIT ≡ 200
 
 -- 200 blocks, one in another, and the opening brace of another one
 abbrev pub LimitJudged : Type 0

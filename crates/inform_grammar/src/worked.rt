@@ -1,6 +1,6 @@
 //! Worked examples of sentences and of faults. Each is the contract of a function that does
 //! nothing, and is proved by computing.
-ghost use Rattle.inform_grammar.specs.Worked.{ChainsRead, EntriesRead, ElseIsNearest, BracketsRead, CasesRead, ItemsRead, LoopsRead, DirectivesRead, ConditionsAreNoValues, MixedJudged, EndsJudged, RoomJudged, LimitJudged};
+ghost use Rattle.inform_grammar.specs.Worked.{ChainsRead, EntriesRead, ElseIsNearest, BracketsRead, CasesRead, ItemsRead, LoopsRead, DirectivesRead, ConditionsAreNoValues, MixedJudged, EndsJudged, RoomJudged, LimitListed, LimitJudged};
 
 /// Sums and products are chains, and a bracket begins a chain of its own.
 #[tactic(auto, using(crate::proofs::Examples::chains_read))]
@@ -72,6 +72,11 @@ pub fn ends_judged()
 #[tactic(auto, using(crate::proofs::Examples::room_judged))]
 pub fn room_judged()
     ensures { RoomJudged }
+{}
+
+/// The limit of openers is 200.
+pub fn limit_listed()
+    ensures { LimitListed }
 {}
 
 /// 200 openers may be open, and no more.
