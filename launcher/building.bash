@@ -1,63 +1,38 @@
-# How the launcher proves and builds the program; ../scott reads this file where it has to.
+# How the program is proved and built; program.bash reads this file where that has to be done, and build does.
 #
-# That is done on a copy of the crates that the program stands on, in a folder of its own, which is removed in the
-# end: so neither a gate nor a check in this folder waits for it, or undoes it. The crates are proved side by side,
-# each as soon as all crates below it are.
+# The toolchain's gate does it, on a copy of the program's crates alone, without the edits that must fail. The copy
+# has a folder of its own, which is removed in the end, so that neither a gate nor a check in this checkout waits
+# for it. What the gate has proved on this machine it takes from there, and what is proved here it leaves for it.
 
-# What one prover may take in megabytes, and what 1,000 lines of code take: megabytes of the disk, and
-# seconds of one processor.
-prover_memory=3000
+# What the dearest prover may take, in megabytes; what 1,000 lines of code take: megabytes of the disk, and seconds
+# of one processor; and the least megabytes of the disk that the gate wants.
+prover_memory=4000
 disk_per_1000=320
-seconds_per_1000=200
+seconds_per_1000=280
+least_disk=3000
 
-# How many crates are proved side by side on the way to the program, on average and at most: each waits for those
-# below it, so that more provers would have nothing to do.
-side_by_side=2
+# The part of the work that has to be done one after another, in hundredths: what more than four processors gain ends
+# there.
+in_a_row=22
 
-# The lines of code of each crate, and the second at which a prover began with it.
+# The lines of code of each crate and of all, and the second at which a prover began with it.
 declare -gA lines began
+all_lines=0
 
 # The folder of the copy, and the prover that works there.
 workshop=
 prover=
 
-# How many provers the machine has room for: one at least, and no more than it has processors.
-room() {
-    local limit memory
-    memory=$(awk '/^MemAvailable:/ { print int($2 / 1024) }' /proc/meminfo)
-    limit=$(cat /sys/fs/cgroup/memory.max 2>/dev/null)
-    if [[ $limit =~ ^[0-9]+$ ]] && [ $((limit / 1048576)) -lt "$memory" ]; then
-        memory=$((limit / 1048576))
-    fi
-    limit=$((memory / prover_memory))
-    [ "$limit" -le "$(nproc)" ] || limit=$(nproc)
-    [ "$limit" -ge 1 ] || limit=1
-    echo "$limit"
-}
+# The folder that the program is built into.
+folder=
 
-# The lines of code of a crate.
-lines_of() {
-    find "$top/crates/$1/src" -name '*.rt' -exec cat {} + | wc -l
-}
-
-# Copies the crates that the program stands on.
-make_workshop() {
-    local name
-    workshop=$(mktemp -d "${TMPDIR:-/var/tmp}/scott.XXXXXX") || return
-    mkdir "$workshop/crates" || return
-    [ ! -e "$top/HANDLES" ] || cp "$top/HANDLES" "$workshop" || return
-    for name in "${names[@]}"; do
-        lines[$name]=$(lines_of "$name")
-        cp -R "$top/crates/$name" "$workshop/crates" || return
-        rm -rf "$workshop/crates/$name/out" "$workshop/crates/$name/must-fail"
-    done
-    awk -v names=" ${names[*]} " '{ split($1, head, ":") } index(names, " " head[1] " ")' \
-        "$top/crates.txt" >"$workshop/crates.txt"
-}
-
-remove_workshop() {
-    [ -z "$workshop" ] || rm -rf "$workshop"
-    workshop=
+# Whether a folder can be written, and what stands in it can be started.
+is_usable() {
+    local try=$1/try.$$
+    { mkdir -p "$1" && printf '#!/bin/sh\n' >"$try" && chmod 755 "$try" && "$try"; } 2>/dev/null
+    local status=$?
+    rm -f "$try" 2>/dev/null
+    return "$status"
 }
 
 # Megabytes as gigabytes.
@@ -65,26 +40,88 @@ gigabytes() {
     echo "$(($1 / 1000)).$(($1 % 1000 / 100)) GB"
 }
 
-# Says once what is going to be done, how long that takes, and with what.
-say_plan() {
-    local name much=0 free busy=$side_by_side
-    [ "$busy" -le "$places" ] || busy=$places
+# The megabytes of memory that the machine can give, under the limit of the control group too.
+free_memory() {
+    local free limit held
+    free=$(awk '/^(MemAvailable|SwapFree):/ { sum += $2 } END { print int(sum / 1024) }' /proc/meminfo)
+    limit=$(cat /sys/fs/cgroup/memory.max 2>/dev/null)
+    if [[ $limit =~ ^[0-9]+$ ]]; then
+        held=$(awk '$1 == "anon" { print $2 }' /sys/fs/cgroup/memory.stat)
+        limit=$(((limit - ${held:-0}) / 1048576))
+        [ "$limit" -ge "$free" ] || free=$limit
+    fi
+    echo "$free"
+}
+
+# The folder in which the copy is made.
+spare=${TMPDIR:-/var/tmp}
+
+free_disk() {
+    df -Pm "$spare" | awk 'NR == 2 { print $4 }'
+}
+
+count_lines() {
+    local name
     for name in "${names[@]}"; do
-        much=$((much + lines[$name]))
+        lines[$name]=$(find "$top/crates/$name/src" -name '*.rt' -exec cat {} + | wc -l)
+        all_lines=$((all_lines + lines[$name]))
     done
-    free=$(df -Pm "$workshop" | awk 'NR == 2 { print $4 }')
-    say "proving ${#names[@]} crates, up to $places side by side, and building the program:"
-    say "about $((much * seconds_per_1000 / 60000 / busy + 2)) minutes, up to" \
-        "$((places * prover_memory / 1000)) GB of memory, and for that time $(gigabytes $((much * disk_per_1000 / 1000)))" \
-        "of disk in ${workshop%/*} ($(gigabytes "$free") free)"
 }
 
-# The crates that are proved: the prover has written a heading for each.
+# About how many minutes it takes where nothing is proved yet.
+minutes() {
+    local hundredths=$((100 / places))
+    [ "$hundredths" -ge "$in_a_row" ] || hundredths=$in_a_row
+    echo $((all_lines * seconds_per_1000 * hundredths / 6000000 + 1))
+}
+
+# Says once what is going to be done, how long that takes, and with what. Where the machine can't give it, that is
+# said before anything is done.
+say_plan() {
+    local memory disk wanted places
+    memory=$(free_memory)
+    disk=$(free_disk)
+    wanted=$((all_lines * disk_per_1000 / 1000))
+    places=$(nproc)
+    say "proving ${#names[@]} crates on $places processors, and building the program: about $(minutes) minutes where"
+    say "no gate has proved them on this machine, up to $(gigabytes $prover_memory) of memory for one prover" \
+        "($(gigabytes "$memory") free), and for that time up to $(gigabytes $wanted) of disk in $spare ($(gigabytes "$disk") free)"
+    if [ "$memory" -lt "$prover_memory" ]; then
+        say "that is too little memory: close what else takes it, or build on another machine"
+        return 1
+    elif [ "$disk" -lt "$least_disk" ]; then
+        say "that is too little disk: make room there, or name another folder in TMPDIR"
+        return 1
+    elif [ "$disk" -lt "$wanted" ]; then
+        say "the disk may not be enough"
+    fi
+}
+
+# Copies the crates that the program stands on.
+make_workshop() {
+    local name
+    workshop=$(mktemp -d "$spare/scott.XXXXXX") || return
+    mkdir "$workshop/crates" "$workshop/.git" || return
+    [ ! -e "$top/HANDLES" ] || cp "$top/HANDLES" "$workshop" || return
+    for name in "${names[@]}"; do
+        mkdir "$workshop/crates/$name" || return
+        (cd "$top/crates/$name" && tar -cf - --exclude=./out --exclude=./must-fail .) | tar -xf - -C "$workshop/crates/$name" || return
+    done
+    find "$workshop/crates" -type l -exec rm {} +
+    crate_lines >"$workshop/crates.txt"
+}
+
+remove_workshop() {
+    [ -z "$workshop" ] || rm -rf "$workshop"
+    workshop=
+}
+
+# The crates that are proved: the gate has written a heading for each, or a line for one that was proved before.
 proved() {
-    sed -n 's/^== \(.*\)/\1/p' "$build/log"
+    sed -n 's/^== \([a-z0-9_]*\)$/\1/p; s/^rt: \([a-z0-9_]*\) is kept: .*/\1/p' "$folder/log"
 }
 
-# Whether a crate is being proved: it has an output, and no heading yet.
+# Whether a crate is being proved: it has an output, and is not proved yet.
 is_running() {
     [ -e "$workshop/crates/$1/out" ] || return
     [ -n "${began[$1]:-}" ] || began[$1]=$SECONDS
@@ -98,10 +135,9 @@ share_of() {
 
 # How far all is, in hundredths, by the lines of code; and what is being proved now.
 progress() {
-    local name done=0 all=1 headings running=
+    local name done=0 headings running=
     headings=" $(proved | tr '\n' ' ') "
     for name in "${names[@]}"; do
-        all=$((all + lines[$name]))
         if [[ $headings == *" $name "* ]]; then
             done=$((done + lines[$name]))
         elif is_running "$name"; then
@@ -109,7 +145,7 @@ progress() {
             done=$((done + lines[$name] * $(share_of "$name") / 100))
         fi
     done
-    echo "about $((100 * done / all)) % done:$running"
+    echo "about $((100 * done / (all_lines + 1))) % done:$running"
 }
 
 # Shows on a terminal how far it is, on one line that is written over.
@@ -126,12 +162,10 @@ clear_progress() {
     [ ! -t 2 ] || printf '\r\033[K' >&2
 }
 
-# Runs the toolchain in a folder of the copy, in a group of processes of its own, so that it can be ended whole.
-run_tool() {
-    local folder=$1
-    shift
+# Runs the gate in the copy, in a group of processes of its own, so that it can be ended whole.
+run_gate() {
     set -m
-    (cd "$workshop/$folder" && exec rt "$@") </dev/null >>"$build/log" 2>&1 9>&- &
+    (cd "$workshop" && TMPDIR=$spare exec rt ci) </dev/null >>"$folder/log" 2>&1 9>&- &
     set +m
     prover=$!
     while kill -0 "$prover" 2>/dev/null; do
@@ -149,34 +183,68 @@ stop() {
     remove_workshop
 }
 
-# Proves all crates, and builds the program, by a first run of it on a game of its own.
-prove() {
-    local places
-    places=$(room)
-    make_workshop || return
-    say_plan
-    run_tool . all check --jobs "$places" && run_tool "crates/$program_crate" run --jobs "$places" -- check data/t.dat
+# Puts the program that the gate has built into its folder, without what only a debugger reads of it.
+put_built() {
+    local made=$folder/scott.$$
+    cp "$workshop/crates/$program_crate/out/$program_crate" "$made" || return
+    strip "$made" 2>/dev/null
+    starts "$made" && put "$made" "$folder" && rt version >"$folder/toolchain"
 }
 
-# Proves and builds the program, and keeps it with the sums of what it was built from, as they were at
-# the beginning.
+# Proves and builds the program, and keeps it with the sums of what it was built from, as they were at the beginning.
 build() {
-    (sums) >"$build/sources.new" || return
-    : >"$build/log"
+    look_at_sources
+    count_lines
+    say_plan || return
+    : >"$folder/log"
     trap 'stop; exit 130' INT
     trap 'stop; exit 143' TERM HUP
-    if ! prove; then
+    if ! { make_workshop && run_gate; }; then
         stop
-        tail -n 20 "$build/log" >&2
-        say "the program could not be proved or built; $build/log has the whole"
+        tail -n 20 "$folder/log" >&2
+        say "the program could not be proved or built; $folder/log has the whole"
         return 1
     fi
     trap - INT TERM HUP
     clear_progress
-    # The old program goes first, so that it never stands beside the sums of another.
-    rm -f "$program" &&
-        mv "$build/sources.new" "$build/sources" &&
-        cp "$workshop/crates/$program_crate/out/$program_crate" "$build/scott.new" &&
-        mv "$build/scott.new" "$program" &&
-        remove_workshop
+    if ! put_built; then
+        say "the program is built, and does not start: $why"
+        return 1
+    fi
+    remove_workshop
+}
+
+# Whether the toolchain is there.
+find_toolchain() {
+    local wanted=
+    ! command -v rt >/dev/null || return 0
+    wanted=$(cat "$top/program/toolchain" 2>/dev/null)
+    say "the program has to be proved and built, and the toolchain is not there: the command 'rt'" \
+        "${wanted:+(of $wanted) }is looked for in the folders of PATH, $PATH"
+    return 1
+}
+
+# Finds where the program can be built.
+find_folder() {
+    for folder in "$build" "$own"; do
+        ! is_usable "$folder" || return 0
+    done
+    say "the program has to be proved and built, and it can be written and started neither in $build nor in $own"
+    return 1
+}
+
+# Builds the program, after another start that does so too; with the word 'anew' whether or not it is there.
+build_program() {
+    find_toolchain || exit 127
+    find_folder || exit 126
+    exec 9>"$folder/lock"
+    if ! flock -n 9; then
+        say "another start is building the program; this one waits for it"
+        flock 9
+    fi
+    if [ "${1:-}" = anew ] || ! is_fresh "$folder"; then
+        build || exit 126
+    fi
+    program=$folder/scott
+    exec 9>&-
 }
