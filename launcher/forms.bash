@@ -1,0 +1,119 @@
+# The forms of the command line, with all settings and an example each, and what is no setting. terminal.bash reads
+# this file, where somebody asks for help or the program answers its words with its usage.
+
+say_forms() {
+    cat >&2 <<'END'
+scott: the forms, with examples for the folder that ./scott stands in; docs/GUIDE.md has the rest
+
+  play F [draws=FILE | seed=N] [style=S]            plays the database F
+      ./scott play games/lighthouse.dat seed=7
+  check F                                           says what is in it, and what is suspicious
+      ./scott check games/bequest.dat
+  decompile F SOURCE                                writes a database as a text for people
+      ./scott decompile games/hill.dat my.adv
+  compile SOURCE F                                  writes such a text as a database
+      ./scott compile my.adv my.dat
+  translate F PROGRAM [style=S] [words=W]           writes a database as an Inform program
+      ./scott translate games/hill.dat hill.inf style=y words=32
+  run PROGRAM [draws=FILE | seed=N] [steps=N] [words=W]
+      ./scott run games/inform/dice.inf seed=3 steps=5000 words=32
+
+END
+    local name
+    for name in draws seed style steps words; do
+        printf '  %-6s  %s\n' "$name=" "$(values_of "$name")" >&2
+    done
+    echo >&2
+    echo '  Settings stand after the names of the files, in any order, each at most once.' >&2
+}
+
+# Says which program it is.
+say_version() {
+    local sum toolchain=$top/program/toolchain
+    [ ! -e "${program%/*}/toolchain" ] || toolchain=${program%/*}/toolchain
+    sum=$(sha256sum "$program")
+    say "the program of the sum ${sum%% *}, built with $(cat "$toolchain" 2>/dev/null)"
+}
+
+# What a setting may be.
+values_of() {
+    case $1 in
+        draws) echo 'the name of a file of draws, numbers from 1 to 100' ;;
+        seed) echo 'a number from 0 to 18446744073709551615; without it, and without draws=, it is 1' ;;
+        style) echo 'y (You), c (a count of the light), v (a spent lamp vanishes), yc, yv, cv or ycv' ;;
+        steps) echo 'a number from 1 to 1000000000000000000; without it 1000000000' ;;
+        words) echo '16 or 32, the bits of a word; without it 16' ;;
+    esac
+}
+
+# Whether digits write a number from one bound to another, the second of 19 or 20 digits.
+is_between() {
+    local digits=$1
+    [[ $digits =~ ^[0-9]+$ ]] || return
+    while [[ $digits == 0?* ]]; do
+        digits=${digits#0}
+    done
+    [[ $2 != 1 || $digits != 0 ]] && { [ "${#digits}" -lt "${#3}" ] || [[ ${#digits} -eq ${#3} && ! $digits > $3 ]]; }
+}
+
+# Whether a setting of this name may have this value.
+may_be() {
+    case $1 in
+        draws) [ -n "$2" ] ;;
+        seed) is_between "$2" 0 18446744073709551615 ;;
+        style) [[ $2 =~ ^(y|c|v|yc|yv|cv|ycv)$ ]] ;;
+        steps) is_between "$2" 1 1000000000000000000 ;;
+        words) [[ $2 == 16 || $2 == 32 ]] ;;
+    esac
+}
+
+# How many names of files a command takes, and its settings.
+form_of() {
+    case $1 in
+        check) echo 1 ;;
+        play) echo 1 draws seed style ;;
+        run) echo 1 draws seed steps words ;;
+        compile | decompile) echo 2 ;;
+        translate) echo 2 style words ;;
+        *) return 1 ;;
+    esac
+}
+
+# What is wrong with a word that stands where a command takes its settings; the rest are the names of these.
+fault_of() {
+    local word=$1 command=$2 name=${1%%=*}
+    shift 2
+    if [[ $word != *=* || -z $(values_of "$name") ]]; then
+        echo "is no setting"
+    elif [[ " $* " != *" $name "* ]]; then
+        echo "is no setting of $command"
+    elif ! may_be "$name" "${word#*=}"; then
+        echo "is no setting: $name= is $(values_of "$name")"
+    fi
+}
+
+# Says what is wrong with words that are no request.
+name_faults() {
+    local command=$1 form fault word place seen=' '
+    if ! form=$(form_of "$command"); then
+        say "there is no command '$command'; ./scott --help lists them"
+        return
+    fi
+    shift
+    if [ "$#" -lt "${form%% *}" ]; then
+        say "$command takes more names of files than that; ./scott --help has an example"
+        return
+    fi
+    shift "${form%% *}"
+    for word in "$@"; do
+        fault=$(fault_of "$word" "$command" ${form#?})
+        place=${word%%=*}
+        place=${place/seed/draws}
+        if [ -n "$fault" ]; then
+            say "$word $fault"
+        elif [[ $seen == *" $place "* ]]; then
+            say "$word is one setting too many: the same is set before it"
+        fi
+        seen+="$place "
+    done
+}
