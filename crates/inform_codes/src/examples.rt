@@ -3,8 +3,9 @@
 ghost use Rattle.inform_codes.specs.Worked.{CarriedGrown, CarriedDepth, CarriedIsBody, AnswerGrown, RoutinesListed, RoutinesFormed, MessageGrown, CallGrown, ForkGrown};
 
 use crate::codes::Code;
+use crate::inform;
 use crate::tables::Row;
-use inform_tree::{Relation, SumOp};
+use inform_tree::SumOp;
 
 /// Names of routines, variables and arrays, and a text.
 pub const NAMES: [&[u8]; 9] = [
@@ -30,28 +31,11 @@ const FLAG: usize = 7;
 
 const WELL: usize = 8;
 
-/// How many items are carried, where the highest one is handed in, as 9:
-///
-/// `for (i = 0: i <= 9: i++) if (item-->i == 255) n++; return n;`
-pub const CARRIED: [Code; 17] = [
-    Code::For(I),
-    Code::Number(0),
-    Code::Compare(Relation::Le),
-    Code::Variable(I),
-    Code::Given(0),
-    Code::If,
-    Code::Compare(Relation::Eq),
-    Code::Entry(ITEM, true),
-    Code::Variable(I),
-    Code::Number(255),
-    Code::Inc(N),
-    Code::End,
-    Code::End,
-    Code::End,
-    Code::Return,
-    Code::Variable(N),
-    Code::End,
-];
+/// How many items are carried, where the highest one is handed in.
+pub const CARRIED: [Code; 17] = inform! {
+    for (I = 0; I <= [0]) { if ((ITEM-->I) == 255) { N++; } }
+    return N;
+};
 
 /// A switch within a switch:
 ///
@@ -100,7 +84,7 @@ pub const MESSAGE: [Code; 3] = [Code::Print(0), Code::NewLine, Code::End];
 /// A call before other statements: `f();`
 pub const CALL: [Code; 2] = [Code::Call(0), Code::NoMore];
 
-/// A choice by what a call of a number gives: `if (f(7)) .. else ..`
+/// A choice by what a call of a number gives, whose blocks are handed in: `if (f(7)) .. else ..`
 pub const FORK: [Code; 6] = [
     Code::If,
     Code::Nonzero,

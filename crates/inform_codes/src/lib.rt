@@ -4,6 +4,7 @@
 
 // What a routine is written in.
 mod codes;
+mod inform;
 
 // What waits while it grows, and what each code makes of it.
 mod conditions;
@@ -24,5 +25,6 @@ pub mod laws;
 
 pub use codes::Code;
 pub use growing::{before, body, fork};
+pub use inform_tree::{ProdOp, Relation, SumOp};
 pub use numbering::numbered;
 pub use tables::{Row, joined, routines};

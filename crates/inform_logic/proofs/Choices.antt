@@ -33,11 +33,15 @@ module _ {p : Program} where
   by_choice {b = true} h = this_choice h
   by_choice {b = false} h = later_choice h no_choices
 
-  -- one number, and one range of numbers
+  -- one number that is a word of the width, one below 32,768, and one range of such numbers
+  pub one_word : {a n : ℕ} {b : Bool} → number_word p.width a ≡ pos a → nat_eq n a ≡ b
+      → Fits p (pos n) ((Number a, None) ∷ []) b
+  one_word {a} {n} own h =
+      by_choice (ap (λ v. is_between v v (pos n)) own ∙ same_is a n ∙ h)
+
   pub one_number : {a n : ℕ} {b : Bool} → a < 32768 → nat_eq n a ≡ b
       → Fits p (pos n) ((Number a, None) ∷ []) b
-  one_number {a} {n} small h = by_choice
-      (ap (λ v. is_between v v (pos n)) (small_number p.width small) ∙ same_is a n ∙ h)
+  one_number small h = one_word (small_number p.width small) h
 
   pub one_range : {a b n : ℕ} {t : Bool} → a < 32768 → b < 32768 → nat_le a n && nat_le n b ≡ t
       → Fits p (pos n) ((Number a, Some (Number b)) ∷ []) t

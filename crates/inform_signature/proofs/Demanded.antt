@@ -16,7 +16,7 @@ use Rattle.inform_names.specs.Demands as q
 use Rattle.inform_names.specs.Demands.{Demand, Demands}
 use Rattle.inform_names.specs.Faults.{Fault, wide_number, wrong_kind, too_many_arguments, outside, fault_if}
 use Rattle.inform_names.specs.Places.{Scope, is_one_of, is_global, is_array, has_value, kind_fault, arguments_fault, call_fault, fault_at, first_fault}
-use Rattle.inform_signature.specs.Signatures.{Sign, IsKnown, Knows, kind_in, is_kind, takes, is_met, are_met}
+use Rattle.inform_signature.specs.Signatures.{Sign, IsKnown, Knows, kind_in, is_kind, takes, is_narrow, is_met, are_met}
 use Rattle.inform_signature.specs.Laws.{MetDemandsAreFine}
 
 -- ---- names
@@ -90,11 +90,11 @@ module _ (scope : Scope) (signs : List Sign) (knows : Knows scope.known signs) w
   and_fine true met fault o h fine = cc
   and_fine false met fault o h fine = fine h
 
-  not_wide : (width : Width) (n : ℕ) → nat_lt n 32768 ≡ true → is_wide width n ≡ false
+  not_wide : (width : Width) (n : ℕ) → is_narrow width n ≡ true → is_wide width n ≡ false
   not_wide W16 n h = grind (arith, h)
   not_wide W32 n h = refl
 
-  one : (demand : Demand) → is_met signs scope.locals demand ≡ true → fault_at scope demand ≡ None
+  one : (demand : Demand) → is_met scope.width signs scope.locals demand ≡ true → fault_at scope demand ≡ None
   one (q.Number n) h = no_fault (is_wide scope.width n) (wide_number n) (not_wide scope.width n h)
   one (q.Constant name) h = cc
   one (q.Value name) h = or_kind has_value name (is_one_of name scope.locals) h
@@ -108,12 +108,13 @@ module _ (scope : Scope) (signs : List Sign) (knows : Knows scope.known signs) w
       (call_fault name count (scope.known name)) h (taken_in name count (kind_in signs name) refl)
   one (q.Leave has_loop) h = no_fault (not has_loop) (outside scope.directive) (ap not h)
 
-  all : (demands : Demands) → are_met signs scope.locals demands ≡ true
+  all : (demands : Demands) → are_met scope.width signs scope.locals demands ≡ true
       → first_fault scope demands ≡ None
   all q.Nothing h = refl
   all (q.One demand) h = one demand h
   all (q.Both first rest) h = let
-      parts = and_parts (are_met signs scope.locals first) (are_met signs scope.locals rest) h in
+      parts = and_parts (are_met scope.width signs scope.locals first)
+      (are_met scope.width signs scope.locals rest) h in
       ap (λ o. option_or o (first_fault scope rest)) (all first parts.0) ∙ all rest parts.1
 
 pub met_demands_are_fine : MetDemandsAreFine

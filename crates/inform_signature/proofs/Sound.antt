@@ -49,7 +49,7 @@ sound_routines_are_faultless width known signs r knows sound = let
     let first = and_parts (not (nat_lt DEEPEST (routine_depth r))) _ sound in
     let second = and_parts (not (is_main r.name && has_locals r.locals)) _ first.1 in
     let third = and_parts (is_none (locals_fault r.name r.locals 0 r.locals))
-    (are_met signs r.locals demands) second.1 in
+    (are_met width signs r.locals demands) second.1 in
     four_none (no_fault (nat_lt DEEPEST (routine_depth r)) (too_deep r.name) (is_false _ first.0))
     (no_fault (is_main r.name && has_locals r.locals) main_locals (is_false _ second.0))
     (is_absent (locals_fault r.name r.locals 0 r.locals) third.0)

@@ -15,13 +15,13 @@ use Rattle.inform_signature.specs.Soundness.{is_sound_routine, is_constant, IsSo
 -- where the names of a signature are known, what it meets has no fault
 abbrev pub MetDemandsAreFine : Type 0
 MetDemandsAreFine = (scope : Scope) (signs : List Sign) (demands : Demands)
-    → Knows scope.known signs → are_met signs scope.locals demands ≡ true
+    → Knows scope.known signs → are_met scope.width signs scope.locals demands ≡ true
     → first_fault scope demands ≡ None
 
 -- and a routine that is sound under it has none
 abbrev pub SoundRoutinesAreFaultless : Type 0
 SoundRoutinesAreFaultless = (width : Width) (known : Known) (signs : List Sign) (r : RoutineTree)
-    → Knows known signs → is_sound_routine signs r ≡ true
+    → Knows known signs → is_sound_routine width signs r ≡ true
     → first_of (routine_faults width known r) ≡ None
 
 -- where no two directives have one name, and none is a constant, each name is known as that of its

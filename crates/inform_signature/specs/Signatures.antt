@@ -3,11 +3,13 @@ use Rattle.std.specs.Prelude.{ℕ, ◌≡◌, nat_lt, nat_le, Bool, true, false,
 use Rattle.std.specs.List.{AllByRecursion}
 use Rattle.std.specs.Option.{option_map}
 use Rattle.std.specs.Str.{bytes_eq}
+use Rattle.inform_tree.specs.declared.widths.Width.{Width}
 use Rattle.inform_tree.specs.Programs as d
 use Rattle.inform_tree.specs.Programs.{DirectiveTree}
 use Rattle.inform_names.specs.declared.meanings.Kind.{Kind}
 use Rattle.inform_names.specs.declared.meanings.Kind.TheVariants as k
 use Rattle.inform_names.specs.declared.limits.TheConstants.{ARGUMENT_LIMIT}
+use Rattle.inform_names.specs.Words.{is_wide}
 use Rattle.inform_names.specs.Meanings.{Known, name_of}
 use Rattle.inform_names.specs.Demands as q
 use Rattle.inform_names.specs.Demands.{Demand, Demands}
@@ -57,21 +59,27 @@ takes count k.Global = false
 takes count (k.Array words) = false
 takes count (k.Routine locals) = nat_le count ARGUMENT_LIMIT && nat_le count locals
 
--- The names of a place are those of locals, or as the signature has them. A number is below 32,768,
--- so that it isn't too wide at any width. No constant is taken for granted.
-abbrev pub is_met : List Sign → List (List ℕ) → Demand → Bool
-is_met signs locals (q.Number n) = nat_lt n 32768
-is_met signs locals (q.Constant name) = false
-is_met signs locals (q.Value name) = is_one_of name locals || is_kind has_value (kind_in signs name)
-is_met signs locals (q.Variable name) =
-    is_one_of name locals || is_kind is_global (kind_in signs name)
-is_met signs locals (q.Array name words) =
-    not (is_one_of name locals) && is_kind (is_array words) (kind_in signs name)
-is_met signs locals (q.Call name count) =
-    not (is_one_of name locals) && is_kind (takes count) (kind_in signs name)
-is_met signs locals (q.Leave has_loop) = has_loop
+-- a number isn't too wide: one below 32,768 at no width, and at 32 bits none
+abbrev pub is_narrow : Width → ℕ → Bool
+is_narrow width n = nat_lt n 32768 || not (is_wide width n)
 
-abbrev pub are_met : List Sign → List (List ℕ) → Demands → Bool
-are_met signs locals q.Nothing = true
-are_met signs locals (q.One demand) = is_met signs locals demand
-are_met signs locals (q.Both first rest) = are_met signs locals first && are_met signs locals rest
+-- The names of a place are those of locals, or as the signature has them. No constant is taken for
+-- granted.
+abbrev pub is_met : Width → List Sign → List (List ℕ) → Demand → Bool
+is_met width signs locals (q.Number n) = is_narrow width n
+is_met width signs locals (q.Constant name) = false
+is_met width signs locals (q.Value name) =
+    is_one_of name locals || is_kind has_value (kind_in signs name)
+is_met width signs locals (q.Variable name) =
+    is_one_of name locals || is_kind is_global (kind_in signs name)
+is_met width signs locals (q.Array name words) =
+    not (is_one_of name locals) && is_kind (is_array words) (kind_in signs name)
+is_met width signs locals (q.Call name count) =
+    not (is_one_of name locals) && is_kind (takes count) (kind_in signs name)
+is_met width signs locals (q.Leave has_loop) = has_loop
+
+abbrev pub are_met : Width → List Sign → List (List ℕ) → Demands → Bool
+are_met width signs locals q.Nothing = true
+are_met width signs locals (q.One demand) = is_met width signs locals demand
+are_met width signs locals (q.Both first rest) =
+    are_met width signs locals first && are_met width signs locals rest

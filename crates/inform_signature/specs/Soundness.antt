@@ -20,12 +20,12 @@ use Rattle.inform_signature.specs.Signatures.{Sign, are_met}
 -- ---- routines
 
 -- whether a routine is no deeper than it may be, has locals as it may, and meets what its places
--- demand, where these names are known
-abbrev pub is_sound_routine : List Sign → RoutineTree → Bool
-is_sound_routine signs r = not (nat_lt DEEPEST (routine_depth r))
+-- demand at a width, where these names are known
+abbrev pub is_sound_routine : Width → List Sign → RoutineTree → Bool
+is_sound_routine width signs r = not (nat_lt DEEPEST (routine_depth r))
     && (not (is_main r.name && has_locals r.locals)
     && (is_none (locals_fault r.name r.locals 0 r.locals)
-    && are_met signs r.locals (statements_demands no_loop r.body)))
+    && are_met width signs r.locals (statements_demands no_loop r.body)))
 
 -- ---- directives
 
@@ -52,8 +52,7 @@ IsSound width known (d.Routine r) = first_of (routine_faults width known r) ≡ 
 -- ---- programs
 
 -- No two directives have one name, each is sound, the arrays have no more entries than they may,
--- and
--- `main` is a routine.
+-- and `main` is a routine.
 pub record IsSoundProgram (width : Width) (ds : List DirectiveTree) : Type 0 where
   pub distinct : Distinct ds
   pub each : AllByRecursion (IsSound width (meanings width ds)) ds

@@ -26,9 +26,9 @@ use Rattle.trans_rows.specs.Tables.{or_zero}
 use Rattle.trans_rows.specs.Standing.{StandsFor}
 use Rattle.trans_rows.specs.CommandRows.{IsNoun, CommandEnds, CommandRow, command_steps, command_room, search_room}
 use Rattle.trans_commands.specs.Laws.{CommandsOwe}
-use Rattle.trans_commands.proofs.Left.{said_left, nothing_left}
+use Rattle.trans_rows.proofs.Left.{said_left, nothing_left}
 use Rattle.trans_commands.proofs.Spent.{obey_steps, walk_steps, command_fits}
-use Rattle.trans_commands.proofs.Acts.{CallActs, CallActsBy, acts_within, acts_call, acts_if, acts_next, acts_routine, returns_acts}
+use Rattle.trans_rows.proofs.Acts.{CallActs, CallActsBy, acts_within, acts_call, acts_if, acts_next, acts_routine, returns_acts}
 use Rattle.trans_commands.proofs.Known.{Laws, Known}
 use Rattle.trans_commands.proofs.Tabled.{some_noun}
 use Rattle.trans_commands.proofs.Walked.{walk_acts}
@@ -36,7 +36,7 @@ use Rattle.trans_commands.proofs.Obeyed.{obey_acts}
 
 module _ {style : Style} {db : Database} {p : Program} (known : Known style db p) (s : State)
     (typed : List ℕ) (w : Stage) (stands : StandsFor db s typed w) (verb : ℕ)
-    (verb_is : w.globals (codes "vnum") ≡ Some (pos verb)) (d : ℕ)
+    (spoken : 0 < verb) (verb_is : w.globals (codes "vnum") ≡ Some (pos verb)) (d : ℕ)
     (room : search_room ≤ suc (suc d)) where
   abbrev Commands : Traced Step Outcome → Type 0
   Commands r = CallActs r.value.over db p (suc (suc (suc (suc (suc (suc (suc d)))))))
@@ -46,6 +46,9 @@ module _ {style : Style} {db : Database} {p : Program} (known : Known style db p
   abbrev Obeys : Option ℕ → Traced Step Outcome → Type 0
   Obeys noun r = CallActs r.value.over db p (suc (suc (suc (suc (suc (suc d)))))) (codes "obey")
       (pos verb ∷ pos (or_zero noun) ∷ []) w typed r.value.state r.events (obey_steps db)
+
+  going_some : 0 < go_verb
+  going_some = omega arith
 
   is_going : nat_eq verb go_verb ≡ true → go_verb ≡ verb
   is_going h = grind (arith, h)
@@ -95,7 +98,7 @@ module _ {style : Style} {db : Database} {p : Program} (known : Known style db p
         (suc (suc (suc (suc (suc (suc d)))))) (codes "obey") (pos v ∷ pos noun ∷ []) w typed
         (by_actions (in_style style db) typed go_verb (Some noun) s).value.state
         (by_actions (in_style style db) typed go_verb (Some noun) s).events (obey_steps db))
-        (is_going is) (obey_acts known s typed w stands go_verb (Some noun) there d room)))))
+        (is_going is) (obey_acts known s typed w stands go_verb (Some noun) going_some there d room)))))
 
   command_acts : (noun : Option ℕ) → w.globals (codes "nnum") ≡ Some (pos (or_zero noun))
       → IsNoun db noun → Commands (command_result (in_style style db) typed verb noun s)
@@ -109,7 +112,7 @@ module _ {style : Style} {db : Database} {p : Program} (known : Known style db p
         (compare (global refl verb_is) number (eq_is verb 1 ∙ is)) end) (nothing_left stands)
         (acts_call (λ e last w' m x. within (omega arith)
         (argument (global refl verb_is) (argument (global refl noun_is) x)))
-        (obey_acts known s typed w stands verb noun there d room))))
+        (obey_acts known s typed w stands verb noun spoken there d room))))
 
 -- ---- the row
 
@@ -133,14 +136,14 @@ seven_less P d h by = subst P is (by (d - 7) (omega (arith, h))) where
 
 command_row : {style : Style} {db : Database} {p : Program} → Known style db p
     → CommandRow (in_style style db) p (codes "command")
-command_row {style} {db} {p} known verb noun s typed w d room there verb_is noun_is stands =
+command_row {style} {db} {p} known verb noun s typed w d room some there verb_is noun_is stands =
     seven_less (λ d. CommandEnds
     (command_result (in_style style db) typed verb noun s).value.over (in_style style db) p d
     (codes "command") w typed (command_result (in_style style db) typed verb noun s)) d room
     (λ k few. ends_by style
     (command_result (in_style style db) typed verb noun s)
     (acts_within (command_fits db (is_there 255 db.items known.limits.sizes.items))
-    (command_acts known s typed w stands verb verb_is k few noun noun_is there)))
+    (command_acts known s typed w stands verb some verb_is k few noun noun_is there)))
 
 pub commands_owe : Laws → CommandsOwe
 commands_owe laws style width db p translates serves helpers searches = command_row (record {

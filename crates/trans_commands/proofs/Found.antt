@@ -24,7 +24,8 @@ use Rattle.trans_rows.specs.Tables.{class_of, item_word, is_class, class_of_noun
 use Rattle.trans_rows.specs.Standing.{StandsFor}
 use Rattle.trans_commands.proofs.Blocks.{first_of, rest_of, loop_of}
 use Rattle.trans_commands.proofs.Known.{Known, body, few_items}
-use Rattle.trans_commands.proofs.Tabled.{bit_tells, tabled}
+use Rattle.trans_rows.proofs.Entries.{bit_tells}
+use Rattle.trans_commands.proofs.Tabled.{tabled}
 use Rattle.trans_commands.proofs.Named.{classed, no_class, class_some, by_class}
 use Rattle.trans_commands.proofs.OneItem.{at_hand}
 use Rattle.trans_commands.specs.declared.items.TheConstants.{FIND_ITEM}

@@ -1,8 +1,6 @@
-pub mod Left
 pub mod Spent
 pub mod Searched
 pub mod WellFormed
-pub mod Acts
 pub mod Known
 pub mod Tabled
 pub mod OneItem

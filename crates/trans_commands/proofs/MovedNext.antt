@@ -21,6 +21,7 @@ use Rattle.scott_types.specs.declared.commands.Column.TheVariants.{Nouns}
 use Rattle.scott_types.specs.declared.endings.Found.{Found}
 use Rattle.scott_types.specs.declared.endings.Found.TheVariants.{NoMatch, Matched, Done, Over}
 use Rattle.scott_types.specs.declared.endings.Transfer.{Transfer}
+use Rattle.scott_types.specs.declared.endings.Transfer.TheVariants.{PickUp, PutDown}
 use Rattle.scott_types.specs.declared.phrases.Phrase.TheVariants.{TooMuch, ItemDone}
 use Rattle.scott_types.specs.Phrase.{text_of, text_in}
 use Rattle.scott_types.specs.ItemText.{shown}
@@ -36,11 +37,12 @@ use Rattle.trans_rows.specs.Standing.{StandsFor}
 use Rattle.trans_rows.specs.Steps.{text_steps}
 use Rattle.trans_rows.specs.Calls.{StageLeft, CallLeaves, CallEndsGame, CallSays}
 use Rattle.trans_rows.specs.CommandRows.{IsNoun, SearchFinds, search_steps, search_room}
-use Rattle.trans_commands.proofs.Left.{said_left, left_then}
+use Rattle.trans_rows.proofs.Left.{said_left, left_then}
 use Rattle.trans_commands.proofs.Spent.{next_steps}
-use Rattle.trans_commands.proofs.Acts.{stops_within}
+use Rattle.trans_rows.proofs.Acts.{stops_within}
 use Rattle.trans_commands.proofs.Known.{Known}
-use Rattle.trans_commands.proofs.Tabled.{bit_tells, tabled}
+use Rattle.trans_rows.proofs.Entries.{bit_tells}
+use Rattle.trans_commands.proofs.Tabled.{tabled}
 use Rattle.trans_commands.proofs.OneItem.{refused, put_stage, put_item, put_left}
 
 -- the element at which the rest begins
@@ -60,6 +62,11 @@ is_noun db word (Some noun) h = (
   omega (arith, h.base.counted),
   omega (arith, h.base.before, h.matches.there, length-map db.words (column_of Nouns)),
 )
+
+-- getting and dropping are verbs from 1 on
+some_verb : (t : Transfer) → 0 < verb_for t
+some_verb PickUp = omega arith
+some_verb PutDown = omega arith
 
 -- two texts that were said
 twice_left : {db : Database} {s : State} {typed : List ℕ} {w : Stage} (a b : List ℕ)
@@ -153,7 +160,7 @@ module _ {style : Style} {db : Database} {p : Program} (known : Known style db p
       → NextActs sought.value.found b
   unfolding body_of
   move_next b is = by sought.value.found (known.searches (verb_for t)
-      (which db Nouns (item_word item)) s typed w (suc (suc d)) room
+      (which db Nouns (item_word item)) s typed w (suc (suc d)) room (some_verb t)
       (is_noun db (item_word item) (which db Nouns (item_word item))
       (known.laws.least_match db Nouns (item_word item))) stands) where
         by : (found : Found) → SearchFinds found (in_style style db) p (suc (suc d))

@@ -30,11 +30,12 @@ use Rattle.trans_rows.specs.Tables.{or_zero, class_of_noun}
 use Rattle.trans_rows.specs.Standing.{StandsFor}
 use Rattle.trans_rows.specs.DataRows.{text_room}
 use Rattle.trans_rows.specs.CommandRows.{IsNoun}
-use Rattle.trans_commands.proofs.Left.{said_left, left_then}
+use Rattle.trans_rows.proofs.Left.{said_left, left_then}
 use Rattle.trans_commands.proofs.Spent.{one_steps}
-use Rattle.trans_commands.proofs.Acts.{CallActs, returns_acts}
+use Rattle.trans_rows.proofs.Acts.{CallActs, returns_acts}
 use Rattle.trans_commands.proofs.Known.{Known, few_items}
-use Rattle.trans_commands.proofs.Tabled.{bit_tells, some_noun}
+use Rattle.trans_rows.proofs.Entries.{bit_tells}
+use Rattle.trans_commands.proofs.Tabled.{some_noun}
 use Rattle.trans_commands.proofs.Named.{class_at}
 use Rattle.trans_commands.proofs.Found.{Gives, find_item}
 use Rattle.trans_commands.proofs.OneItem.{refused, put_item, put_left}

@@ -1,5 +1,5 @@
 -- What a verb does: the lines for it, getting and dropping, and refusals.
-use Rattle.std.proofs.Common.{◌≡◌, ◌∙◌, arith, ℕ, suc, ◌+◌, ◌≤◌, ℤ, pos, nat_eq, Bool, true, false, if◌then◌else◌, List, [], ◌∷◌, ◌++◌, codes, Option, refl, sym, ap, subst, append-nil}
+use Rattle.std.proofs.Common.{◌≡◌, ◌∙◌, arith, ℕ, suc, ◌+◌, ◌<◌, ◌≤◌, ℤ, pos, nat_eq, Bool, true, false, if◌then◌else◌, List, [], ◌∷◌, ◌++◌, codes, Option, refl, sym, ap, subst, append-nil}
 use Rattle.adv_io.specs.Steps.{Step, Traced, after, traced_text}
 use Rattle.inform_tree.specs.declared.conditions.Relation.TheVariants.{Eq}
 use Rattle.inform_meaning.specs.Words.{compares}
@@ -35,12 +35,12 @@ use Rattle.trans_rows.specs.Tables.{bit, or_zero}
 use Rattle.trans_rows.specs.Standing.{StandsFor}
 use Rattle.trans_rows.specs.Calls.{CallLeaves}
 use Rattle.trans_rows.specs.CommandRows.{IsNoun, SearchFinds, search_steps, search_room}
-use Rattle.trans_commands.proofs.Left.{said_left, nothing_left, left_then}
+use Rattle.trans_rows.proofs.Left.{said_left, nothing_left, left_then}
 use Rattle.trans_commands.proofs.Spent.{transfer_steps, obey_steps}
-use Rattle.trans_commands.proofs.Acts.{CallActs, acts_within, acts_call, acts_if, acts_next, acts_routine, returns_acts, stops_within}
+use Rattle.trans_rows.proofs.Acts.{CallActs, acts_within, acts_call, acts_if, acts_next, acts_routine, returns_acts, stops_within}
 use Rattle.trans_commands.proofs.Blocks.{first_of, rest_of, test_of}
 use Rattle.trans_commands.proofs.Known.{Known, body}
-use Rattle.trans_commands.proofs.Tabled.{bit_tells}
+use Rattle.trans_rows.proofs.Entries.{bit_tells}
 use Rattle.trans_commands.proofs.AllAsked.{all_asked}
 use Rattle.trans_commands.proofs.MovedOne.{move_one}
 use Rattle.trans_commands.proofs.MovedAll.{move_all}
@@ -92,7 +92,7 @@ not_two false = refl
 
 module _ {style : Style} {db : Database} {p : Program} (known : Known style db p) (s : State)
     (typed : List ℕ) (w : Stage) (stands : StandsFor db s typed w) (verb : ℕ) (noun : Option ℕ)
-    (there : IsNoun db noun) (d : ℕ) (room : search_room ≤ suc (suc d)) where
+    (some : 0 < verb) (there : IsNoun db noun) (d : ℕ) (room : search_room ≤ suc (suc d)) where
   abbrev searched : Traced Step SearchOutcome
   searched = search_result (in_style style db) typed verb noun (groups db) s
 
@@ -190,7 +190,7 @@ module _ {style : Style} {db : Database} {p : Program} (known : Known style db p
   pub obey_acts : Obeys (by_actions (in_style style db) typed verb noun s)
   unfolding body_of
   obey_acts = by searched.value.found (known.searches verb noun s typed w
-      (suc (suc (suc (suc (suc d))))) (omega (arith, room)) there stands) where
+      (suc (suc (suc (suc (suc d))))) (omega (arith, room)) some there stands) where
         by : (found : Found) → SearchFinds found (in_style style db) p
             (suc (suc (suc (suc (suc d))))) (codes "search") values w typed searched
             → Obeys (after searched.events

@@ -27,7 +27,8 @@ use Rattle.trans_rows.specs.Steps.{text_steps}
 use Rattle.trans_rows.specs.DataRows.{text_room}
 use Rattle.trans_rows.specs.Calls.{StageLeft}
 use Rattle.trans_commands.proofs.Known.{Known}
-use Rattle.trans_commands.proofs.Tabled.{bit_tells, place_at, tabled}
+use Rattle.trans_rows.proofs.Entries.{bit_tells, place_at}
+use Rattle.trans_commands.proofs.Tabled.{tabled}
 
 module _ {style : Style} {db : Database} {p : Program} (known : Known style db p) (s : State)
     (typed : List ℕ) (w : Stage) (stands : StandsFor db s typed w) where

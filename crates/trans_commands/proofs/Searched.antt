@@ -12,11 +12,12 @@ use Rattle.trans_rows.specs.Tables.{or_zero}
 use Rattle.trans_rows.specs.Calls.{CallLeaves}
 use Rattle.trans_rows.specs.CommandRows.{SearchFinds, search_steps}
 use Rattle.trans_commands.specs.Laws.{SearchOwes}
-use Rattle.trans_commands.proofs.Left.{one_less, nothing_left}
+use Rattle.trans_rows.proofs.Room.{one_less}
+use Rattle.trans_rows.proofs.Left.{nothing_left}
 
 pub search_owes : SearchOwes
 unfolding body_of
-search_owes style width db p none serves verb noun s typed w d room is_noun stands =
+search_owes style width db p none serves verb noun s typed w d room some is_noun stands =
     subst (λ (gs : List Group). SearchFinds
     (search_result (in_style style db) typed verb noun gs s).value.found (in_style style db) p d
     (codes "search") (pos verb ∷ pos (or_zero noun) ∷ []) w typed

@@ -1,25 +1,12 @@
 -- Entries of the tables of items and nouns.
-use Rattle.std.proofs.Common.{◌≡◌, arith, ℕ, zero, suc, ◌<◌, ℤ, pos, nat_eq, Bool, true, false, not, List, [], ◌∷◌, ◌++◌, map, length, drop, slice_get, Some, refl}
-use Rattle.std.specs.Prelude.{slice_index, slice_index_or}
-use Rattle.std.specs.Ordering.{int_eq}
-use Rattle.trans_rows.specs.Tables.{bit, guarded}
+use Rattle.std.proofs.Common.{◌≡◌, arith, ℕ, zero, suc, ◌<◌, pos, nat_eq, false, List, [], ◌∷◌, map, length, drop, slice_get, Some, refl}
+use Rattle.std.specs.Prelude.{slice_index_or}
+use Rattle.trans_rows.specs.Tables.{guarded}
 use Rattle.trans_rows.specs.Views.{naturals}
-
--- a bit isn't 0 where it stands for true
-pub bit_tells : (b : Bool) → not (int_eq (pos (bit b)) (pos 0)) ≡ b
-bit_tells true = refl
-bit_tells false = refl
 
 -- a noun from 1 on isn't 0
 pub some_noun : (noun : ℕ) → 0 < noun → nat_eq noun 0 ≡ false
 some_noun noun some = grind (arith, some)
-
--- the entry of an item's place, with the guard after the last one
-pub place_at : (places : List ℕ) (guard : ℤ) (i : ℕ) → i < length places
-    → slice_get (naturals places ++ guard ∷ []) i ≡ Some (pos (slice_index places i))
-place_at [] guard i less = absurd (omega (arith, less))
-place_at (x ∷ xs) guard zero less = refl
-place_at (x ∷ xs) guard (suc i) less = place_at xs guard i (omega (arith, less))
 
 -- the entry of an element in a guarded table
 pub tabled : {X : Type 0} (f : X → ℕ) (xs : List X) (i : ℕ) {x : X} {rest : List X}

@@ -31,13 +31,13 @@ use Rattle.trans_rows.specs.Standing.{StandsFor}
 use Rattle.trans_rows.specs.Steps.{text_steps}
 use Rattle.trans_rows.specs.DataRows.{text_room}
 use Rattle.trans_rows.specs.Calls.{StageLeft}
-use Rattle.trans_commands.proofs.Left.{said_left, nothing_left, left_then}
+use Rattle.trans_rows.proofs.Left.{said_left, nothing_left, left_then}
 use Rattle.trans_commands.proofs.Spent.{walk_steps}
-use Rattle.trans_commands.proofs.Acts.{CallActs, acts_within, acts_call, acts_if, acts_next, acts_routine, returns_acts}
+use Rattle.trans_rows.proofs.Acts.{CallActs, acts_within, acts_call, acts_if, acts_next, acts_routine, returns_acts}
 use Rattle.trans_commands.proofs.Blocks.{first_of, rest_of}
 use Rattle.trans_commands.proofs.Exits.{exit_at}
 use Rattle.trans_commands.proofs.Known.{Known, body}
-use Rattle.trans_commands.proofs.Tabled.{bit_tells}
+use Rattle.trans_rows.proofs.Entries.{bit_tells}
 use Rattle.trans_commands.specs.declared.walking.TheConstants.{WALK}
 
 module _ {style : Style} {db : Database} {p : Program} (known : Known style db p) (s : State)

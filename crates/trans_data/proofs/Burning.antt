@@ -36,7 +36,8 @@ use Rattle.trans_data.specs.Routines.{routine_names}
 use Rattle.trans_data.proofs.Lists.{bit_nonzero}
 use Rattle.trans_data.proofs.Served.{HasAll}
 use Rattle.trans_data.proofs.Places.{place_does, near_does}
-use Rattle.trans_data.proofs.Kept.{light_less, range_less, is_item, Kept, kept_then, kept_said, kept_light}
+use Rattle.trans_rows.proofs.Kept.{Kept, kept_then, kept_said, kept_light}
+use Rattle.trans_data.proofs.LightWords.{light_less, range_less, is_item}
 
 module _ (style : Style) (db : Database) (limits : KeepsLimits db) (p : Program)
     (word : is_word_of p.width db.header.light ≡ true) (has : HasAll style db p) (s : State)

@@ -31,7 +31,7 @@ use Rattle.trans_data.specs.declared.lights.TheConstants as l
 use Rattle.trans_data.specs.Routines.{routine_names}
 use Rattle.trans_data.proofs.Served.{HasAll, tree}
 use Rattle.trans_data.proofs.Looks.{said_three}
-use Rattle.trans_data.proofs.Kept.{Kept, kept_then, kept_flag, kept_item}
+use Rattle.trans_rows.proofs.Kept.{Kept, kept_then, kept_flag, kept_item}
 
 module _ (style : Style) (db : Database) (p : Program) (has : HasAll style db p) where
   -- ---- what is said of the light

@@ -37,10 +37,10 @@ helpers_owe style width db p translates serves =
     let has = all_of_them style db width p serves in
     let limits = translates.limits in
     record {
-      places = λ item few s noun w d room stands. with_calls 1 d (omega (arith, room))
+      places = λ item s noun w d room stands. with_calls 1 d (omega (arith, room))
           (omega (arith, share_items db))
           (λ k. place_does style db limits p has s w stands.ready.shows stands.ready.fits k item);
-      near_items = λ item few s noun w d room stands. with_calls 2 d (omega (arith, room))
+      near_items = λ item s noun w d room stands. with_calls 2 d (omega (arith, room))
           (omega (arith, share_items db))
           (λ k. near_does style db limits p has s w stands.ready.shows stands.ready.fits k item);
       darkness = λ s noun w d room stands. with_calls 3 d (omega (arith, room))

@@ -10,7 +10,7 @@ mod Exits
 mod Looks
 mod Scored
 mod Rated
-mod Kept
+mod LightWords
 mod Burnt
 mod Burning
 mod Owed

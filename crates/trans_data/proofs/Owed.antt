@@ -8,7 +8,7 @@ use Rattle.trans_data.proofs.Served.{all_of_them}
 use Rattle.trans_data.proofs.Spoken.{message_does}
 use Rattle.trans_data.proofs.Looks.{look_does, inventory_does}
 use Rattle.trans_data.proofs.Rated.{score_does}
-use Rattle.trans_data.proofs.Kept.{light_word}
+use Rattle.trans_data.proofs.LightWords.{light_word}
 use Rattle.trans_data.proofs.Burning.{burn_does}
 
 pub data_owes : DataOwes

@@ -37,7 +37,7 @@ use Rattle.trans_data.specs.Texts.{message_directives}
 use Rattle.trans_turn.specs.Routines.{rounds_asking}
 use Rattle.trans_programs.specs.Programs.{game_routines, game_program}
 use Rattle.trans_programs.specs.Laws.{ProgramsAreAccepted}
-use Rattle.trans_programs.proofs.Lists.{one_of_all, of_both, of_ends, each_passes, each_with, of_sources, of_images}
+use Rattle.trans_rows.proofs.Lists.{one_of_all, of_both, of_ends, each_passes, each_with, of_sources, of_images}
 use Rattle.trans_programs.proofs.Parts.{before_messages, after_messages, named, parts_are}
 use Rattle.trans_programs.proofs.Distinct.{programs_are_distinct}
 use Rattle.trans_programs.proofs.Tables.{is_fine, HasLength, IsFineTable, tables_are_fine}
@@ -103,7 +103,7 @@ module _ (width : Width) (known : Known) where
       few_entries (array_length width known entries) (length_is entries h.2)
   table_entries (d.Routine r) h = absurd h
 
-  no_entries : (signs : List Sign) (x : DirectiveTree) → is_sound signs x ≡ true
+  no_entries : (signs : List Sign) (x : DirectiveTree) → is_sound width signs x ≡ true
       → directive_entries width known x ≡ 0
   no_entries signs (d.Constant name value) h = cc
   no_entries signs (d.Global name value) h = cc
@@ -132,17 +132,17 @@ table_constant width (d.Global name value) h = refl
 table_constant width (d.Array name words entries) h = refl
 table_constant width (d.Routine r) h = refl
 
-routine_constant : (signs : List Sign) (x : DirectiveTree) → is_sound signs x ≡ true
+routine_constant : (width : Width) (signs : List Sign) (x : DirectiveTree) → is_sound width signs x ≡ true
     → is_constant x ≡ false
-routine_constant signs (d.Constant name value) h = cc
-routine_constant signs (d.Global name value) h = refl
-routine_constant signs (d.Array name words entries) h = refl
-routine_constant signs (d.Routine r) h = refl
+routine_constant width signs (d.Constant name value) h = cc
+routine_constant width signs (d.Global name value) h = refl
+routine_constant width signs (d.Array name words entries) h = refl
+routine_constant width signs (d.Routine r) h = refl
 
 -- ---- routines
 
 routine_faultless : SoundRoutinesAreFaultless → (width : Width) (known : Known)
-    (signs : List Sign) → Knows known signs → (x : DirectiveTree) → is_sound signs x ≡ true
+    (signs : List Sign) → Knows known signs → (x : DirectiveTree) → is_sound width signs x ≡ true
     → IsSound width known x
 routine_faultless law width known signs knows (d.Constant name value) h = cc
 routine_faultless law width known signs knows (d.Global name value) h = cc
@@ -190,10 +190,10 @@ module _ (first : SignatureIsKnown) (faultless : SoundRoutinesAreFaultless)
     distinct = distinct;
     each = of_both (IsSound width known) tables routines
         (each_with (IsFineTable width) (IsSound width known) (table_sound width known) tables fine)
-        (each_with (λ x. is_sound signs x ≡ true) (IsSound width known)
+        (each_with (λ x. is_sound width signs x ≡ true) (IsSound width known)
         (routine_faultless faultless width known signs knows) routines sound);
     few = few_is (few_in_all width known tables routines fine (none_in_all width known routines
-        (each_with (λ x. is_sound signs x ≡ true) (λ x. directive_entries width known x ≡ 0)
+        (each_with (λ x. is_sound width signs x ≡ true) (λ x. directive_entries width known x ≡ 0)
         (no_entries width known signs) routines sound)));
     has_main = has_main style db s begin known knows;
   }) where
@@ -224,16 +224,16 @@ module _ (first : SignatureIsKnown) (faultless : SoundRoutinesAreFaultless)
     fine : AllByRecursion (IsFineTable width) tables
     fine = tables_are_fine width db translates.limits s fits translates.none_wide
 
-    sound : AllByRecursion (λ x. is_sound signs x ≡ true) routines
-    sound = each_passes (is_sound signs) routines (routines_sound db translates.limits style s from)
+    sound : AllByRecursion (λ x. is_sound width signs x ≡ true) routines
+    sound = each_passes (is_sound width signs) routines (routines_sound width db translates.limits style s from)
 
     knows : Knows known signs
     knows = knows_named style db from known (first width program distinct
         (of_both (λ x. is_constant x ≡ false) tables routines
         (each_with (IsFineTable width) (λ x. is_constant x ≡ false) (table_constant width) tables
         fine)
-        (each_with (λ x. is_sound signs x ≡ true) (λ x. is_constant x ≡ false)
-        (routine_constant signs) routines sound)))
+        (each_with (λ x. is_sound width signs x ≡ true) (λ x. is_constant x ≡ false)
+        (routine_constant width signs) routines sound)))
 
     few_is : total_entries width known program ≤ length tables * 32767
         → total_entries width known program ≤ 4000000

@@ -17,7 +17,7 @@ use Rattle.trans_data.specs.Routines.{table_rows, routine_names}
 use Rattle.trans_data.specs.Texts.{message_directives}
 use Rattle.trans_turn.specs.Routines.{rounds_asking}
 use Rattle.trans_programs.specs.Laws.{ProgramsAreDistinct}
-use Rattle.trans_programs.proofs.Lists.{each_passes, each_with, of_both, of_three}
+use Rattle.trans_rows.proofs.Lists.{each_passes, each_with, of_both, of_three}
 use Rattle.trans_programs.proofs.Parts.{before_messages, after_messages, named, parts_are}
 
 -- ---- the names that are fixed

@@ -1,4 +1,3 @@
-mod Lists
 mod Joined
 mod NoLines
 mod Parts

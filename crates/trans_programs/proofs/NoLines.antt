@@ -8,7 +8,7 @@ use Rattle.scott_types.specs.Action.{is_zero, is_zero_action}
 use Rattle.scott_rules.specs.Groups.{tail_of, groups_of, groups}
 use Rattle.trans_rows.specs.ActionRows.{HasLineRoutine}
 use Rattle.trans_programs.specs.Laws.{HasNoLines}
-use Rattle.trans_programs.proofs.Lists.{one_of_all}
+use Rattle.trans_rows.proofs.Lists.{one_of_all}
 
 -- ---- groups
 

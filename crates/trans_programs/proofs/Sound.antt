@@ -5,6 +5,7 @@ use Rattle.std.specs.Prelude.{int_lt}
 use Rattle.std.specs.List.{list_all}
 use Rattle.std.proofs.lemmas.List.{length-map}
 use Rattle.std.proofs.lemmas.List.Folds.{list_all-append}
+use Rattle.inform_tree.specs.declared.widths.Width.{Width}
 use Rattle.inform_tree.specs.Programs as d
 use Rattle.inform_tree.specs.Programs.{DirectiveTree}
 use Rattle.inform_tree.specs.Depths.{routine_depth}
@@ -41,172 +42,173 @@ use Rattle.trans_programs.proofs.Numbers.{is_small, less_small, items_small, byt
 use Rattle.trans_programs.proofs.FormedTexts.{both, cases_shallow}
 use Rattle.trans_programs.proofs.Parts.{named, chosen_by}
 
-abbrev pub is_sound : List Sign → DirectiveTree → Bool
-is_sound signs (d.Constant name value) = false
-is_sound signs (d.Global name value) = false
-is_sound signs (d.Array name words entries) = false
-is_sound signs (d.Routine r) = is_sound_routine signs r
+abbrev pub is_sound : Width → List Sign → DirectiveTree → Bool
+is_sound width signs (d.Constant name value) = false
+is_sound width signs (d.Global name value) = false
+is_sound width signs (d.Array name words entries) = false
+is_sound width signs (d.Routine r) = is_sound_routine width signs r
 
-abbrev pub are_sound : List Sign → List DirectiveTree → Bool
-are_sound signs ds = list_all (is_sound signs) ds
+abbrev pub are_sound : Width → List Sign → List DirectiveTree → Bool
+are_sound width signs ds = list_all (is_sound width signs) ds
 
--- ---- the fixed routines of the texts
+module _ (width : Width) where
+  -- ---- the fixed routines of the texts
 
-rows_sound : (style : Style) (db : Database) (s : State) (begin : Position)
-    (items carry home size all : ℕ) → is_small items ≡ true → is_small carry ≡ true
-    → is_small home ≡ true → is_small all ≡ true
-    → are_sound (signature (named style db s begin)) (rows_directives (routine_names style)
-    (items ∷ carry ∷ home ∷ size ∷ all ∷ []) table_rows) ≡ true
-unfolding body_of routine_names table_rows rounds_asking
-rows_sound style db s begin items carry home size all h1 h2 h3 h4 = rw (h1, h2, h3, h4) refl
+  rows_sound : (style : Style) (db : Database) (s : State) (begin : Position)
+      (items carry home size all : ℕ) → is_small items ≡ true → is_small carry ≡ true
+      → is_small home ≡ true → is_small all ≡ true
+      → are_sound width (signature (named style db s begin)) (rows_directives (routine_names style)
+      (items ∷ carry ∷ home ∷ size ∷ all ∷ []) table_rows) ≡ true
+  unfolding body_of routine_names table_rows rounds_asking
+  rows_sound style db s begin items carry home size all h1 h2 h3 h4 = rw (h1, h2, h3, h4) refl
 
-chosen_sound : (style : Style) (db : Database) (s : State) (begin : Position)
-    (items carry home size all : ℕ) (less counted vanish : Bool) → is_small size ≡ true
-    → are_sound (signature (named style db s begin)) (rows_directives (routine_names style)
-    (items ∷ carry ∷ home ∷ size ∷ all ∷ []) (chosen_by less counted vanish)) ≡ true
-unfolding body_of routine_names table_rows rounds_asking
-chosen_sound style db s begin items carry home size all true true true h = rw h refl
-chosen_sound style db s begin items carry home size all true true false h = rw h refl
-chosen_sound style db s begin items carry home size all true false true h = rw h refl
-chosen_sound style db s begin items carry home size all true false false h = rw h refl
-chosen_sound style db s begin items carry home size all false true true h = rw h refl
-chosen_sound style db s begin items carry home size all false true false h = rw h refl
-chosen_sound style db s begin items carry home size all false false true h = rw h refl
-chosen_sound style db s begin items carry home size all false false false h = rw h refl
+  chosen_sound : (style : Style) (db : Database) (s : State) (begin : Position)
+      (items carry home size all : ℕ) (less counted vanish : Bool) → is_small size ≡ true
+      → are_sound width (signature (named style db s begin)) (rows_directives (routine_names style)
+      (items ∷ carry ∷ home ∷ size ∷ all ∷ []) (chosen_by less counted vanish)) ≡ true
+  unfolding body_of routine_names table_rows rounds_asking
+  chosen_sound style db s begin items carry home size all true true true h = rw h refl
+  chosen_sound style db s begin items carry home size all true true false h = rw h refl
+  chosen_sound style db s begin items carry home size all true false true h = rw h refl
+  chosen_sound style db s begin items carry home size all true false false h = rw h refl
+  chosen_sound style db s begin items carry home size all false true true h = rw h refl
+  chosen_sound style db s begin items carry home size all false true false h = rw h refl
+  chosen_sound style db s begin items carry home size all false false true h = rw h refl
+  chosen_sound style db s begin items carry home size all false false false h = rw h refl
 
--- ---- the word reader
+  -- ---- the word reader
 
-line_sound : (style : Style) (db : Database) (s : State) (begin : Position)
-    → are_sound (signature (named style db s begin)) line_directives ≡ true
-unfolding body_of routine_names table_rows rounds_asking
-line_sound style db s begin = refl
+  line_sound : (style : Style) (db : Database) (s : State) (begin : Position)
+      → are_sound width (signature (named style db s begin)) line_directives ≡ true
+  unfolding body_of routine_names table_rows rounds_asking
+  line_sound style db s begin = refl
 
-column_sound : (style : Style) (db : Database) (s : State) (begin : Position) (column : Column)
-    (size entries a b c d e f g : ℕ) → is_small size ≡ true → is_small entries ≡ true
-    → is_small a ≡ true → is_small b ≡ true → is_small c ≡ true → is_small d ≡ true
-    → is_small e ≡ true → is_small f ≡ true → is_small g ≡ true
-    → are_sound (signature (named style db s begin)) (rows_directives (column_names column)
-    (size ∷ entries ∷ a ∷ b ∷ c ∷ d ∷ e ∷ f ∷ g ∷ []) column_rows) ≡ true
-unfolding body_of routine_names table_rows rounds_asking
-column_sound style db s begin Verbs size entries a b c d e f g hs he ha hb hc hd hi hf hg =
-    rw (hs, he, ha, hb, hc, hd, hi, hf, hg) refl
-column_sound style db s begin Nouns size entries a b c d e f g hs he ha hb hc hd hi hf hg =
-    rw (hs, he, ha, hb, hc, hd, hi, hf, hg) refl
+  column_sound : (style : Style) (db : Database) (s : State) (begin : Position) (column : Column)
+      (size entries a b c d e f g : ℕ) → is_small size ≡ true → is_small entries ≡ true
+      → is_small a ≡ true → is_small b ≡ true → is_small c ≡ true → is_small d ≡ true
+      → is_small e ≡ true → is_small f ≡ true → is_small g ≡ true
+      → are_sound width (signature (named style db s begin)) (rows_directives (column_names column)
+      (size ∷ entries ∷ a ∷ b ∷ c ∷ d ∷ e ∷ f ∷ g ∷ []) column_rows) ≡ true
+  unfolding body_of routine_names table_rows rounds_asking
+  column_sound style db s begin Verbs size entries a b c d e f g hs he ha hb hc hd hi hf hg =
+      rw (hs, he, ha, hb, hc, hd, hi, hf, hg) refl
+  column_sound style db s begin Nouns size entries a b c d e f g hs he ha hb hc hd hi hf hg =
+      rw (hs, he, ha, hb, hc, hd, hi, hf, hg) refl
 
--- ---- the turn
+  -- ---- the turn
 
-commands_sound : (style : Style) (db : Database) (s : State) (begin : Position)
-    → is_small (length db.items) ≡ true
-    → are_sound (signature (named style db s begin)) (command_directives style db) ≡ true
-unfolding body_of routine_names table_rows rounds_asking
-commands_sound style db s begin h = rw h refl
+  commands_sound : (style : Style) (db : Database) (s : State) (begin : Position)
+      → is_small (length db.items) ≡ true
+      → are_sound width (signature (named style db s begin)) (command_directives style db) ≡ true
+  unfolding body_of routine_names table_rows rounds_asking
+  commands_sound style db s begin h = rw h refl
 
-search_sound : (style : Style) (db : Database) (s : State) (begin : Position)
-    → are_sound (signature (named style db s begin)) search_directives ≡ true
-unfolding body_of routine_names table_rows rounds_asking
-search_sound style db s begin = refl
+  search_sound : (style : Style) (db : Database) (s : State) (begin : Position)
+      → are_sound width (signature (named style db s begin)) search_directives ≡ true
+  unfolding body_of routine_names table_rows rounds_asking
+  search_sound style db s begin = refl
 
-step_sound : (style : Style) (db : Database) (s : State) (begin : Position)
-    → are_sound (signature (named style db s begin)) no_group_directives ≡ true
-unfolding body_of routine_names table_rows rounds_asking
-step_sound style db s begin = refl
+  step_sound : (style : Style) (db : Database) (s : State) (begin : Position)
+      → are_sound width (signature (named style db s begin)) no_group_directives ≡ true
+  unfolding body_of routine_names table_rows rounds_asking
+  step_sound style db s begin = refl
 
-rounds_sound : (style : Style) (db : Database) (s : State) (from : Option State)
-    → are_sound (signature (named style db s (opening_position from)))
-    (round_directives (opening_position from)) ≡ true
-unfolding body_of routine_names table_rows rounds_asking
-rounds_sound style db s None = refl
-rounds_sound style db s (Some other) = refl
+  rounds_sound : (style : Style) (db : Database) (s : State) (from : Option State)
+      → are_sound width (signature (named style db s (opening_position from)))
+      (round_directives (opening_position from)) ≡ true
+  unfolding body_of routine_names table_rows rounds_asking
+  rounds_sound style db s None = refl
+  rounds_sound style db s (Some other) = refl
 
--- ---- texts by their numbers, and messages
+  -- ---- texts by their numbers, and messages
 
-cases_met : (signs : List Sign) (locals : List (List ℕ)) (n : ℕ) (texts : List (List ℕ))
-    → n + length texts ≤ 32768
-    → are_met signs locals (cases_demands (switch_in no_loop) (text_cases n texts)) ≡ true
-cases_met signs locals n [] fits = refl
-cases_met signs locals n (text ∷ texts) fits = rw (less_small n (omega (arith, fits)))
-    (cases_met signs locals (n + 1) texts (omega (arith, fits)))
+  cases_met : (signs : List Sign) (locals : List (List ℕ)) (n : ℕ) (texts : List (List ℕ))
+      → n + length texts ≤ 32768
+      → are_met width signs locals (cases_demands (switch_in no_loop) (text_cases n texts)) ≡ true
+  cases_met signs locals n [] fits = refl
+  cases_met signs locals n (text ∷ texts) fits = rw (less_small n (omega (arith, fits)))
+      (cases_met signs locals (n + 1) texts (omega (arith, fits)))
 
-switch_not_deep : (name : List ℕ) (texts : List (List ℕ))
-    → not (nat_lt DEEPEST (routine_depth (text_routine name texts))) ≡ true
-switch_not_deep name texts = grind (arith, cases_shallow 0 texts)
+  switch_not_deep : (name : List ℕ) (texts : List (List ℕ))
+      → not (nat_lt DEEPEST (routine_depth (text_routine name texts))) ≡ true
+  switch_not_deep name texts = grind (arith, cases_shallow 0 texts)
 
-switch_sound : (signs : List Sign) (name : List ℕ) (texts : List (List ℕ)) → is_main name ≡ false
-    → length texts ≤ 255 → is_sound signs (d.Routine (text_routine name texts)) ≡ true
-switch_sound signs name texts other few = both _ _ (switch_not_deep name texts)
-    (rw (other, cases_met signs (codes "i" ∷ []) 0 texts (omega (arith, few))) refl)
+  switch_sound : (signs : List Sign) (name : List ℕ) (texts : List (List ℕ)) → is_main name ≡ false
+      → length texts ≤ 255 → is_sound width signs (d.Routine (text_routine name texts)) ≡ true
+  switch_sound signs name texts other few = both _ _ (switch_not_deep name texts)
+      (rw (other, cases_met signs (codes "i" ∷ []) 0 texts (omega (arith, few))) refl)
 
-messages_sound : (signs : List Sign) (m : ℕ) (texts : List (List ℕ))
-    → are_sound signs (message_directives m texts) ≡ true
-unfolding body_of
-messages_sound signs m [] = refl
-messages_sound signs m (text ∷ texts) = messages_sound signs (m + 1) texts
+  messages_sound : (signs : List Sign) (m : ℕ) (texts : List (List ℕ))
+      → are_sound width signs (message_directives m texts) ≡ true
+  unfolding body_of
+  messages_sound signs m [] = refl
+  messages_sound signs m (text ∷ texts) = messages_sound signs (m + 1) texts
 
--- ---- all routines
+  -- ---- all routines
 
-sound_both : (signs : List Sign) (xs ys : List DirectiveTree) → are_sound signs xs ≡ true
-    → are_sound signs ys ≡ true → are_sound signs (xs ++ ys) ≡ true
-sound_both signs xs ys h k = list_all-append (is_sound signs) xs ys
-    ∙ both (are_sound signs xs) (are_sound signs ys) h k
+  sound_both : (signs : List Sign) (xs ys : List DirectiveTree) → are_sound width signs xs ≡ true
+      → are_sound width signs ys ≡ true → are_sound width signs (xs ++ ys) ≡ true
+  sound_both signs xs ys h k = list_all-append (is_sound width signs) xs ys
+      ∙ both (are_sound width signs xs) (are_sound width signs ys) h k
 
-module _ (db : Database) (limits : KeepsLimits db) where
-  named_entry : (column : Column) (word : List ℕ) → is_small (or_zero (which db column word)) ≡ true
-  named_entry column word = less_small (or_zero (which db column word))
-      (omega (arith, named_small db column limits word))
+  module _ (db : Database) (limits : KeepsLimits db) where
+    named_entry : (column : Column) (word : List ℕ) → is_small (or_zero (which db column word)) ≡ true
+    named_entry column word = less_small (or_zero (which db column word))
+        (omega (arith, named_small db column limits word))
 
-  module _ (style : Style) (s : State) (begin : Position) where
-    texts_sound : are_sound (signature (named style db s begin)) (text_directives style db) ≡ true
-    unfolding numbers
-    texts_sound = let signs = signature (named style db s begin) in
-        sound_both signs (fixed_directives style db) (spoken_directives style db) (sound_both signs
-        (rows_directives (routine_names style) (numbers db) table_rows)
-        (rows_directives (routine_names style) (numbers db) (chosen_rows style db))
-        (rows_sound style db s begin (length db.items) (byte_or_more db.header.carry)
-        (byte_or_more db.header.home) (divisor db.header.treasures) (goal db.header.treasures)
-        (items_small db limits) (byte_small db.header.carry) (byte_small db.header.home)
-        (goal_small db.header.treasures))
-        (chosen_sound style db s begin (length db.items) (byte_or_more db.header.carry)
-        (byte_or_more db.header.home) (divisor db.header.treasures) (goal db.header.treasures)
-        (int_lt db.header.treasures (pos 0)) style.counted style.vanish
-        (divisor_small db.header.treasures)))
-        (both _ _ (switch_sound signs (codes "say_item") (item_texts db) refl (omega (
-          arith,
-          length-map db.items (λ item. shown item.text),
-          few 255 db.items limits.sizes.items,
-        )))
-        (both _ _ (switch_sound signs (codes "say_room") (room_texts style db) refl (omega (
-          arith,
-          length-map db.rooms (λ room. described style room.text),
-          few 255 db.rooms limits.sizes.rooms,
-        ))) (messages_sound signs 0 db.messages)))
+    module _ (style : Style) (s : State) (begin : Position) where
+      texts_sound : are_sound width (signature (named style db s begin)) (text_directives style db) ≡ true
+      unfolding numbers
+      texts_sound = let signs = signature (named style db s begin) in
+          sound_both signs (fixed_directives style db) (spoken_directives style db) (sound_both signs
+          (rows_directives (routine_names style) (numbers db) table_rows)
+          (rows_directives (routine_names style) (numbers db) (chosen_rows style db))
+          (rows_sound style db s begin (length db.items) (byte_or_more db.header.carry)
+          (byte_or_more db.header.home) (divisor db.header.treasures) (goal db.header.treasures)
+          (items_small db limits) (byte_small db.header.carry) (byte_small db.header.home)
+          (goal_small db.header.treasures))
+          (chosen_sound style db s begin (length db.items) (byte_or_more db.header.carry)
+          (byte_or_more db.header.home) (divisor db.header.treasures) (goal db.header.treasures)
+          (int_lt db.header.treasures (pos 0)) style.counted style.vanish
+          (divisor_small db.header.treasures)))
+          (both _ _ (switch_sound signs (codes "say_item") (item_texts db) refl (omega (
+            arith,
+            length-map db.items (λ item. shown item.text),
+            few 255 db.items limits.sizes.items,
+          )))
+          (both _ _ (switch_sound signs (codes "say_room") (room_texts style db) refl (omega (
+            arith,
+            length-map db.rooms (λ room. described style room.text),
+            few 255 db.rooms limits.sizes.rooms,
+          ))) (messages_sound signs 0 db.messages)))
 
-    words_sound : are_sound (signature (named style db s begin)) (word_directives db) ≡ true
-    words_sound = sound_both (signature (named style db s begin)) line_directives
-        (column_directives db Verbs ++ column_directives db Nouns) (line_sound style db s begin)
-        (sound_both (signature (named style db s begin)) (column_directives db Verbs)
-        (column_directives db Nouns) (of_column Verbs) (of_column Nouns)) where
-          of_column : (column : Column)
-              → are_sound (signature (named style db s begin)) (column_directives db column) ≡ true
-          of_column column = column_sound style db s begin column _ _ _ _ _ _ _ _ _
-              (less_small db.header.length (omega (arith, limits.header.length_range.1)))
-              (less_small (length db.words) (omega (arith, few_words db limits)))
-              (named_entry column (codes "north")) (named_entry column (codes "south"))
-              (named_entry column (codes "east")) (named_entry column (codes "west"))
-              (named_entry column (codes "up")) (named_entry column (codes "down"))
-              (named_entry column (codes "inventory"))
+      words_sound : are_sound width (signature (named style db s begin)) (word_directives db) ≡ true
+      words_sound = sound_both (signature (named style db s begin)) line_directives
+          (column_directives db Verbs ++ column_directives db Nouns) (line_sound style db s begin)
+          (sound_both (signature (named style db s begin)) (column_directives db Verbs)
+          (column_directives db Nouns) (of_column Verbs) (of_column Nouns)) where
+            of_column : (column : Column)
+                → are_sound width (signature (named style db s begin)) (column_directives db column) ≡ true
+            of_column column = column_sound style db s begin column _ _ _ _ _ _ _ _ _
+                (less_small db.header.length (omega (arith, limits.header.length_range.1)))
+                (less_small (length db.words) (omega (arith, few_words db limits)))
+                (named_entry column (codes "north")) (named_entry column (codes "south"))
+                (named_entry column (codes "east")) (named_entry column (codes "west"))
+                (named_entry column (codes "up")) (named_entry column (codes "down"))
+                (named_entry column (codes "inventory"))
 
-  pub routines_sound : (style : Style) (s : State) (from : Option State)
-      → are_sound (signature (named style db s (opening_position from)))
-      (game_routines style db from) ≡ true
-  routines_sound style s from = let begin = opening_position from in
-      let signs = signature (named style db s begin) in
-      let stepping = no_group_directives ++ round_directives begin in
-      sound_both signs (text_directives style db)
-      (word_directives db ++ turn_directives style db begin) (texts_sound style s begin)
-      (sound_both signs (word_directives db) (turn_directives style db begin)
-      (words_sound style s begin)
-      (sound_both signs search_directives (command_directives style db ++ stepping)
-      (search_sound style db s begin) (sound_both signs (command_directives style db) stepping
-      (commands_sound style db s begin (items_small db limits))
-      (sound_both signs no_group_directives (round_directives begin)
-      (step_sound style db s begin) (rounds_sound style db s from)))))
+    pub routines_sound : (style : Style) (s : State) (from : Option State)
+        → are_sound width (signature (named style db s (opening_position from)))
+        (game_routines style db from) ≡ true
+    routines_sound style s from = let begin = opening_position from in
+        let signs = signature (named style db s begin) in
+        let stepping = no_group_directives ++ round_directives begin in
+        sound_both signs (text_directives style db)
+        (word_directives db ++ turn_directives style db begin) (texts_sound style s begin)
+        (sound_both signs (word_directives db) (turn_directives style db begin)
+        (words_sound style s begin)
+        (sound_both signs search_directives (command_directives style db ++ stepping)
+        (search_sound style db s begin) (sound_both signs (command_directives style db) stepping
+        (commands_sound style db s begin (items_small db limits))
+        (sound_both signs no_group_directives (round_directives begin)
+        (step_sound style db s begin) (rounds_sound style db s from)))))

@@ -31,7 +31,7 @@ use Rattle.trans_rows.proofs.Bounds.{Below, below_guarded, below_map, below_test
 use Rattle.trans_rows.proofs.Lengths.{IsThere, there, few, long_guarded, there_map, there_exits, there_words, there_bases, there_classes}
 use Rattle.trans_rows.proofs.Opening.{word_or_wide, none_third, less_light, counter_word, small, below_places, place_small, room_small, rooms_few, items_there, words_few, words_there, below_all_exits, below_class, below_classes, below_which}
 use Rattle.trans_words.proofs.Matching.{letters_long}
-use Rattle.trans_programs.proofs.Lists.{of_both}
+use Rattle.trans_rows.proofs.Lists.{of_both}
 
 -- ---- what is asked of a table
 

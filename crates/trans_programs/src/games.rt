@@ -36,7 +36,7 @@ fn directives(
 {
     let data = tables(alloc, db, style, width, state)?;
     let reading = words(alloc, db)?;
-    let playing = joined(reading, turn(alloc, db, style, begin)?)?;
+    let playing = joined(reading, turn(alloc, db, style, width, begin)?)?;
     let all = joined(data, playing)?;
     Ok(all)
 }

@@ -14,3 +14,11 @@ pub mod Bases
 pub mod MainRuns
 pub mod Hill
 pub mod Flat
+pub mod Lists
+pub mod Room
+pub mod Left
+pub mod Acts
+pub mod Entries
+pub mod Kept
+pub mod LineWords
+pub mod Apart

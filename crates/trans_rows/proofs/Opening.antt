@@ -314,6 +314,7 @@ module _ (db : Database) (limits : KeepsLimits db) where
 
       has_noun : HasNoun [] w
       has_noun = record {
+        printable = tt;
         at = 0;
         at_is = zero_is opens.1.1.1.1.1.1.1.1.1.1.0;
         size_is = zero_is opens.1.1.1.1.1.1.1.1.1.1.1.0;

@@ -20,23 +20,11 @@ use Rattle.trans_rows.specs.Names.{message_name, line_name}
 use Rattle.trans_rows.specs.Calls.{CallSays, CallLeaves}
 use Rattle.trans_rows.specs.ActionRows.{LineDone}
 use Rattle.trans_rows.specs.WorkedRows.{PastCountsForNothing, message_routine, MessagesAreSaid, ChanceLineIsDone}
+use Rattle.trans_rows.proofs.Room.{one_less}
+use Rattle.trans_rows.proofs.Left.{stands_after}
 
 pub past_counts_for_nothing : PastCountsForNothing
-past_counts_for_nothing db s noun w past h = record {
-  ready = record {
-    shows = h.ready.shows;
-    fits = h.ready.fits;
-    tables = h.ready.tables;
-    working = h.ready.working;
-  };
-  has_noun = h.has_noun;
-}
-
--- a number of calls from which one was taken
-one_less : (P : ℕ → Type 0) (most d : ℕ) → suc most ≤ d → ((k : ℕ) → most ≤ k → P (suc k)) → P d
-one_less P most d h by = subst P is (by (d - 1) (omega (arith, h))) where
-  is : suc (d - 1) ≡ d
-  is = omega (arith, h)
+past_counts_for_nothing db s noun w past h = stands_after past h
 
 -- ---- messages
 

@@ -6,7 +6,7 @@ use Rattle.inform_tree.specs.declared.widths.Width.{Width}
 use Rattle.inform_tree.specs.declared.widths.Width.TheVariants.{W16, W32}
 use Rattle.inform_tree.specs.declared.values.Const.{Const}
 use Rattle.inform_tree.specs.declared.values.Const.TheVariants.{Number}
-use Rattle.inform_names.specs.Words.{signed}
+use Rattle.inform_names.specs.Words.{word, signed}
 use Rattle.inform_names.specs.Meanings.{Known, constant_word}
 use Rattle.inform_meaning.specs.Words.{low_byte}
 use Rattle.inform_meaning.specs.Worlds.{kept}
@@ -14,6 +14,7 @@ use Rattle.inform_meaning.specs.Programs.{entries_in}
 use Rattle.trans_rows.specs.Wide.{is_word_of}
 use Rattle.trans_rows.specs.Directives.{written}
 use Rattle.trans_rows.specs.Views.{naturals}
+use Rattle.trans_rows.specs.Laws.{NumbersAreTheirWords}
 use Rattle.trans_rows.proofs.Bounds.{Below}
 
 -- ---- one number
@@ -68,6 +69,15 @@ module _ (known : Known) where
       → constant_word width known (Number n) ≡ Some (pos n)
   small_written W16 n h = ap Some (signed_small 65536 n (omega (arith, h)))
   small_written W32 n h = ap Some (signed_small 4294967296 n (omega (arith, h)))
+
+-- a number that is a word of the width stands for itself in a program
+pub numbers_are_their_words : NumbersAreTheirWords
+numbers_are_their_words width n h = from width (nat_lt n 32768) h where
+  from : (width : Width) (b : Bool) → is_word_of width (pos n) ≡ true
+      → (if b then pos n else word width n) ≡ pos n
+  from width true h = refl
+  from W16 false h = signed_small 65536 n (omega (arith, small_16 n h))
+  from W32 false h = signed_small 4294967296 n (omega (arith, small_32 n h))
 
 -- ---- lists
 

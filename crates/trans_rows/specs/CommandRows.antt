@@ -51,10 +51,10 @@ SearchFinds (Over ending) game p d name values w noun t = CallEndsGame p d name 
 abbrev pub search_room : ℕ
 search_room = 125
 
--- a verb and a noun are its arguments, and the noun text is that of the line
+-- a verb from 1 on and a noun are its arguments, and the noun text is that of the line
 abbrev pub SearchRow : Game → Program → List ℕ → Type 0
 SearchRow game p name = (verb : ℕ) (noun : Option ℕ) (s : State) (typed : List ℕ) (w : Stage)
-    (d : ℕ) → search_room ≤ d → IsNoun game.db noun → StandsFor game.db s typed w
+    (d : ℕ) → search_room ≤ d → 0 < verb → IsNoun game.db noun → StandsFor game.db s typed w
     → let t = search_result game typed verb noun (groups game.db) s in
     SearchFinds t.value.found game p d name (pos verb ∷ pos (or_zero noun) ∷ []) w typed t
 
@@ -80,7 +80,7 @@ command_room = 130
 -- the verb and the noun that were heard stand in their globals
 abbrev pub CommandRow : Game → Program → List ℕ → Type 0
 CommandRow game p name = (verb : ℕ) (noun : Option ℕ) (s : State) (typed : List ℕ) (w : Stage)
-    (d : ℕ) → command_room ≤ d → IsNoun game.db noun
+    (d : ℕ) → command_room ≤ d → 0 < verb → IsNoun game.db noun
     → w.globals (codes "vnum") ≡ Some (pos verb)
     → w.globals (codes "nnum") ≡ Some (pos (or_zero noun)) → StandsFor game.db s typed w
     → let t = command_result game typed verb noun s in

@@ -12,32 +12,26 @@ use Rattle.scott_types.specs.State.{place_of, is_near, carried_count, is_dark}
 use Rattle.scott_rules.specs.Opcodes.{is_full}
 use Rattle.trans_rows.specs.Tables.{bit}
 use Rattle.trans_rows.specs.Standing.{StandsFor}
-use Rattle.trans_rows.specs.Steps.{text_steps}
+use Rattle.trans_rows.specs.Steps.{text_steps, helper_steps}
 use Rattle.trans_rows.specs.DataRows.{text_room}
 use Rattle.trans_rows.specs.Calls.{CallSays}
 
 -- a call with these values gives a number of the state
 abbrev pub GivesOf : Database → Program → List ℕ → List ℤ → (State → ℕ) → Type 0
 GivesOf db p name values number = (s : State) (noun : List ℕ) (w : Stage) (d : ℕ) → text_room ≤ d
-    → StandsFor db s noun w → Does p d name values w (pos (number s)) w (text_steps db)
+    → StandsFor db s noun w → Does p d name values w (pos (number s)) w (helper_steps db)
 
 -- a call gives 1 where this holds of the state, and else 0
 abbrev pub TellsOf : Database → Program → List ℕ → List ℤ → (State → Bool) → Type 0
 TellsOf db p name values test = GivesOf db p name values (λ s. bit (test s))
 
--- the numbers by which a program may ask for an item, whether it is there or not
-abbrev pub asked_items : ℕ
-asked_items = 32768
-
--- where an item is
+-- where an item is, whether it is there or not
 abbrev pub PlaceRow : Database → Program → List ℕ → Type 0
-PlaceRow db p name = (item : ℕ) → item < asked_items
-    → GivesOf db p name (pos item ∷ []) (λ s. place_of s item)
+PlaceRow db p name = (item : ℕ) → GivesOf db p name (pos item ∷ []) (λ s. place_of s item)
 
 -- whether an item is carried or here
 abbrev pub NearRow : Database → Program → List ℕ → Type 0
-NearRow db p name = (item : ℕ) → item < asked_items
-    → TellsOf db p name (pos item ∷ []) (λ s. is_near s item)
+NearRow db p name = (item : ℕ) → TellsOf db p name (pos item ∷ []) (λ s. is_near s item)
 
 -- whether it is dark
 abbrev pub DarkRow : Database → Program → List ℕ → Type 0

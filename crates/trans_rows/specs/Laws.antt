@@ -1,16 +1,20 @@
 -- The laws of views, names and rounds, and of the stage with which a translated game opens.
-use Rattle.std.specs.Prelude.{◌≡◌, ◌↔◌, ℕ, zero, suc, ◌+◌, ◌*◌, ◌<◌, ◌≤◌, ◌^◌, ℤ, IsTrue, List, [], ◌++◌, length, slice_index, slice_index_or, codes, Some, None}
+use Rattle.std.specs.Prelude.{◌≡◌, ◌↔◌, ℕ, zero, suc, ◌+◌, ◌*◌, ◌<◌, ◌≤◌, ◌^◌, ℤ, pos, true, IsTrue, List, [], ◌++◌, length, slice_index, slice_index_or, codes, Some, None}
+use Rattle.std.specs.List.{AllByRecursion}
 use Rattle.inform_tree.specs.declared.widths.Width.{Width}
 use Rattle.inform_tree.specs.declared.widths.Width.TheVariants.{W32}
 use Rattle.inform_tree.specs.Programs.{DirectiveTree}
+use Rattle.inform_meaning.specs.Words.{number_word}
 use Rattle.inform_logic.specs.Stages.{Stage, with_global}
 use Rattle.inform_logic.specs.Holding.{opening_stage, Distinct}
+use Rattle.scott_types.specs.declared.parts.Action.{Action}
 use Rattle.scott_types.specs.declared.states.State.{State}
 use Rattle.scott_types.specs.declared.endings.Position.{Position}
 use Rattle.scott_types.specs.declared.commands.Column.{Column}
 use Rattle.scott_types.specs.declared.commands.Column.TheVariants.{Nouns}
 use Rattle.scott_types.specs.Database.{Database, room_at}
 use Rattle.scott_types.specs.Room.{exit_of}
+use Rattle.scott_types.specs.Action.{verb_of, argument_of, opcode_numbers}
 use Rattle.scott_types.specs.Limits.{KeepsLimits}
 use Rattle.scott_types.specs.State.{Fits}
 use Rattle.scott_types.specs.Style.{Game}
@@ -18,7 +22,7 @@ use Rattle.scott_rules.specs.Words.{is_typed, entries_of, root}
 use Rattle.scott_rules.specs.Play.{go}
 use Rattle.scott_rules.specs.Laws.{IsBaseEntryOf}
 use Rattle.trans_rows.specs.Tables.{exits, entry_letters, word_letters, bases, is_class, class_of, class_of_noun}
-use Rattle.trans_rows.specs.Wide.{wide_at}
+use Rattle.trans_rows.specs.Wide.{is_word_of, wide_at}
 use Rattle.trans_rows.specs.Names.{line_name, line_number}
 use Rattle.trans_rows.specs.Views.{Shows}
 use Rattle.trans_rows.specs.Standing.{StandsFor}
@@ -47,6 +51,22 @@ PlaysAreRounds = (game : Game) (position : Position) (s : State) (lines : List (
 -- No number of a database is too wide for words of 32 bits.
 abbrev pub NoneWideAt32 : Type 0
 NoneWideAt32 = (db : Database) → KeepsLimits db → wide_at W32 db ≡ None
+
+-- A number that is a word of a width stands for itself in a program of that width.
+abbrev pub NumbersAreTheirWords : Type 0
+NumbersAreTheirWords = (width : Width) (n : ℕ) → is_word_of width (pos n) ≡ true
+    → number_word width n ≡ pos n
+
+-- the numbers of a line that stand in a program are words
+pub record HasWords (width : Width) (a : Action) : Type 0 where
+  pub verb : is_word_of width (pos (verb_of a.vocab)) ≡ true
+  pub arguments : AllByRecursion (λ c. is_word_of width (pos (argument_of c)) ≡ true) a.conds
+  pub opcodes : AllByRecursion (λ n. is_word_of width (pos n) ≡ true) (opcode_numbers a)
+
+-- Where no number of a database is too wide, each verb, argument and opcode of a line is a word.
+abbrev pub LinesHaveWords : Type 0
+LinesHaveWords = (width : Width) (db : Database) → wide_at width db ≡ None
+    → AllByRecursion (HasWords width) db.actions
 
 -- The exit of a room in a direction stands at six times the room and the direction.
 abbrev pub ExitsStand : Type 0

@@ -58,13 +58,21 @@ program_calls name (directive ∷ directives) =
 abbrev pub IsGroup : Database → RoutineTree → Type 0
 IsGroup db r = (g : Group) × IsIn g (groups db) × (r ≡ group_routine db g)
 
+-- a routine is that of a line
+abbrev pub IsLine : Database → RoutineTree → Type 0
+IsLine db r = (k : ℕ) × HasLineRoutine db k × (r ≡ line_routine db k)
+
 -- The globals and arrays are those of the database and the state, and there is no constant. Each
--- line that isn't all zeros and each group has its routine; each group is called at one place, and
--- only groups call lines.
+-- line that isn't all zeros and each group has its routine, and no other routine has a name of
+-- theirs; each group is called at one place, and only groups call lines.
 pub record Shaped (db : Database) (s : State) (ds : List DirectiveTree) : Type 0 where
   pub declared : declarations ds ≡ data_directives db s
   pub lines : (k : ℕ) → HasLineRoutine db k → IsIn (t.Routine (line_routine db k)) ds
   pub groups_there : (g : Group) → IsIn g (groups db) → IsIn (t.Routine (group_routine db g)) ds
+  pub lines_only : (k : ℕ) (r : RoutineTree) → IsIn (t.Routine r) ds → r.name ≡ line_name k
+      → IsLine db r
+  pub groups_only : (k : ℕ) (r : RoutineTree) → IsIn (t.Routine r) ds → r.name ≡ group_name k
+      → IsGroup db r
   pub called_once : (g : Group) → IsIn g (groups db) → program_calls (group_name g.head) ds ≡ 1
   pub by_groups : (k : ℕ) → HasLineRoutine db k → (r : RoutineTree) → IsIn (t.Routine r) ds
       → 0 < routine_calls (line_name k) r → IsGroup db r

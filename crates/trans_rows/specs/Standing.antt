@@ -1,5 +1,7 @@
 -- What a stage of a translated game stands for: a state, and a noun text.
 use Rattle.std.specs.Prelude.{◌≡◌, ℕ, ℤ, pos, true, List, length, take, drop, slice_get, codes, Option, Some, is_some}
+use Rattle.std.specs.List.{AllByRecursion}
+use Rattle.std.specs.Char.{is_ascii_graphic}
 use Rattle.scott_types.specs.declared.states.State.{State}
 use Rattle.scott_types.specs.declared.commands.Column.TheVariants.{Verbs, Nouns}
 use Rattle.scott_types.specs.Database.{Database}
@@ -69,8 +71,13 @@ pub record BytesAt (bytes : List ℕ) (at : ℕ) (entries : Option (List ℤ)) :
   pub all_are : entries ≡ Some all
   pub stand : take (length bytes) (drop at all) ≡ naturals bytes
 
--- the bytes of `buf` from entry `wb` on, as many as `nb` says, are the noun text
+-- a printable ASCII character, and no space
+abbrev pub IsPrintable : ℕ → Type 0
+IsPrintable byte = is_ascii_graphic byte ≡ true
+
+-- The bytes of `buf` from entry `wb` on, as many as `nb` says, are the noun text, and can be printed.
 pub record NounSeen (noun : List ℕ) (wb nb : Option ℤ) (buf : Option (List ℤ)) : Type 0 where
+  pub printable : AllByRecursion IsPrintable noun
   pub at : ℕ
   pub at_is : wb ≡ Some (pos at)
   pub size_is : nb ≡ Some (pos (length noun))

@@ -25,6 +25,10 @@ enough db lines = (lines + 1) * 1000 * (highest db.actions + 2) * (highest db.it
 abbrev pub text_steps : Database → ℕ
 text_steps db = 15 * share db
 
+-- one that gives a number of the state, such as the place of an item
+abbrev pub helper_steps : Database → ℕ
+helper_steps db = 3 * share db
+
 -- the word reader
 abbrev pub reader_steps : Database → ℕ
 reader_steps db = 100 * share db

@@ -7,7 +7,7 @@ use Rattle.inform_tree.specs.Conditions as c
 use Rattle.inform_tree.specs.Statements as s
 use Rattle.inform_tree.specs.Statements.{Statement, statements}
 use Rattle.inform_tree.specs.Programs as t
-use Rattle.inform_tree.specs.Programs.{RoutineTree}
+use Rattle.inform_tree.specs.Programs.{RoutineTree, DirectiveTree}
 use Rattle.inform_logic.specs.Holding.{opening_stage}
 use Rattle.scott_types.specs.declared.parts.Word.{Word}
 use Rattle.scott_types.specs.declared.states.State.{State}
@@ -169,6 +169,17 @@ pub record StepsCounted : Type 0 where
 -- ---- a shape
 
 -- the hall and the hill have no line that does anything: the tables and a `main` are such a game
+abbrev pub hill_directives : List DirectiveTree
+hill_directives = data_directives hill (start hill)
+    ++ t.Routine (routine (codes "main") [] []) ∷ []
+
 abbrev pub HillIsShaped : Type 0
-HillIsShaped = Shaped hill (start hill)
-    (data_directives hill (start hill) ++ t.Routine (routine (codes "main") [] []) ∷ [])
+HillIsShaped = Shaped hill (start hill) hill_directives
+
+-- and with a `line_0` besides they are not
+abbrev pub dead_line : RoutineTree
+dead_line = routine (codes "line_0") [] (s.Print (s.Text (codes "a") ∷ []) ∷ [])
+
+abbrev pub DeadLineIsRefused : Type 0
+DeadLineIsRefused = ¬ (Shaped hill (start hill)
+    (data_directives hill (start hill) ++ t.Routine dead_line ∷ []))

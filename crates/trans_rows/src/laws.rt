@@ -1,7 +1,7 @@
 //! The laws of views, names and rounds. Each is the contract of a function that does nothing else.
 ghost use Rattle.trans_rows.specs.Writes.{GlobalsWritten, EntriesWritten};
 ghost use Rattle.trans_rows.specs.Wholes.{MainIsEnough};
-ghost use Rattle.trans_rows.specs.Laws.{OneStateAStage, OverShowsNothing, LinesAreNumbered, PlaysAreRounds, ExitsStand, LettersStand, BasesAreBaseEntries, ClassesTell, NoneWideAt32, DataDistinct, OpeningStands};
+ghost use Rattle.trans_rows.specs.Laws.{OneStateAStage, OverShowsNothing, LinesAreNumbered, PlaysAreRounds, ExitsStand, LettersStand, BasesAreBaseEntries, ClassesTell, NoneWideAt32, NumbersAreTheirWords, LinesHaveWords, DataDistinct, OpeningStands};
 
 use inform_logic::laws::{opening_opens, run_stops};
 use scott_rules::laws::play_stops;
@@ -62,6 +62,16 @@ pub fn classes_tell()
 /// No number of a database is too wide for words of 32 bits.
 pub fn none_wide_at_32()
     ensures { NoneWideAt32 }
+{}
+
+/// A number that is a word of a width stands for itself in a program of that width.
+pub fn numbers_are_their_words()
+    ensures { NumbersAreTheirWords }
+{}
+
+/// Where no number of a database is too wide, the numbers of its lines are words.
+pub fn lines_have_words()
+    ensures { LinesHaveWords }
 {}
 
 /// No two of the directives of the globals and arrays have one name.

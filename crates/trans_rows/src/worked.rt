@@ -1,6 +1,6 @@
 //! Worked tables, views, lines and numbers. Each is the contract of a function that does nothing,
 //! and is proved by computing it.
-ghost use Rattle.trans_rows.specs.Worked.{HillTables, ItemTables, OddTables, HillOpens, LaterOpens, FullHandsLine, NotCarriedLine, ChanceLine, ChanceGroups, EmptyTail, CallsCounted, NamesRead, NumbersWide, StepsCounted, HillIsShaped};
+ghost use Rattle.trans_rows.specs.Worked.{HillTables, ItemTables, OddTables, HillOpens, LaterOpens, FullHandsLine, NotCarriedLine, ChanceLine, ChanceGroups, EmptyTail, CallsCounted, NamesRead, NumbersWide, StepsCounted, HillIsShaped, DeadLineIsRefused};
 
 /// The tables of the hall and the hill.
 pub fn hill_tables()
@@ -75,4 +75,9 @@ pub fn steps_counted()
 /// A game without lines that do anything, and its shape.
 pub fn hill_is_shaped()
     ensures { HillIsShaped }
+{}
+
+/// A routine that is named as a line and is none of the game's has no place in it.
+pub fn dead_line_is_refused()
+    ensures { DeadLineIsRefused }
 {}

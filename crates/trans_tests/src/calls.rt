@@ -35,8 +35,10 @@ fn routines_of_words_are_made(rt: HostRuntime) {
 #[test]
 fn routines_of_a_turn_are_made(rt: HostRuntime) {
     let db = smallest(&rt);
-    let made = turn(rt.alloc(), &db, Style::plain(), Position::Fresh).expect(&rt, "memory");
-    expect!(rt; made.len() == 23);
+    let _parts = db.parts();
+    none_wide_at_32();
+    let made = turn(rt.alloc(), &db, Style::plain(), Width::W32, Position::Fresh);
+    expect!(rt; made.expect(&rt, "memory").len() == 23);
 }
 
 // 12 globals, 17 arrays, 17 routines of codes, two of texts and one of a message.

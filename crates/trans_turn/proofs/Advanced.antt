@@ -31,7 +31,7 @@ use Rattle.trans_rows.specs.TurnRows.{FairStage}
 use Rattle.trans_rows.specs.CommandRows.{search_steps}
 use Rattle.trans_rows.specs.AutomaticRows.{AutomaticHalts, AutomaticDone}
 use Rattle.trans_turn.specs.Owed.{RoundParts}
-use Rattle.trans_turn.proofs.Rooms.{one_less}
+use Rattle.trans_rows.proofs.Room.{one_less}
 use Rattle.trans_turn.proofs.Holding.{HasRound}
 use Rattle.trans_turn.proofs.Standing.{mark_off, past_aside}
 use Rattle.trans_turn.proofs.Described.{described, describes}

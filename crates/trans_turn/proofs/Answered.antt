@@ -36,7 +36,7 @@ use Rattle.trans_rows.specs.CommandRows.{command_steps, CommandReturns, CommandE
 use Rattle.trans_turn.specs.Owed.{RoundParts}
 use Rattle.trans_turn.proofs.Holding.{HasRound}
 use Rattle.trans_turn.proofs.Standing.{past_aside}
-use Rattle.trans_turn.proofs.Rooms.{one_less}
+use Rattle.trans_rows.proofs.Room.{one_less}
 use Rattle.trans_turn.proofs.Parts.{Went, went_on}
 use Rattle.trans_turn.proofs.Bytes.{word_there}
 use Rattle.trans_turn.proofs.SaidWord.{word_is_said}
@@ -247,7 +247,7 @@ module _ (game : Game) (p : Program) (asked : ℕ) (has : HasRound p asked)
   by _ _ first (command span verb noun some is_noun) typed vnum nnum seen =
       by_command verb noun some vnum
       (command_result game (typed_noun line) verb noun s).value.over
-      (parts.commands verb noun s (typed_noun line) reads.after d room is_noun vnum nnum
+      (parts.commands verb noun s (typed_noun line) reads.after d room some is_noun vnum nnum
       read.stands)
 
 -- a line that stands in the buffer is answered

@@ -1,4 +1,3 @@
-pub mod Rooms
 pub mod Holding
 pub mod Standing
 pub mod Described

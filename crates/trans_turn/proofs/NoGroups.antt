@@ -19,7 +19,7 @@ use Rattle.trans_turn.specs.declared.names.TheConstants.{AUTOMATIC}
 use Rattle.trans_turn.specs.declared.codes.TheConstants.{BEFORE_GROUPS}
 use Rattle.trans_turn.specs.Owed.{AutomaticOwes}
 use Rattle.trans_turn.proofs.Holding.{written, has_automatic}
-use Rattle.trans_turn.proofs.Rooms.{one_less}
+use Rattle.trans_rows.proofs.Room.{one_less}
 
 -- no noun was typed
 abbrev without_noun : Stage → Stage
@@ -46,6 +46,7 @@ no_noun h = let working = h.ready.working in record {
     };
   };
   has_noun = record {
+    printable = tt;
     at = h.has_noun.at;
     at_is = h.has_noun.at_is;
     size_is = refl;

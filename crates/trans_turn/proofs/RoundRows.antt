@@ -26,7 +26,7 @@ use Rattle.trans_rows.specs.TurnRows.{FairStage, RoundRow, RoundEnds}
 use Rattle.trans_turn.specs.declared.names.TheConstants.{ROUND, ASKED}
 use Rattle.trans_turn.specs.declared.codes.TheConstants.{ROUNDING}
 use Rattle.trans_turn.specs.Owed.{RoundParts, round_calls}
-use Rattle.trans_turn.proofs.Rooms.{one_less}
+use Rattle.trans_rows.proofs.Room.{one_less}
 use Rattle.trans_turn.proofs.Holding.{written, HasRound}
 use Rattle.trans_turn.proofs.Parts.{PartOutcome, then_part, by_body}
 use Rattle.trans_turn.proofs.Advanced.{advance_steps, AdvanceOutcome, advances}

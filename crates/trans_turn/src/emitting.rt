@@ -1,7 +1,8 @@
 //! The routines of a round as directives.
-ghost use Rattle.std.specs.Prelude.{◌≡◌, [], ◌∷◌, IfOk, map};
+ghost use Rattle.std.specs.Prelude.{◌≡◌, [], ◌∷◌, IfOk, None, map};
 ghost use Rattle.inform_tree.specs.Programs.{directive_of};
 ghost use Rattle.inform_codes.specs.Routines.{rows_directives};
+ghost use Rattle.trans_rows.specs.Wide.{wide_at};
 ghost use Rattle.trans_turn.specs.Routines as s;
 ghost use Rattle.trans_turn.specs.Routines.{turn_names, first_asked, round_directives, no_group_directives, turn_directives};
 
@@ -9,7 +10,7 @@ use crate::codes::{NO_GROUPS, ROUNDS};
 use crate::names::NAMES;
 use adv_io::Memory;
 use inform_codes::{Row, joined, routines};
-use inform_tree::Directive;
+use inform_tree::{Directive, Width};
 use scott_types::{Db, Phrase, Position, Style};
 use std::alloc::Global;
 use trans_commands::{commands, search};
@@ -77,11 +78,20 @@ pub fn automatic(alloc: Global) -> Result<Vec<Directive>, Memory>
 }
 
 /// All routines of a turn, in a game without lines: the search, the commands, the automatic step
-/// and the rounds, the first of which begins at this position.
-pub fn turn(alloc: Global, db: &Db, style: Style, begin: Position) -> Result<Vec<Directive>, Memory>
+/// and the rounds, the first of which begins at this position. No number is too wide for words of
+/// the width.
+pub fn turn(
+    alloc: Global,
+    db: &Db,
+    style: Style,
+    width: Width,
+    begin: Position,
+) -> Result<Vec<Directive>, Memory>
+    requires { wide_at width db.now ≡ None }
     ensures { IfOk result (λ directives. map directive_of directives.items
         ≡ turn_directives style db.now begin) }
 {
+    let _ = width;
     let searching = search(alloc)?;
     let commanding = commands(alloc, db, style)?;
     let stepping = automatic(alloc)?;

@@ -1,6 +1,6 @@
 -- A word that is typed has the letters of an entry exactly where the rules say that it matches.
 use Rattle.std.proofs.Common.{◌≡◌, ◌∙◌, arith, ℕ, zero, suc, ◌-◌, ◌≤◌, nat_eq, Bool, true, false, not, ◌&&◌, if◌then◌else◌, List, [], ◌∷◌, ◌++◌, map, length, take, replicate, bytes_eq, refl, sym, ap, true≢false}
-use Rattle.std.specs.List.{list_all}
+use Rattle.std.specs.List.{list_all, AllByRecursion}
 use Rattle.std.specs.Char.{is_ascii_graphic, is_ascii_uppercase, to_ascii_lowercase}
 use Rattle.std.proofs.lemmas.Bool.{and_parts}
 use Rattle.std.proofs.lemmas.List.{length-append, length-map, length-replicate}
@@ -10,6 +10,7 @@ use Rattle.inform_logic.proofs.Steps.{plus_is}
 use Rattle.scott_rules.specs.Words.{is_typed, spelling}
 use Rattle.scott_vocab.specs.Keys.{letters}
 use Rattle.trans_rows.specs.Tables.{filled_up, printed_letters, entry_letters}
+use Rattle.trans_rows.specs.Standing.{IsPrintable}
 
 -- a printable byte that is no capital letter
 abbrev pub is_word_byte : ℕ → Bool
@@ -25,6 +26,16 @@ agree (x ∷ xs) [] = nat_eq x 0
 agree (x ∷ xs) (b ∷ word) = nat_eq b x && agree xs word
 
 -- ---- bytes
+
+-- the bytes of a word can be printed
+pub all_printable : (word : List ℕ) → is_word word ≡ true → AllByRecursion IsPrintable word
+all_printable [] h = tt
+all_printable (b ∷ word) h = (
+  (and_parts (is_ascii_graphic b) (not (is_ascii_uppercase b)) parts.0).0,
+  all_printable word parts.1,
+) where
+  parts : (is_word_byte b ≡ true) × (is_word word ≡ true)
+  parts = and_parts (is_word_byte b) (is_word word) h
 
 graphic_some : (b : ℕ) → is_ascii_graphic b ≡ true → nat_eq b 0 ≡ false
 graphic_some b h = grind arith

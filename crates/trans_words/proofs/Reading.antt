@@ -26,6 +26,7 @@ use Rattle.trans_words.specs.Laws.{LinesAreHeard}
 use Rattle.trans_words.proofs.Trees.{word_array, base_array}
 use Rattle.trans_words.proofs.Held.{HasReader, has_reader}
 use Rattle.trans_words.proofs.Standing.{by_bytes, to_bytes, stands_after, stands_first}
+use Rattle.trans_words.proofs.Matching.{all_printable}
 use Rattle.trans_words.proofs.Splitting as l
 use Rattle.trans_words.proofs.Splitting.{in_word}
 use Rattle.trans_words.proofs.Letters.{HasWord}
@@ -251,6 +252,7 @@ module _ (p : Program) (db : Database) (limits : KeepsLimits db) (has : HasReade
   stands = record {
     ready = still_ready;
     has_noun = record {
+      printable = all_printable noun (l.noun_typed line typed.lower);
       at = 2 + later;
       at_is = refl;
       size_is = refl;

@@ -1,18 +1,14 @@
--- Numbers of the light, and what a turn of it leaves as it was.
-use Rattle.std.proofs.Common.{◌≡◌, ◌∙◌, arith, ℕ, zero, suc, ◌<◌, ℤ, pos, negsuc, ◌+ℤ◌, ◌-ℤ◌, ◌≤ℤ◌, nat_eq, not, Bool, true, false, cond, if◌then◌else◌, List, [], ◌∷◌, length, find, slice_index, codes, Some, None, refl, sym, ap}
+-- Numbers of the light, and the item of a place.
+use Rattle.std.proofs.Common.{◌≡◌, ◌∙◌, arith, ℕ, zero, suc, ◌<◌, ℤ, pos, negsuc, ◌+ℤ◌, ◌-ℤ◌, ◌≤ℤ◌, nat_eq, not, Bool, true, false, cond, List, [], ◌∷◌, length, find, slice_index, Some, None, refl, sym, ap}
 use Rattle.std.specs.Int as i
 use Rattle.std.specs.Ordering.{int_eq}
 use Rattle.std.proofs.lemmas.Int.{ints, int_wrap_fits}
 use Rattle.inform_tree.specs.declared.widths.Width.{Width}
 use Rattle.inform_tree.specs.declared.widths.Width.TheVariants.{W16, W32}
 use Rattle.inform_meaning.specs.Words.{word_sum}
-use Rattle.inform_logic.specs.Stages.{Stage, with_global, with_array, said}
 use Rattle.scott_types.specs.Database.{Database}
 use Rattle.trans_rows.specs.declared.places.Place.TheVariants.{Carry, Treasures, Light, Home}
 use Rattle.trans_rows.specs.Wide.{Placed, is_word_of, placed_actions, is_too_wide, wide_at}
-use Rattle.trans_rows.specs.Standing.{HasTables, CanWork, HasNoun}
-use Rattle.trans_rows.specs.Views.{shown_globals, shown_arrays}
-use Rattle.trans_rows.specs.Programs.{IsOther}
 
 -- ---- the light of the header is a word
 
@@ -89,82 +85,3 @@ pub is_item : (xs : List ℕ) (i : ℕ) → nat_eq (slice_index xs i) 0 ≡ fals
 is_item [] i h = cc
 is_item (x ∷ xs) zero h = omega arith
 is_item (x ∷ xs) (suc i) h = omega (arith, is_item xs i h)
-
--- ---- what a turn of the light leaves as it was
-
-pub record Kept (w w' : Stage) : Type 0 where
-  pub tables : (db : Database) → HasTables db w → HasTables db w'
-  pub working : CanWork w → CanWork w'
-  pub noun : (noun : List ℕ) → HasNoun noun w → HasNoun noun w'
-  pub lines_stay : w'.lines ≡ w.lines
-  pub draws_stay : w'.draws ≡ w.draws
-  pub globals_stay : (name : List ℕ) → IsOther name shown_globals
-      → w'.globals name ≡ w.globals name
-  pub arrays_stay : (name : List ℕ) → IsOther name shown_arrays → w'.arrays name ≡ w.arrays name
-
-pub kept_then : {w w1 w2 : Stage} → Kept w w1 → Kept w1 w2 → Kept w w2
-kept_then h k = record {
-  tables = λ db t. k.tables db (h.tables db t);
-  working = λ c. k.working (h.working c);
-  noun = λ noun n. k.noun noun (h.noun noun n);
-  lines_stay = k.lines_stay ∙ h.lines_stay;
-  draws_stay = k.draws_stay ∙ h.draws_stay;
-  globals_stay = λ name other. k.globals_stay name other ∙ h.globals_stay name other;
-  arrays_stay = λ name other. k.arrays_stay name other ∙ h.arrays_stay name other;
-}
-
-pub kept : (w : Stage) → Kept w w
-kept w = record {
-  tables = λ db t. t;
-  working = λ c. c;
-  noun = λ noun n. n;
-  lines_stay = refl;
-  draws_stay = refl;
-  globals_stay = λ name other. refl;
-  arrays_stay = λ name other. refl;
-}
-
-pub kept_said : (bytes : List ℕ) (w : Stage) → Kept w (said bytes w)
-kept_said bytes w = record {
-  tables = λ db t. t;
-  working = λ c. c;
-  noun = λ noun n. n;
-  lines_stay = refl;
-  draws_stay = refl;
-  globals_stay = λ name other. refl;
-  arrays_stay = λ name other. refl;
-}
-
-pub kept_light : (z : ℤ) (w : Stage) → Kept w (with_global (codes "light") z w)
-kept_light z w = record {
-  tables = λ db t. t;
-  working = λ c. c;
-  noun = λ noun n. n;
-  lines_stay = refl;
-  draws_stay = refl;
-  globals_stay = λ name other.
-      ap (λ (b : Bool). if b then Some z else w.globals name) other.1.1.1.0;
-  arrays_stay = λ name other. refl;
-}
-
-pub kept_flag : (zs : List ℤ) (w : Stage) → Kept w (with_array (codes "flag") zs w)
-kept_flag zs w = record {
-  tables = λ db t. t;
-  working = λ c. c;
-  noun = λ noun n. n;
-  lines_stay = refl;
-  draws_stay = refl;
-  globals_stay = λ name other. refl;
-  arrays_stay = λ name other. ap (λ (b : Bool). if b then Some zs else w.arrays name) other.1.0;
-}
-
-pub kept_item : (zs : List ℤ) (w : Stage) → Kept w (with_array (codes "item") zs w)
-kept_item zs w = record {
-  tables = λ db t. t;
-  working = λ c. c;
-  noun = λ noun n. n;
-  lines_stay = refl;
-  draws_stay = refl;
-  globals_stay = λ name other. refl;
-  arrays_stay = λ name other. ap (λ (b : Bool). if b then Some zs else w.arrays name) other.0;
-}

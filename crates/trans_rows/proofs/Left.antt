@@ -1,18 +1,11 @@
--- What a part of a command leaves of the stage, and the parts of a command one after the other.
-use Rattle.std.proofs.Common.{◌≡◌, ◌∙◌, arith, ℕ, suc, ◌-◌, ◌≤◌, List, [], ◌++◌, refl, sym, ap, subst, append_assoc, append-nil}
+-- What a part of a routine leaves of the stage, and parts one after the other.
+use Rattle.std.proofs.Common.{◌∙◌, ℕ, List, [], ◌++◌, refl, sym, ap, append_assoc, append-nil}
 use Rattle.adv_io.specs.Steps.{Step, said_steps}
 use Rattle.inform_logic.specs.Stages.{Stage, with_past, said}
 use Rattle.scott_types.specs.declared.states.State.{State}
 use Rattle.scott_types.specs.Database.{Database}
 use Rattle.trans_rows.specs.Standing.{StandsFor}
 use Rattle.trans_rows.specs.Calls.{StageLeft}
-
--- a number of calls from which one was taken
-pub one_less : (P : ℕ → Type 0) (most d : ℕ) → suc most ≤ d → ((k : ℕ) → most ≤ k → P (suc k))
-    → P d
-one_less P most d h by = subst P is (by (d - 1) (omega (arith, h))) where
-  is : suc (d - 1) ≡ d
-  is = omega (arith, h)
 
 -- what a stage stands for doesn't depend on what happened before it
 pub stands_after : {db : Database} {s : State} {typed : List ℕ} {w : Stage} (past : List Step)

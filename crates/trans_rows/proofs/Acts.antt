@@ -22,7 +22,7 @@ use Rattle.scott_types.specs.declared.states.State.{State}
 use Rattle.scott_types.specs.Database.{Database}
 use Rattle.trans_rows.specs.Views.{Shows}
 use Rattle.trans_rows.specs.Calls.{StageLeft, CallLeaves, CallEndsGame}
-use Rattle.trans_commands.proofs.Left.{left_then}
+use Rattle.trans_rows.proofs.Left.{left_then}
 
 -- a call returns, with some value
 pub record CallReturns (db : Database) (p : Program) (d : ℕ) (name : List ℕ) (values : List ℤ)
