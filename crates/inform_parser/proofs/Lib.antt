@@ -1,6 +1,7 @@
 pub mod Glances
 pub mod Steps
 pub mod Taking
+pub mod Passing
 pub mod SeenKinds
 pub mod Loops
 pub mod ValueSteps

@@ -45,14 +45,13 @@ impl<'a> Cursor<'a> {
         ensures taken { OnOk result (length self.new.rest < length self.old.rest) }
     {
         if self.at(Symbol::Semicolon) {
-            self.expect(Symbol::Semicolon)?;
+            self.pass(Symbol::Semicolon);
             return Ok(Stmt::Empty);
         }
         if self.at(Symbol::LeftBrace) {
             self.expect(Symbol::LeftBrace)?;
             let body = self.statements(alloc, BODY_ROOM)?;
-            self.expect(Symbol::RightBrace)?;
-            return Ok(Stmt::Block(body));
+            return self.statement_to(Symbol::RightBrace, Stmt::Block(body));
         }
         if self.at_name() {
             let name = self.name(alloc)?;
@@ -75,7 +74,7 @@ impl<'a> Cursor<'a> {
             return self.for_after(alloc);
         }
         if self.at_word(Keyword::Switch) {
-            self.expect_word(Keyword::Switch)?;
+            self.pass_word(Keyword::Switch);
             return self.switch_after(alloc);
         }
         self.simple_statement(alloc)
@@ -124,8 +123,7 @@ impl<'a> Cursor<'a> {
         if self.at(Symbol::LeftBrace) {
             self.expect(Symbol::LeftBrace)?;
             let body = self.statements(alloc, BODY_ROOM)?;
-            self.expect(Symbol::RightBrace)?;
-            return Ok(body);
+            return self.statements_to(Symbol::RightBrace, body);
         }
         self.single_body(alloc)
     }
@@ -140,7 +138,7 @@ impl<'a> Cursor<'a> {
         ensures ahead { length self.new.rest ≤ length self.old.rest }
     {
         if self.at_word(Keyword::Else) {
-            self.expect_word(Keyword::Else)?;
+            self.pass_word(Keyword::Else);
             let other = self.body(alloc)?;
             self.shut();
             return Ok(Stmt::If(test.into_condition(), body, other));
@@ -309,14 +307,13 @@ impl<'a> Cursor<'a> {
         ensures ahead { length self.new.rest ≤ length self.old.rest }
     {
         if self.at_word(Keyword::Default) {
-            self.expect_word(Keyword::Default)?;
+            self.pass_word(Keyword::Default);
             self.expect(Symbol::Colon)?;
             let body = self.statements(alloc, BODY_ROOM)?;
-            self.expect(Symbol::RightBrace)?;
-            return Ok(Stmt::Switch(value, cases, Some(body)));
+            let made = Stmt::Switch(value, cases, Some(body));
+            return self.statement_to(Symbol::RightBrace, made);
         }
-        self.expect(Symbol::RightBrace)?;
-        Ok(Stmt::Switch(value, cases, None))
+        self.statement_to(Symbol::RightBrace, Stmt::Switch(value, cases, None))
     }
 
     // What stands in the braces of a `switch`: the choices of a case, or a statement.

@@ -23,7 +23,7 @@ impl<'a> Cursor<'a> {
         ensures taken { OnOk result (length self.new.rest < length self.old.rest) }
     {
         if self.at(Symbol::Assign) {
-            self.expect(Symbol::Assign)?;
+            self.pass(Symbol::Assign);
             let value = self.value(alloc)?;
             return Ok(Change::Set(name, value));
         }
@@ -35,7 +35,7 @@ impl<'a> Cursor<'a> {
             return Ok(Change::SetEntry(name, words, index, value));
         }
         if self.at(Symbol::Increment) {
-            self.expect(Symbol::Increment)?;
+            self.pass(Symbol::Increment);
             return Ok(Change::Inc(name));
         }
         self.expect(Symbol::Decrement)?;
@@ -77,11 +77,9 @@ impl<'a> Cursor<'a> {
         if self.at(Symbol::LeftRound) {
             self.expect(Symbol::LeftRound)?;
             let arguments = self.arguments(alloc)?;
-            self.expect(Symbol::Semicolon)?;
-            return Ok(Stmt::Call(name, arguments));
+            return self.statement_to(Symbol::Semicolon, Stmt::Call(name, arguments));
         }
         let change = self.change_after(alloc, name)?;
-        self.expect(Symbol::Semicolon)?;
-        Ok(Stmt::Change(change))
+        self.statement_to(Symbol::Semicolon, Stmt::Change(change))
     }
 }

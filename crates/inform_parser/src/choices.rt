@@ -21,7 +21,7 @@ impl<'a> Cursor<'a> {
         ensures ahead { length self.new.rest ≤ length self.old.rest }
     {
         if self.at_word(Keyword::To) {
-            self.expect_word(Keyword::To)?;
+            self.pass_word(Keyword::To);
             let last = self.constant(alloc)?;
             return Ok((first, Some(last)));
         }

@@ -104,7 +104,7 @@ impl<'a> Cursor<'a> {
         ensures taken { OnOk result (length self.new.rest < length self.old.rest) }
     {
         if self.at(Symbol::Not) {
-            self.expect(Symbol::Not)?;
+            self.pass(Symbol::Not);
             self.expect(Symbol::LeftRound)?;
             let inside = self.guard(alloc)?;
             self.expect(Symbol::RightRound)?;

@@ -1,11 +1,11 @@
 //! The tokens that are left, and how many brackets and statements are open.
-ghost use Rattle.std.specs.Prelude.{◌≡◌, ◌≤◌, ◌<◌, OnOk, IfOk, MatchOption, length, false};
+ghost use Rattle.std.specs.Prelude.{◌≡◌, ◌≤◌, ◌<◌, OnOk, Ok, IfOk, MatchOption, length, drop, true, false};
 ghost use Rattle.inform_lexemes.specs.Lexemes.{Word, Name as NameLexeme, Number, Character, Quoted, Sign, is_sign, is_word, is_name, is_number, is_character, is_quoted};
 ghost use Rattle.inform_lexer.specs.Spans.{lexemes};
-ghost use Rattle.inform_grammar.specs.Lexemes.{heads, is_arrow, is_factor_sign, is_term_sign, is_relation, relation_in};
+ghost use Rattle.inform_grammar.specs.Lexemes.{heads, is_arrow, is_factor_sign, is_term_sign, is_relation, relation_in, is_opener, is_closer};
 ghost use Rattle.inform_grammar.specs.Reading.{spot};
 ghost use Rattle.inform_parser.specs.Glances.{first_glance, opens, closes, opened_within};
-ghost use Rattle.inform_parser.specs.Reading.{Gives, StandsNext, shut_spot};
+ghost use Rattle.inform_parser.specs.Reading.{Gives, StandsNext, shut_spot, read};
 ghost use Rattle.inform_parser.specs.Nexts.{next_of, any_next, arrow_next, relation_next, factor_next, term_next, relation_lexeme};
 
 use crate::stops::Stop;
@@ -267,6 +267,41 @@ impl<'a> Cursor<'a> {
         Ok(())
     }
 
+    // Takes what stands next, where it opens nothing and closes nothing.
+    #[inline(always)]
+    fn skip(&mut self)
+        requires { 1 ≤ length self.old.rest }
+        ensures { self.new ≡ spot self.old.opened (drop 1 self.old.rest) }
+    {
+        self.rest = &self.rest[1..];
+        see(&mut self.seen, self.bytes, self.rest);
+    }
+
+    /// Takes this symbol, which stands next, and opens nothing and closes nothing.
+    #[tactic(auto, using(crate::proofs::Passing::passed))]
+    #[inline(always)]
+    pub fn pass(&mut self, symbol: Symbol)
+        requires next { heads (is_sign symbol) self.old.rest ≡ true }
+        requires opens { is_opener (Sign symbol) ≡ false }
+        requires closes { is_closer (Sign symbol) ≡ false }
+        ensures gives { read (next_of (is_sign symbol)) self.old ≡ Ok (Sign symbol, self.new) }
+        ensures taken { length self.new.rest < length self.old.rest }
+    {
+        self.skip();
+    }
+
+    /// Takes this word of the grammar, which stands next and opens nothing.
+    #[tactic(auto, using(crate::proofs::Passing::passed))]
+    #[inline(always)]
+    pub fn pass_word(&mut self, keyword: Keyword)
+        requires next { heads (is_word keyword) self.old.rest ≡ true }
+        requires opens { is_opener (Word keyword) ≡ false }
+        ensures gives { read (next_of (is_word keyword)) self.old ≡ Ok (Word keyword, self.new) }
+        ensures taken { length self.new.rest < length self.old.rest }
+    {
+        self.skip();
+    }
+
     /// Takes this symbol, which must stand next.
     #[tactic(auto, using(crate::proofs::Taking::sign_taken, crate::proofs::Taking::sign_stops, crate::proofs::Taking::fails))]
     #[inline(always)]
@@ -327,6 +362,22 @@ impl<'a> Cursor<'a> {
         Ok(number)
     }
 
+    /// Takes the number that stands next.
+    #[tactic(auto, using(crate::proofs::Passing::passed_kinds))]
+    #[inline(always)]
+    pub fn pass_number(&mut self) -> u32
+        requires { heads is_number self.old.rest ≡ true }
+        ensures gives { read (next_of is_number) self.old ≡ Ok (Number result, self.new) }
+        ensures taken { length self.new.rest < length self.old.rest }
+    {
+        let number = match self.seen() {
+            Some(Glance::Number(number)) => number,
+            _ => 0,
+        };
+        self.skip();
+        number
+    }
+
     // The character that stands next.
     #[tactic(auto, using(crate::proofs::SeenKinds::characters))]
     fn next_character(&self) -> Option<u8>
@@ -351,6 +402,22 @@ impl<'a> Cursor<'a> {
         };
         self.advance()?;
         Ok(byte)
+    }
+
+    /// Takes the character that stands next.
+    #[tactic(auto, using(crate::proofs::Passing::passed_kinds))]
+    #[inline(always)]
+    pub fn pass_character(&mut self) -> u8
+        requires { heads is_character self.old.rest ≡ true }
+        ensures gives { read (next_of is_character) self.old ≡ Ok (Character result, self.new) }
+        ensures taken { length self.new.rest < length self.old.rest }
+    {
+        let byte = match self.seen() {
+            Some(Glance::Character(byte)) => byte,
+            _ => 0,
+        };
+        self.skip();
+        byte
     }
 
     // The name that stands next.
@@ -445,7 +512,7 @@ impl<'a> Cursor<'a> {
         ensures taken { OnOk result (length self.new.rest < length self.old.rest) }
     {
         if self.at(Symbol::WordArrow) {
-            self.expect(Symbol::WordArrow)?;
+            self.pass(Symbol::WordArrow);
             return Ok(true);
         }
         self.expect(Symbol::ByteArrow)?;
@@ -461,11 +528,11 @@ impl<'a> Cursor<'a> {
         ensures taken { OnOk result (length self.new.rest < length self.old.rest) }
     {
         if self.at(Symbol::Times) {
-            self.expect(Symbol::Times)?;
+            self.pass(Symbol::Times);
             return Ok(ProdOp::Mul);
         }
         if self.at(Symbol::Divide) {
-            self.expect(Symbol::Divide)?;
+            self.pass(Symbol::Divide);
             return Ok(ProdOp::Div);
         }
         self.expect(Symbol::Remainder)?;
@@ -481,7 +548,7 @@ impl<'a> Cursor<'a> {
         ensures taken { OnOk result (length self.new.rest < length self.old.rest) }
     {
         if self.at(Symbol::Plus) {
-            self.expect(Symbol::Plus)?;
+            self.pass(Symbol::Plus);
             return Ok(SumOp::Add);
         }
         self.expect(Symbol::Minus)?;

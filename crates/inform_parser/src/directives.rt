@@ -67,8 +67,7 @@ impl<'a> Cursor<'a> {
         let name = self.name(alloc)?;
         self.expect(Symbol::Assign)?;
         let value = self.constant(alloc)?;
-        self.expect(Symbol::Semicolon)?;
-        Ok(Directive::Constant(name, value))
+        self.directive_to(Symbol::Semicolon, Directive::Constant(name, value))
     }
 
     // What follows `global`.
@@ -80,13 +79,11 @@ impl<'a> Cursor<'a> {
     {
         let name = self.name(alloc)?;
         if self.at(Symbol::Assign) {
-            self.expect(Symbol::Assign)?;
+            self.pass(Symbol::Assign);
             let value = self.constant(alloc)?;
-            self.expect(Symbol::Semicolon)?;
-            return Ok(Directive::Global(name, Some(value)));
+            return self.directive_to(Symbol::Semicolon, Directive::Global(name, Some(value)));
         }
-        self.expect(Symbol::Semicolon)?;
-        Ok(Directive::Global(name, None))
+        self.directive_to(Symbol::Semicolon, Directive::Global(name, None))
     }
 
     // What follows `array`.
@@ -100,8 +97,7 @@ impl<'a> Cursor<'a> {
         let words = self.arrow()?;
         let first = self.entry(alloc)?;
         let entries = self.entries(alloc, first)?;
-        self.expect(Symbol::Semicolon)?;
-        Ok(Directive::Array(name, words, entries))
+        self.directive_to(Symbol::Semicolon, Directive::Array(name, words, entries))
     }
 
     // What follows the opening bracket of a routine.
@@ -116,8 +112,8 @@ impl<'a> Cursor<'a> {
         self.expect(Symbol::Semicolon)?;
         let body = self.statements(alloc, ROUTINE_ROOM)?;
         self.expect(Symbol::RightSquare)?;
-        self.expect(Symbol::Semicolon)?;
-        Ok(Directive::Routine(Routine { name, locals, body }))
+        let routine = Routine { name, locals, body };
+        self.directive_to(Symbol::Semicolon, Directive::Routine(routine))
     }
 
     // A directive.
@@ -128,15 +124,15 @@ impl<'a> Cursor<'a> {
         ensures taken { OnOk result (length self.new.rest < length self.old.rest) }
     {
         if self.at_word(Keyword::Constant) {
-            self.expect_word(Keyword::Constant)?;
+            self.pass_word(Keyword::Constant);
             return self.constant_after(alloc);
         }
         if self.at_word(Keyword::Global) {
-            self.expect_word(Keyword::Global)?;
+            self.pass_word(Keyword::Global);
             return self.global_after(alloc);
         }
         if self.at_word(Keyword::Array) {
-            self.expect_word(Keyword::Array)?;
+            self.pass_word(Keyword::Array);
             return self.array_after(alloc);
         }
         self.expect(Symbol::LeftSquare)?;

@@ -37,7 +37,7 @@ impl<'a> Cursor<'a> {
         ensures taken { OnOk result (length self.new.rest < length self.old.rest) }
     {
         if self.at(Symbol::Colon) {
-            self.expect(Symbol::Colon)?;
+            self.pass(Symbol::Colon);
             return Ok(None);
         }
         let guard = self.guard(alloc)?;

@@ -8,6 +8,7 @@ pub mod faults;
 // The tokens that are left.
 mod begins;
 mod cursor;
+mod ends;
 mod stops;
 
 // The rules of the grammar, from constants up.

@@ -24,7 +24,7 @@ impl<'a> Cursor<'a> {
         ensures taken { OnOk result (length self.new.rest < length self.old.rest) }
     {
         if self.at_word(Keyword::Char) {
-            self.expect_word(Keyword::Char)?;
+            self.pass_word(Keyword::Char);
             self.expect(Symbol::RightRound)?;
             let value = self.value(alloc)?;
             return Ok(Item::Char(value));
@@ -90,7 +90,6 @@ impl<'a> Cursor<'a> {
     {
         let first = self.item(alloc)?;
         let items = self.items(alloc, first)?;
-        self.expect(Symbol::Semicolon)?;
-        Ok(Stmt::Print(items))
+        self.statement_to(Symbol::Semicolon, Stmt::Print(items))
     }
 }

@@ -21,12 +21,11 @@ impl<'a> Cursor<'a> {
         ensures taken { OnOk result (length self.new.rest < length self.old.rest) }
     {
         if self.at(Symbol::Semicolon) {
-            self.expect(Symbol::Semicolon)?;
+            self.pass(Symbol::Semicolon);
             return Ok(Stmt::Return(None));
         }
         let value = self.value(alloc)?;
-        self.expect(Symbol::Semicolon)?;
-        Ok(Stmt::Return(Some(value)))
+        self.statement_to(Symbol::Semicolon, Stmt::Return(Some(value)))
     }
 
     // What follows `read`.
@@ -39,8 +38,7 @@ impl<'a> Cursor<'a> {
     {
         let line = self.name(alloc)?;
         let words = self.name(alloc)?;
-        self.expect(Symbol::Semicolon)?;
-        Ok(Stmt::Read(line, words))
+        self.statement_to(Symbol::Semicolon, Stmt::Read(line, words))
     }
 
     // A statement that is nothing but a word.
@@ -52,33 +50,21 @@ impl<'a> Cursor<'a> {
         ensures taken { OnOk result (length self.new.rest < length self.old.rest) }
     {
         if self.at_word(Keyword::Break) {
-            self.expect_word(Keyword::Break)?;
-            self.expect(Symbol::Semicolon)?;
-            return Ok(Stmt::Break);
+            return self.alone(Keyword::Break, Stmt::Break);
         }
         if self.at_word(Keyword::Continue) {
-            self.expect_word(Keyword::Continue)?;
-            self.expect(Symbol::Semicolon)?;
-            return Ok(Stmt::Continue);
+            return self.alone(Keyword::Continue, Stmt::Continue);
         }
         if self.at_word(Keyword::Quit) {
-            self.expect_word(Keyword::Quit)?;
-            self.expect(Symbol::Semicolon)?;
-            return Ok(Stmt::Quit);
+            return self.alone(Keyword::Quit, Stmt::Quit);
         }
         if self.at_word(Keyword::Rtrue) {
-            self.expect_word(Keyword::Rtrue)?;
-            self.expect(Symbol::Semicolon)?;
-            return Ok(Stmt::Rtrue);
+            return self.alone(Keyword::Rtrue, Stmt::Rtrue);
         }
         if self.at_word(Keyword::Rfalse) {
-            self.expect_word(Keyword::Rfalse)?;
-            self.expect(Symbol::Semicolon)?;
-            return Ok(Stmt::Rfalse);
+            return self.alone(Keyword::Rfalse, Stmt::Rfalse);
         }
-        self.expect_word(Keyword::NewLine)?;
-        self.expect(Symbol::Semicolon)?;
-        Ok(Stmt::NewLine)
+        self.alone(Keyword::NewLine, Stmt::NewLine)
     }
 
     /// A statement that has no body and begins with a word.
@@ -90,15 +76,15 @@ impl<'a> Cursor<'a> {
         ensures taken { OnOk result (length self.new.rest < length self.old.rest) }
     {
         if self.at_word(Keyword::Print) {
-            self.expect_word(Keyword::Print)?;
+            self.pass_word(Keyword::Print);
             return self.print_after(alloc);
         }
         if self.at_word(Keyword::Return) {
-            self.expect_word(Keyword::Return)?;
+            self.pass_word(Keyword::Return);
             return self.return_after(alloc);
         }
         if self.at_word(Keyword::Read) {
-            self.expect_word(Keyword::Read)?;
+            self.pass_word(Keyword::Read);
             return self.read_after(alloc);
         }
         self.plain_statement()

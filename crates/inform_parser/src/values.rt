@@ -53,10 +53,10 @@ impl<'a> Cursor<'a> {
         ensures taken { OnOk result (length self.new.rest < length self.old.rest) }
     {
         if self.at_number() {
-            return Ok(Const::Number(self.number()?));
+            return Ok(Const::Number(self.pass_number()));
         }
         if self.at_character() {
-            return Ok(Const::Char(self.character()?));
+            return Ok(Const::Char(self.pass_character()));
         }
         if self.at_name() {
             return Ok(Const::Name(self.name(alloc)?));
@@ -73,10 +73,10 @@ impl<'a> Cursor<'a> {
         ensures taken { OnOk result (length self.new.rest < length self.old.rest) }
     {
         if self.at_number() {
-            return Ok(Const::Number(self.number()?));
+            return Ok(Const::Number(self.pass_number()));
         }
         if self.at_character() {
-            return Ok(Const::Char(self.character()?));
+            return Ok(Const::Char(self.pass_character()));
         }
         if self.at_name() {
             return Ok(Const::Name(self.name(alloc)?));
@@ -102,8 +102,7 @@ impl<'a> Cursor<'a> {
         }
         let first = self.value(alloc)?;
         let arguments = self.further_arguments(alloc, first)?;
-        self.expect(Symbol::RightRound)?;
-        Ok(arguments)
+        self.expressions_to(Symbol::RightRound, arguments)
     }
 
     // The further arguments of a call, after the first one.
@@ -177,10 +176,10 @@ impl<'a> Cursor<'a> {
         ensures taken { OnOk result (length self.new.rest < length self.old.rest) }
     {
         if self.at_number() {
-            return Ok(Expr::Number(self.number()?));
+            return Ok(Expr::Number(self.pass_number()));
         }
         if self.at_character() {
-            return Ok(Expr::Char(self.character()?));
+            return Ok(Expr::Char(self.pass_character()));
         }
         if self.at_name() {
             let name = self.name(alloc)?;
@@ -191,8 +190,7 @@ impl<'a> Cursor<'a> {
         }
         self.expect(Symbol::LeftRound)?;
         let value = self.value(alloc)?;
-        self.expect(Symbol::RightRound)?;
-        Ok(value)
+        self.expression_to(Symbol::RightRound, value)
     }
 
     // A draw, with its word.
@@ -224,7 +222,7 @@ impl<'a> Cursor<'a> {
             return self.entry_after(alloc, name);
         }
         if self.at(Symbol::Minus) {
-            self.expect(Symbol::Minus)?;
+            self.pass(Symbol::Minus);
             let operand = self.primary(alloc)?;
             return Ok(Expr::Neg(Box::new(alloc, operand)?));
         }

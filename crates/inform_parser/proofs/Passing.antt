@@ -1,0 +1,90 @@
+-- A symbol or a word that stands next, and opens nothing and closes nothing.
+use Rattle.std.proofs.Common.{◌≡◌, ℕ, ◌≤◌, Bool, true, false, List, [], ◌∷◌, length, drop, Some, Ok, refl, sym, ap, subst, ◌∙◌, arith}
+use Rattle.inform_lexemes.specs.declared.symbols.Symbol.{Symbol}
+use Rattle.inform_lexemes.specs.declared.keywords.Keyword.{Keyword}
+use Rattle.inform_lexemes.specs.Lexemes.{Lexeme, Word, Number, Character, Sign, is_sign, is_word, is_number, is_character}
+use Rattle.inform_lexemes.proofs.Told.{symbols_told, keywords_told}
+use Rattle.inform_grammar.specs.Lexemes.{heads, is_opener, is_closer}
+use Rattle.inform_grammar.specs.Plan.{done, refuse, next}
+use Rattle.inform_grammar.specs.Reading.{Spot, spot, step, reads, within_limit}
+use Rattle.inform_grammar.proofs.Steps.{done-here}
+use Rattle.inform_lexer.specs.declared.glances.Glance.TheVariants as g
+use Rattle.inform_parser.specs.Glances.{first_glance}
+use Rattle.inform_parser.specs.Reading.{read}
+use Rattle.inform_parser.specs.Nexts.{next_of}
+
+passed_as : (xs : List Lexeme) (n : ℕ) (x : Lexeme) (test : Lexeme → Bool) → test x ≡ true → is_opener x ≡ false → is_closer x ≡ false
+    → read (next_of test) (spot n (x ∷ xs)) ≡ Ok (x, spot n xs)
+unfolding read reads step
+passed_as xs n x test passes opens closes = rw passes (rw opens (rw closes (done-here within_limit xs x n)))
+
+passed_next : (xs : List Lexeme) (n : ℕ) (x : Lexeme) (test : Lexeme → Bool) → ((y : Lexeme) → test y ≡ true → y ≡ x) → heads test xs ≡ true
+    → is_opener x ≡ false → is_closer x ≡ false → read (next_of test) (spot n xs) ≡ Ok (x, spot n (drop 1 xs))
+passed_next [] n x test told e opens closes = absurd (cc)
+passed_next (y ∷ ys) n x test told e opens closes =
+    let same : y ≡ x = told y e in
+    subst (λ (z : Lexeme). read (next_of test) (spot n (z ∷ ys)) ≡ Ok (x, spot n ys)) (sym same)
+    (passed_as ys n x test (subst (λ (z : Lexeme). test z ≡ true) same e) opens closes)
+
+pub sign_passed : (s : Spot) (a : Symbol) → heads (is_sign a) s.rest ≡ true → is_opener (Sign a) ≡ false → is_closer (Sign a) ≡ false
+    → read (next_of (is_sign a)) s ≡ Ok (Sign a, spot s.opened (drop 1 s.rest))
+sign_passed s a e opens closes = passed_next s.rest s.opened (Sign a) (is_sign a) (symbols_told a) e opens closes
+
+pub word_passed : (s : Spot) (a : Keyword) → heads (is_word a) s.rest ≡ true → is_opener (Word a) ≡ false
+    → read (next_of (is_word a)) s ≡ Ok (Word a, spot s.opened (drop 1 s.rest))
+word_passed s a e opens = passed_next s.rest s.opened (Word a) (is_word a) (keywords_told a) e opens refl
+
+-- something stands next
+some_next : (test : Lexeme → Bool) (xs : List Lexeme) → heads test xs ≡ true → 1 ≤ length xs
+some_next test [] e = absurd (cc)
+some_next test (x ∷ xs) e = omega arith
+
+pub sign_there : (xs : List Lexeme) (a : Symbol) → heads (is_sign a) xs ≡ true → 1 ≤ length xs
+sign_there xs a e = some_next (is_sign a) xs e
+
+pub word_there : (xs : List Lexeme) (a : Keyword) → heads (is_word a) xs ≡ true → 1 ≤ length xs
+word_there xs a e = some_next (is_word a) xs e
+
+pub ruleset passed = (sign_passed, word_passed, sign_there, word_there)
+
+-- ---- numbers and characters
+
+number_by : (xs : List Lexeme) (n m : ℕ) → first_glance xs ≡ Some (g.Number m) → read (next_of is_number) (spot n xs) ≡ Ok (Number m, spot n (drop 1 xs))
+number_by (Number x ∷ xs) n m e =
+    let same : x ≡ m = cc in
+    subst (λ (y : ℕ). read (next_of is_number) (spot n (Number x ∷ xs)) ≡ Ok (Number y, spot n xs)) same (passed_as xs n (Number x) is_number refl refl refl)
+number_by _ n m e = absurd (cc)
+
+pub number_passed : (s : Spot) (m : ℕ) → first_glance s.rest ≡ Some (g.Number m) → read (next_of is_number) s ≡ Ok (Number m, spot s.opened (drop 1 s.rest))
+number_passed s m e = number_by s.rest s.opened m e
+
+pub number_there : (xs : List Lexeme) → heads is_number xs ≡ true → 1 ≤ length xs
+number_there xs e = some_next is_number xs e
+
+-- a number is seen where one stands
+pub number_seen : (xs : List Lexeme) → heads is_number xs ≡ true → ((m : ℕ) → first_glance xs ≡ Some (g.Number m) → ⊥) → ⊥
+number_seen [] e h = absurd (cc)
+number_seen (Number x ∷ xs) e h = h x refl
+number_seen (_ ∷ xs) e h = absurd (cc)
+
+character_by : (xs : List Lexeme) (n m : ℕ) → first_glance xs ≡ Some (g.Character m)
+    → read (next_of is_character) (spot n xs) ≡ Ok (Character m, spot n (drop 1 xs))
+character_by (Character x ∷ xs) n m e =
+    let same : x ≡ m = cc in
+    subst (λ (y : ℕ). read (next_of is_character) (spot n (Character x ∷ xs)) ≡ Ok (Character y, spot n xs)) same
+    (passed_as xs n (Character x) is_character refl refl refl)
+character_by _ n m e = absurd (cc)
+
+pub character_passed : (s : Spot) (m : ℕ) → first_glance s.rest ≡ Some (g.Character m)
+    → read (next_of is_character) s ≡ Ok (Character m, spot s.opened (drop 1 s.rest))
+character_passed s m e = character_by s.rest s.opened m e
+
+pub character_there : (xs : List Lexeme) → heads is_character xs ≡ true → 1 ≤ length xs
+character_there xs e = some_next is_character xs e
+
+pub character_seen : (xs : List Lexeme) → heads is_character xs ≡ true → ((m : ℕ) → first_glance xs ≡ Some (g.Character m) → ⊥) → ⊥
+character_seen [] e h = absurd (cc)
+character_seen (Character x ∷ xs) e h = h x refl
+character_seen (_ ∷ xs) e h = absurd (cc)
+
+pub ruleset passed_kinds = (number_passed, number_there, number_seen, character_passed, character_there, character_seen)
