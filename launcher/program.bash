@@ -6,19 +6,29 @@
 # Why the program in program/ isn't started.
 why=
 
-# What is listed and summed of the sources, as they stand now.
-listed=
+# The names of all that a start looks at, how they look, and the sums of the sources, as they stand now.
+looked_at=()
+looks=
 summed=
 
 look_at_sources() {
     read_crates
-    listed=$(listing)
+    mapfile -t looked_at < <(
+        printf '%s\n' crates.txt program/scott program/sources program/toolchain "${names[@]/#/crates/}"
+        cd "$top" && find "${parts[@]}" -type d 2>/dev/null
+        find_sources
+    )
+    looks=$(printf '%s\n' "${looked_at[@]}" | look)
     summed=$(sums)
 }
 
 # Notes in a folder that its program is the one of these sources.
 note() {
-    printf '%s\n' "$listed" 2>/dev/null >"$1/noted.$$" && mv -f "$1/noted.$$" "$1/noted"
+    local quarter=$(((${#looked_at[@]} + 3) / 4)) at
+    for at in 0 1 2 3; do
+        printf '%s\n' "${looked_at[@]:at*quarter:quarter}" >"$1/names.$at" || return
+    done
+    printf '%s\n' "$looks" >"$1/noted.$$" && mv -f "$1/noted.$$" "$1/noted"
 } 2>/dev/null
 
 # Whether a folder has the program of these sources, built here or as program/ has it.

@@ -2,8 +2,9 @@
 # these sources. ../scott and the scripts beside this file read it; `top` is the folder of the checkout.
 
 # Where the program is kept: in this checkout or, where nothing can be written or started there, in a folder of the
-# user's own. Each has the program (scott), the sums of its sources (sources), and what a start noted (noted); where
-# it was built here, there is also what the toolchain says of itself (toolchain).
+# user's own. Each has the program (scott), the sums of its sources (sources), and what a start noted (noted, and what
+# it looked at, names.0 to names.3); where it was built here, there is also what the toolchain says of itself
+# (toolchain).
 build=$top/build
 own=${XDG_CACHE_HOME:-${HOME:-/nonexistent}/.cache}/scott/${top//\//%}
 
@@ -13,17 +14,15 @@ say() {
     printf 'scott: %s\n' "${text//[^[:print:]]/?}" >&2
 }
 
-# The folders of the sources, and then the names, sizes and times of all that a start looks at.
-listing() (
-    cd "$top" || exit
-    echo "${parts[*]}"
-    exec find "${parts[@]}" program crates.txt -type f \
-        \( -name '*.rt' -o -name '*.antt' -o -path 'program/*' -o -path crates.txt \) -printf '%p %s %C@\n' 2>/dev/null
-)
-
-# Whether a folder has the program of these sources, as a start has noted: they are as they were then. Only where
-# one of them has another name, size or time are the sums asked for.
-is_noted() {
-    local parts
-    [ -x "$1/scott" ] && [ -r "$1/noted" ] && read -ra parts <"$1/noted" && listing | cmp -s - "$1/noted"
+# The names, sizes and times of files and folders whose names stand on standard input.
+look() {
+    cd "$top" && exec xargs stat -c '%n %s %.9Z' 2>/dev/null
 }
+
+# Whether a folder has the program of these sources, as a start has noted: they are as they were then, and no other
+# file stands in their folders. Only where one of them has another name, size or time are the sums asked for. A
+# quarter of them is looked at beside the others, since there are some thousands.
+is_noted() {
+    [ -x "$1/scott" ] && [ -s "$1/noted" ] &&
+        cat <(look <"$1/names.0") <(look <"$1/names.1") <(look <"$1/names.2") <(look <"$1/names.3") | cmp -s - "$1/noted"
+} 2>/dev/null
