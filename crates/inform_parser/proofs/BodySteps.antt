@@ -21,7 +21,7 @@ use Rattle.inform_grammar.specs.Reading.{Spot, spot, step, reads, within_limit}
 use Rattle.inform_grammar.proofs.Steps.{starts, one-as-here, many-no, many-yes, look-yes, look-no, done-here}
 use Rattle.inform_parser.specs.Reading.{read}
 use Rattle.inform_parser.specs.Begins.{begins_statement, begins_bare}
-use Rattle.inform_parser.specs.Plans.{change_if_any, plain_statement, simple_statement, guard_in_brackets, test_to_colon, default_read}
+use Rattle.inform_parser.specs.Plans.{change_if_any, plain_statement, simple_statement, guard_in_brackets, until_test, first_change, last_change, test_to_colon, switched_value, first_choices, named_part, bare_part, default_read}
 use Rattle.inform_parser.proofs.TreesMade.{no_cases}
 
 -- ---- heads
@@ -115,23 +115,27 @@ pub while_after_as : (z : Spot) → read while_after z ≡ read (guard_in_bracke
 unfolding while_after guard_in_brackets
 while_after_as z = refl
 
-pub do_after_as : (z : Spot) → read do_after z ≡ read (one r.Body (λ xs. take (is_word w.Until) (guard_in_brackets >>= λ x. take (is_sign Semicolon) (shut (done (s.Do (s.statements xs) (condition x))))))) z
-unfolding do_after guard_in_brackets
+pub do_after_as : (z : Spot) → read do_after z ≡ read (one r.Body (λ xs. until_test >>= λ x. shut (done (s.Do (s.statements xs) (condition x))))) z
+unfolding do_after guard_in_brackets until_test
 do_after_as z = refl
 
-pub for_after_as : (s : Spot) → read for_after s ≡ read (take (is_sign LeftRound) (change_if_any >>= λ first. take (is_sign Colon) (for_test first))) s
-unfolding for_after change_if_any
+pub for_after_as : (s : Spot) → read for_after s ≡ read (first_change >>= λ first. for_test first) s
+unfolding for_after change_if_any first_change
 for_after_as s = refl
 
 pub for_test_as : (first : Option Assignment) (s : Spot) → read (for_test first) s ≡ read (test_to_colon >>= λ x. for_last first x) s
 unfolding for_test test_to_colon
 for_test_as first s = refl
 
-pub for_last_as : (first : Option Assignment) (x : Option Guard) (s : Spot) → read (for_last first x) s ≡ read (change_if_any >>= λ last. take (is_sign RightRound) (for_body first x last)) s
-unfolding for_last change_if_any
+pub for_last_as : (first : Option Assignment) (x : Option Guard) (s : Spot) → read (for_last first x) s ≡ read (last_change >>= λ last. for_body first x last) s
+unfolding for_last change_if_any last_change
 for_last_as first x s = refl
 
 -- ---- `switch`
+
+pub switch_as : (s : Spot) → read switch s ≡ read (switched_value >>= λ x. cases_after x) s
+unfolding switch switched_value
+switch_as s = refl
 
 pub default_after_as : (x : Expression) (cases : List (List Choice × List Statement)) (s : Spot) → read (default_after x cases) s ≡ read (default_read x (cases_tree cases)) s
 unfolding default_after default_read
@@ -139,17 +143,17 @@ default_after_as x cases s = refl
 
 module _ (x : Expression) where
   abbrev pub cases_plan : Plan Statement
-  cases_plan = one r.Choice (λ first. choices_after first >>= λ xs. many r.Part [] (λ ps. default_after x (cases_of xs ps)))
+  cases_plan = first_choices >>= λ xs. many r.Part [] (λ ps. default_after x (cases_of xs ps))
 
   bare_by : (xs : List Lexeme) (n : ℕ) → heads begins_bare xs ≡ true → read (cases_after x) (spot n xs) ≡ read cases_plan (spot n xs)
-  unfolding read reads step rule cases_after choice constant
+  unfolding read reads step rule cases_after first_choices choice constant
   bare_by (Number m ∷ xs) n e = refl
   bare_by (Character byte ∷ xs) n e = refl
   bare_by (Sign Minus ∷ xs) n e = refl
   bare_by _ n e = absurd (cc)
 
   name_by : (xs : List Lexeme) (n : ℕ) → heads is_name xs ≡ true → read (cases_after x) (spot n xs) ≡ read cases_plan (spot n xs)
-  unfolding read reads step rule cases_after choice constant
+  unfolding read reads step rule cases_after first_choices choice constant
   name_by (Name name ∷ xs) n e = refl
   name_by _ n e = absurd (cc)
 

@@ -5,14 +5,15 @@ use Rattle.inform_tree.specs.Statements as s
 use Rattle.inform_tree.specs.Statements.{Statement, Assignment, PrintItem, Cases}
 use Rattle.inform_tree.specs.Values as v
 use Rattle.inform_tree.specs.Values.{Expression}
-use Rattle.inform_lexemes.specs.declared.symbols.Symbol.TheVariants.{Semicolon, Colon, LeftRound, RightRound, RightBrace}
+use Rattle.inform_lexemes.specs.declared.symbols.Symbol.TheVariants.{Semicolon, Colon, LeftRound, RightRound, LeftBrace, RightBrace}
 use Rattle.inform_lexemes.specs.declared.keywords.Keyword.TheVariants as w
-use Rattle.inform_lexemes.specs.Lexemes.{Lexeme, is_sign, is_word}
+use Rattle.inform_lexemes.specs.Lexemes.{Lexeme, is_sign, is_word, is_name}
 use Rattle.inform_grammar.specs.Rules as r
-use Rattle.inform_grammar.specs.Lexemes.{heads, connective, other_connective}
+use Rattle.inform_grammar.specs.Lexemes.{heads, name_in, connective, other_connective}
 use Rattle.inform_grammar.specs.Trees.{Guard, Join}
 use Rattle.inform_grammar.specs.ConditionRules.{value_after}
-use Rattle.inform_grammar.specs.StatementRules.{statements_to_brace, in_brackets, return_after, print_after, read_after}
+use Rattle.inform_grammar.specs.Rules.{SwitchPart}
+use Rattle.inform_grammar.specs.StatementRules.{statement_after, choices_after, head_after, part_after, statements_to_brace, in_brackets, return_after, print_after, read_after}
 use Rattle.inform_grammar.specs.Plan.{Plan, done, refuse, next, maybe, chain, ◌>>=◌, take, one, optional}
 
 -- a draw, with its word
@@ -75,9 +76,44 @@ simple_statement =
 unfoldable pub guard_in_brackets : Plan Guard
 guard_in_brackets = in_brackets done
 
+-- the test of a `do`, with its word and its semicolon
+unfoldable pub until_test : Plan Guard
+until_test =
+    take (is_word w.Until) (guard_in_brackets >>= λ x. take (is_sign Semicolon) (done x))
+
+-- the first change in the head of a `for`, if there is one, between its bracket and its colon
+unfoldable pub first_change : Plan (Option Assignment)
+first_change =
+    take (is_sign LeftRound) (change_if_any >>= λ first. take (is_sign Colon) (done first))
+
+-- the last change, if there is one, and the closing bracket
+unfoldable pub last_change : Plan (Option Assignment)
+last_change = change_if_any >>= λ last. take (is_sign RightRound) (done last)
+
 -- the test in the head of a `for`, if there is one, and its colon
 unfoldable pub test_to_colon : Plan (Option Guard)
 test_to_colon = optional r.Condition (λ x. take (is_sign Colon) (done x))
+
+-- the value of a `switch` in its brackets, and the opening brace
+unfoldable pub switched_value : Plan Expression
+switched_value =
+    take (is_sign LeftRound)
+    (one r.Value (λ x. take (is_sign RightRound) (take (is_sign LeftBrace) (done x))))
+
+-- the choices of the first case, and their colon
+unfoldable pub first_choices : Plan (List s.Choice)
+first_choices = one r.Choice choices_after
+
+-- a statement that begins with a name
+abbrev pub named_statement : Plan Statement
+named_statement = next is_name (λ x. statement_after (name_in x) >>= done) refuse
+
+-- what a name begins in the braces of a `switch`, and what another constant does
+abbrev pub named_part : Plan SwitchPart
+named_part = next is_name (λ x. part_after (name_in x) >>= done) refuse
+
+abbrev pub bare_part : Plan SwitchPart
+bare_part = one r.Constant (λ x. head_after x >>= done)
 
 -- what ends a `switch`, after the tree of its cases
 unfoldable pub default_read : Expression → Cases → Plan Statement

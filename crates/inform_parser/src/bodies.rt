@@ -54,8 +54,7 @@ impl<'a> Cursor<'a> {
             return self.statement_to(Symbol::RightBrace, Stmt::Block(body));
         }
         if self.at_name() {
-            let name = self.name(alloc)?;
-            return self.statement_after(alloc, name);
+            return self.named_statement(alloc);
         }
         if self.at_word(Keyword::If) {
             self.expect_word(Keyword::If)?;
@@ -183,9 +182,7 @@ impl<'a> Cursor<'a> {
         ensures ahead { length self.new.rest ≤ length self.old.rest }
     {
         let body = self.body(alloc)?;
-        self.expect_word(Keyword::Until)?;
-        let test = self.guard_in_brackets(alloc)?;
-        self.expect(Symbol::Semicolon)?;
+        let test = self.until_test(alloc)?;
         self.shut();
         Ok(Stmt::Do(body, test.into_condition()))
     }
@@ -231,8 +228,7 @@ impl<'a> Cursor<'a> {
             (for_last (assignment_if_any first) (guard_if_any test)) self.old result self.new }
         ensures ahead { length self.new.rest ≤ length self.old.rest }
     {
-        let last = self.change_if_any(alloc)?;
-        self.expect(Symbol::RightRound)?;
+        let last = self.last_change(alloc)?;
         self.for_body(alloc, first, test, last)
     }
 
@@ -257,24 +253,19 @@ impl<'a> Cursor<'a> {
         ensures gives { Gives statement_of for_after self.old result self.new }
         ensures ahead { length self.new.rest ≤ length self.old.rest }
     {
-        self.expect(Symbol::LeftRound)?;
-        let first = self.change_if_any(alloc)?;
-        self.expect(Symbol::Colon)?;
+        let first = self.first_change(alloc)?;
         self.for_test(alloc, first)
     }
 
     // What follows `switch`.
     #[cycle(statements)]
-    #[tactic(auto, using(crate::proofs::Steps::steps), unfolding(inform_grammar::specs::StatementRules::switch))]
+    #[tactic(auto, using(crate::proofs::Steps::steps, crate::proofs::BodySteps::switch_as))]
     #[inline(always)]
     fn switch_after(&mut self, alloc: Global) -> Result<Stmt, Stop>
         ensures gives { Gives statement_of switch self.old result self.new }
         ensures ahead { length self.new.rest ≤ length self.old.rest }
     {
-        self.expect(Symbol::LeftRound)?;
-        let value = self.value(alloc)?;
-        self.expect(Symbol::RightRound)?;
-        self.expect(Symbol::LeftBrace)?;
+        let value = self.switched_value(alloc)?;
         self.cases_after(alloc, value)
     }
 
@@ -290,8 +281,7 @@ impl<'a> Cursor<'a> {
         if !self.at_bare_constant() && !self.at_name() {
             return self.default_after(alloc, value, Vec::new(alloc));
         }
-        let first = self.choice(alloc)?;
-        let choices = self.choices_after(alloc, first)?;
+        let choices = self.first_choices(alloc)?;
         let parts = self.parts(alloc)?;
         let cases = cases(alloc, choices, parts)?;
         self.default_after(alloc, value, cases)
@@ -325,12 +315,10 @@ impl<'a> Cursor<'a> {
         ensures taken { OnOk result (length self.new.rest < length self.old.rest) }
     {
         if self.at_name() {
-            let name = self.name(alloc)?;
-            return self.part_after(alloc, name);
+            return self.named_part(alloc);
         }
         if self.at_bare_constant() {
-            let first = self.constant(alloc)?;
-            return self.head_after(alloc, first);
+            return self.bare_part(alloc);
         }
         let statement = self.statement(alloc)?;
         Ok(Part::Said(statement))

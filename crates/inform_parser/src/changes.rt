@@ -5,7 +5,7 @@ ghost use Rattle.inform_grammar.specs.Rules as r;
 ghost use Rattle.inform_grammar.specs.StatementRules.{change_after, statement_after};
 ghost use Rattle.inform_grammar.specs.Plan.{done, one};
 ghost use Rattle.inform_parser.specs.Reading.{Gives};
-ghost use Rattle.inform_parser.specs.Plans.{change_if_any};
+ghost use Rattle.inform_parser.specs.Plans.{change_if_any, named_statement};
 
 use crate::cursor::Cursor;
 use crate::stops::Stop;
@@ -81,5 +81,16 @@ impl<'a> Cursor<'a> {
         }
         let change = self.change_after(alloc, name)?;
         self.statement_to(Symbol::Semicolon, Stmt::Change(change))
+    }
+
+    /// A statement that begins with a name.
+    #[tactic(auto, using(crate::proofs::Steps::steps))]
+    pub fn named_statement(&mut self, alloc: Global) -> Result<Stmt, Stop>
+        ensures gives { Gives statement_of named_statement self.old result self.new }
+        ensures ahead { length self.new.rest ≤ length self.old.rest }
+        ensures taken { OnOk result (length self.new.rest < length self.old.rest) }
+    {
+        let name = self.name(alloc)?;
+        self.statement_after(alloc, name)
     }
 }

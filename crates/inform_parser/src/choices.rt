@@ -4,6 +4,7 @@ ghost use Rattle.inform_grammar.specs.Rules as r;
 ghost use Rattle.inform_grammar.specs.StatementRules.{range_after, choices_after, head_after};
 ghost use Rattle.inform_grammar.specs.Plan.{done, one, many};
 ghost use Rattle.inform_parser.specs.Reading.{Gives};
+ghost use Rattle.inform_parser.specs.Plans.{first_choices};
 ghost use Rattle.inform_parser.specs.Parts.{choice_of, choices_in, part_of};
 
 use crate::cursor::Cursor;
@@ -85,6 +86,17 @@ impl<'a> Cursor<'a> {
         let choices = self.choices(alloc, first)?;
         self.expect(Symbol::Colon)?;
         Ok(choices)
+    }
+
+    /// The choices of the first case, and their colon.
+    #[tactic(auto, using(crate::proofs::Steps::steps), unfolding(crate::specs::Plans::first_choices))]
+    pub fn first_choices(&mut self, alloc: Global) -> Result<Vec<(Const, Option<Const>)>, Stop>
+        ensures gives { Gives choices_in first_choices self.old result self.new }
+        ensures ahead { length self.new.rest ≤ length self.old.rest }
+        ensures taken { OnOk result (length self.new.rest < length self.old.rest) }
+    {
+        let first = self.choice(alloc)?;
+        self.choices_after(alloc, first)
     }
 
     /// The head of a case, with its first constant read.

@@ -378,32 +378,6 @@ impl<'a> Cursor<'a> {
         number
     }
 
-    // The character that stands next.
-    #[tactic(auto, using(crate::proofs::SeenKinds::characters))]
-    fn next_character(&self) -> Option<u8>
-        ensures { MatchOption result (heads is_character self.now.rest ≡ false)
-            (λ x. StandsNext (Character x) self.now) }
-    {
-        match self.seen() {
-            Some(Glance::Character(byte)) => Some(byte),
-            _ => None,
-        }
-    }
-
-    /// Takes a character, which must stand next.
-    #[tactic(auto, using(crate::proofs::Taking::fails))]
-    pub fn character(&mut self) -> Result<u8, Stop>
-        ensures gives { Gives Character (next_of is_character) self.old result self.new }
-        ensures ahead { length self.new.rest ≤ length self.old.rest }
-        ensures taken { OnOk result (length self.new.rest < length self.old.rest) }
-    {
-        let Some(byte) = self.next_character() else {
-            return Err(Stop::Unexpected);
-        };
-        self.advance()?;
-        Ok(byte)
-    }
-
     /// Takes the character that stands next.
     #[tactic(auto, using(crate::proofs::Passing::passed_kinds))]
     #[inline(always)]

@@ -4,14 +4,16 @@ ghost use Rattle.inform_grammar.specs.StatementRules.{part_after};
 ghost use Rattle.inform_parser.specs.Reading.{Gives};
 ghost use Rattle.inform_parser.specs.Guards.{guard_of, guard_if_any};
 ghost use Rattle.inform_parser.specs.Parts.{part_of};
-ghost use Rattle.inform_parser.specs.Plans.{guard_in_brackets, test_to_colon};
+ghost use Rattle.inform_tree.specs.Values.{expression_of};
+ghost use Rattle.inform_tree.specs.Statements.{assignment_if_any};
+ghost use Rattle.inform_parser.specs.Plans.{guard_in_brackets, until_test, first_change, last_change, test_to_colon, switched_value, named_part, bare_part};
 
 use crate::cursor::Cursor;
 use crate::guards::Guard;
 use crate::parts::Part;
 use crate::stops::Stop;
-use inform_lexemes::Symbol;
-use inform_tree::{Const, Name};
+use inform_lexemes::{Keyword, Symbol};
+use inform_tree::{Change, Const, Expr, Name};
 use std::alloc::Global;
 
 impl<'a> Cursor<'a> {
@@ -27,6 +29,57 @@ impl<'a> Cursor<'a> {
         let guard = self.guard(alloc)?;
         self.expect(Symbol::RightRound)?;
         Ok(guard)
+    }
+
+    /// The test of a `do`, with its word and its semicolon.
+    #[tactic(auto, using(crate::proofs::Steps::steps), unfolding(crate::specs::Plans::until_test))]
+    pub fn until_test(&mut self, alloc: Global) -> Result<Guard, Stop>
+        ensures gives { Gives guard_of until_test self.old result self.new }
+        ensures ahead { length self.new.rest ≤ length self.old.rest }
+        ensures taken { OnOk result (length self.new.rest < length self.old.rest) }
+    {
+        self.expect_word(Keyword::Until)?;
+        let test = self.guard_in_brackets(alloc)?;
+        self.expect(Symbol::Semicolon)?;
+        Ok(test)
+    }
+
+    /// The first change in the head of a `for`, if there is one, between its bracket and its colon.
+    #[tactic(auto, using(crate::proofs::Steps::steps), unfolding(crate::specs::Plans::first_change))]
+    pub fn first_change(&mut self, alloc: Global) -> Result<Option<Change>, Stop>
+        ensures gives { Gives assignment_if_any first_change self.old result self.new }
+        ensures ahead { length self.new.rest ≤ length self.old.rest }
+        ensures taken { OnOk result (length self.new.rest < length self.old.rest) }
+    {
+        self.expect(Symbol::LeftRound)?;
+        let first = self.change_if_any(alloc)?;
+        self.expect(Symbol::Colon)?;
+        Ok(first)
+    }
+
+    /// The last change, if there is one, and the closing bracket.
+    #[tactic(auto, using(crate::proofs::Steps::steps), unfolding(crate::specs::Plans::last_change))]
+    pub fn last_change(&mut self, alloc: Global) -> Result<Option<Change>, Stop>
+        ensures gives { Gives assignment_if_any last_change self.old result self.new }
+        ensures ahead { length self.new.rest ≤ length self.old.rest }
+        ensures taken { OnOk result (length self.new.rest < length self.old.rest) }
+    {
+        let last = self.change_if_any(alloc)?;
+        self.expect(Symbol::RightRound)?;
+        Ok(last)
+    }
+
+    /// The value of a `switch` in its brackets, and the opening brace.
+    #[tactic(auto, using(crate::proofs::Steps::steps), unfolding(crate::specs::Plans::switched_value))]
+    pub fn switched_value(&mut self, alloc: Global) -> Result<Expr, Stop>
+        ensures gives { Gives expression_of switched_value self.old result self.new }
+        ensures ahead { length self.new.rest ≤ length self.old.rest }
+        ensures taken { OnOk result (length self.new.rest < length self.old.rest) }
+    {
+        self.expect(Symbol::LeftRound)?;
+        let value = self.value(alloc)?;
+        self.expect(Symbol::RightRound)?;
+        self.expression_to(Symbol::LeftBrace, value)
     }
 
     /// The test in the head of a `for`, if there is one, and its colon.
@@ -57,5 +110,27 @@ impl<'a> Cursor<'a> {
         }
         let statement = self.statement_after(alloc, name)?;
         Ok(Part::Said(statement))
+    }
+
+    /// What a name begins in the braces of a `switch`.
+    #[tactic(auto, using(crate::proofs::Steps::steps))]
+    pub fn named_part(&mut self, alloc: Global) -> Result<Part, Stop>
+        ensures gives { Gives part_of named_part self.old result self.new }
+        ensures ahead { length self.new.rest ≤ length self.old.rest }
+        ensures taken { OnOk result (length self.new.rest < length self.old.rest) }
+    {
+        let name = self.name(alloc)?;
+        self.part_after(alloc, name)
+    }
+
+    /// What a constant that is no name begins there.
+    #[tactic(auto, using(crate::proofs::Steps::steps))]
+    pub fn bare_part(&mut self, alloc: Global) -> Result<Part, Stop>
+        ensures gives { Gives part_of bare_part self.old result self.new }
+        ensures ahead { length self.new.rest ≤ length self.old.rest }
+        ensures taken { OnOk result (length self.new.rest < length self.old.rest) }
+    {
+        let first = self.constant(alloc)?;
+        self.head_after(alloc, first)
     }
 }
