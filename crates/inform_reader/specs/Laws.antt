@@ -3,6 +3,7 @@ use Rattle.std.specs.Prelude.{ℕ, ◌≡◌, ◌↔◌, true, List, Ok, Err}
 use Rattle.inform_tree.specs.declared.widths.Width.{Width}
 use Rattle.inform_tree.specs.Formed.{is_well_formed}
 use Rattle.inform_tree.specs.Programs.{DirectiveTree}
+use Rattle.inform_reader.specs.declared.reading.TheConstants.{PROGRAM_LIMIT}
 use Rattle.inform_reader.specs.Reading.{Fault, IsProgram, IsFaulty, program_in}
 
 -- a text is read as a program exactly where it is one of it, and accepted
@@ -19,3 +20,7 @@ FaultIn = (width : Width) (bytes : List ℕ) (f : Fault)
 abbrev pub ProgramsAreWellFormed : Type 0
 ProgramsAreWellFormed = (width : Width) (bytes : List ℕ) (p : List DirectiveTree)
     → IsProgram width bytes p → is_well_formed p ≡ true
+
+-- the most bytes of a source, which those who load one read from here
+abbrev pub LimitListed : Type 0
+LimitListed = PROGRAM_LIMIT ≡ 33554432

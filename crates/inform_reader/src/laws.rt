@@ -1,5 +1,5 @@
 //! The laws of reading. Each is the contract of a function that does nothing else.
-ghost use Rattle.inform_reader.specs.Laws.{ProgramIn, FaultIn, ProgramsAreWellFormed};
+ghost use Rattle.inform_reader.specs.Laws.{ProgramIn, FaultIn, ProgramsAreWellFormed, LimitListed};
 
 use inform_lexer::laws::tokens_are_writable;
 use inform_names::laws::routines_are_shallow;
@@ -28,3 +28,8 @@ pub fn programs_are_well_formed()
     tokens_are_writable();
     routines_are_shallow();
 }
+
+/// The limit of a source is 33,554,432 bytes.
+pub fn limit_listed()
+    ensures { LimitListed }
+{}
