@@ -217,11 +217,13 @@ function judge_messages(    k, i, part, count, said) {
     }
 }
 
-# Rooms count as reached from the start by exits, and by each opcode of a line that runs.
+# Rooms count as reached from the start by exits, and by each opcode of a line that runs: a saved room is room 0 at first.
 function judge_rooms(    k, i, left, part, count, at, die) {
-    left = " " substr(header["start"], 2)
+    left = header["start"]
+    sub(/^r/, "", left)
     for (k = 0; k < lines; k++) if (runs[k]) {
         if (has(opcodes[k], "die")) left = left " " (rooms - 1)
+        if (opcodes[k] ~ / swap_(saved|room)/) left = left " 0"
         left = left rooms_of(k)
     }
     while ((count = split(left, part, " ")) > 0) {
@@ -237,10 +239,11 @@ function judge_rooms(    k, i, left, part, count, at, die) {
 # The rooms to which a line may lead. Of a 'go' without brackets that is each number that a parameter has.
 function rooms_of(k,    text, list) {
     text = opcodes[k]
-    while (match(text, / go\(r[0-9]+\)/)) {
-        list = list " " substr(text, RSTART + 5, RLENGTH - 6)
+    while (match(text, / go\(r?[0-9]+\)/)) {
+        list = list " " substr(text, RSTART + 4, RLENGTH - 5)
         text = substr(text, RSTART + RLENGTH)
     }
+    gsub(/r/, "", list)
     if (has(opcodes[k], "go")) {
         text = conditions[k]
         while (match(text, / param [0-9]+/)) {
