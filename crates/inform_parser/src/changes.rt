@@ -85,6 +85,7 @@ impl<'a> Cursor<'a> {
 
     /// A statement that begins with a name.
     #[tactic(auto, using(crate::proofs::Steps::steps))]
+    #[inline(always)]
     pub fn named_statement(&mut self, alloc: Global) -> Result<Stmt, Stop>
         ensures gives { Gives statement_of named_statement self.old result self.new }
         ensures ahead { length self.new.rest ≤ length self.old.rest }

@@ -90,6 +90,7 @@ impl<'a> Cursor<'a> {
 
     /// The choices of the first case, and their colon.
     #[tactic(auto, using(crate::proofs::Steps::steps), unfolding(crate::specs::Plans::first_choices))]
+    #[inline(always)]
     pub fn first_choices(&mut self, alloc: Global) -> Result<Vec<(Const, Option<Const>)>, Stop>
         ensures gives { Gives choices_in first_choices self.old result self.new }
         ensures ahead { length self.new.rest ≤ length self.old.rest }

@@ -17,6 +17,7 @@ use inform_tree::{Directive, Expr, Stmt};
 impl<'a> Cursor<'a> {
     /// A statement that is nothing but this word, and its semicolon.
     #[tactic(auto, using(crate::proofs::Steps::steps))]
+    #[inline(always)]
     pub fn alone(&mut self, keyword: Keyword, made: Stmt) -> Result<Stmt, Stop>
         ensures gives { Gives statement_of
             (take (is_word keyword) (take (is_sign Semicolon) (done (statement_of made))))
@@ -31,6 +32,7 @@ impl<'a> Cursor<'a> {
 
     /// A statement, up to this symbol.
     #[tactic(auto, using(crate::proofs::Steps::steps))]
+    #[inline(always)]
     pub fn statement_to(&mut self, symbol: Symbol, made: Stmt) -> Result<Stmt, Stop>
         ensures gives { Gives statement_of (take (is_sign symbol) (done (statement_of made)))
             self.old result self.new }
@@ -43,6 +45,7 @@ impl<'a> Cursor<'a> {
 
     /// Statements, up to this symbol.
     #[tactic(auto, using(crate::proofs::Steps::steps))]
+    #[inline(always)]
     pub fn statements_to(&mut self, symbol: Symbol, made: Vec<Stmt>) -> Result<Vec<Stmt>, Stop>
         ensures gives { Gives statements_in (take (is_sign symbol) (done (statements_in made)))
             self.old result self.new }
@@ -55,6 +58,7 @@ impl<'a> Cursor<'a> {
 
     /// An expression, up to this symbol.
     #[tactic(auto, using(crate::proofs::Steps::steps))]
+    #[inline(always)]
     pub fn expression_to(&mut self, symbol: Symbol, made: Expr) -> Result<Expr, Stop>
         ensures gives { Gives expression_of (take (is_sign symbol) (done (expression_of made)))
             self.old result self.new }
@@ -67,6 +71,7 @@ impl<'a> Cursor<'a> {
 
     /// Expressions, up to this symbol.
     #[tactic(auto, using(crate::proofs::Steps::steps))]
+    #[inline(always)]
     pub fn expressions_to(&mut self, symbol: Symbol, made: Vec<Expr>) -> Result<Vec<Expr>, Stop>
         ensures gives { Gives expressions_of (take (is_sign symbol) (done (expressions_of made)))
             self.old result self.new }
@@ -79,6 +84,7 @@ impl<'a> Cursor<'a> {
 
     /// A directive, up to this symbol.
     #[tactic(auto, using(crate::proofs::Steps::steps))]
+    #[inline(always)]
     pub fn directive_to(&mut self, symbol: Symbol, made: Directive) -> Result<Directive, Stop>
         ensures gives { Gives directive_of (take (is_sign symbol) (done (directive_of made)))
             self.old result self.new }

@@ -33,6 +33,7 @@ impl<'a> Cursor<'a> {
 
     /// The test of a `do`, with its word and its semicolon.
     #[tactic(auto, using(crate::proofs::Steps::steps), unfolding(crate::specs::Plans::until_test))]
+    #[inline(always)]
     pub fn until_test(&mut self, alloc: Global) -> Result<Guard, Stop>
         ensures gives { Gives guard_of until_test self.old result self.new }
         ensures ahead { length self.new.rest ≤ length self.old.rest }
@@ -46,6 +47,7 @@ impl<'a> Cursor<'a> {
 
     /// The first change in the head of a `for`, if there is one, between its bracket and its colon.
     #[tactic(auto, using(crate::proofs::Steps::steps), unfolding(crate::specs::Plans::first_change))]
+    #[inline(always)]
     pub fn first_change(&mut self, alloc: Global) -> Result<Option<Change>, Stop>
         ensures gives { Gives assignment_if_any first_change self.old result self.new }
         ensures ahead { length self.new.rest ≤ length self.old.rest }
@@ -59,6 +61,7 @@ impl<'a> Cursor<'a> {
 
     /// The last change, if there is one, and the closing bracket.
     #[tactic(auto, using(crate::proofs::Steps::steps), unfolding(crate::specs::Plans::last_change))]
+    #[inline(always)]
     pub fn last_change(&mut self, alloc: Global) -> Result<Option<Change>, Stop>
         ensures gives { Gives assignment_if_any last_change self.old result self.new }
         ensures ahead { length self.new.rest ≤ length self.old.rest }
@@ -71,6 +74,7 @@ impl<'a> Cursor<'a> {
 
     /// The value of a `switch` in its brackets, and the opening brace.
     #[tactic(auto, using(crate::proofs::Steps::steps), unfolding(crate::specs::Plans::switched_value))]
+    #[inline(always)]
     pub fn switched_value(&mut self, alloc: Global) -> Result<Expr, Stop>
         ensures gives { Gives expression_of switched_value self.old result self.new }
         ensures ahead { length self.new.rest ≤ length self.old.rest }
@@ -114,6 +118,7 @@ impl<'a> Cursor<'a> {
 
     /// What a name begins in the braces of a `switch`.
     #[tactic(auto, using(crate::proofs::Steps::steps))]
+    #[inline(always)]
     pub fn named_part(&mut self, alloc: Global) -> Result<Part, Stop>
         ensures gives { Gives part_of named_part self.old result self.new }
         ensures ahead { length self.new.rest ≤ length self.old.rest }
@@ -125,6 +130,7 @@ impl<'a> Cursor<'a> {
 
     /// What a constant that is no name begins there.
     #[tactic(auto, using(crate::proofs::Steps::steps))]
+    #[inline(always)]
     pub fn bare_part(&mut self, alloc: Global) -> Result<Part, Stop>
         ensures gives { Gives part_of bare_part self.old result self.new }
         ensures ahead { length self.new.rest ≤ length self.old.rest }
