@@ -191,7 +191,7 @@ fn lines_are_refused(rt: HostRuntime) {
 // Headers and rooms that mean nothing.
 const REFUSED: &[(&[u8], &[u8], CompileFault)] = &[
     (
-        b"header { unused 0; carry 5; start r9; treasures 0; length 3; light -1; home 0; }",
+        b"header {\nunused 0;\ncarry 5;\nstart r9;\ntreasures 0;\nlength 3;\nlight -1;\nhome 0;\n}\n",
         ROOMS,
         CompileFault::Unnamed(34),
     ),
