@@ -46,7 +46,10 @@ say_more() {
     case $status in
         1)
             . "$top/launcher/forms.bash"
-            if [ "$#" -gt 0 ]; then name_faults "$@"; else say_forms; fi
+            case "$*" in
+                '' | --help | -h | --version) say_forms ;;
+                *) name_faults "$@" ;;
+            esac
             ;;
         4 | 5 | 6)
             . "$top/launcher/places.bash"
