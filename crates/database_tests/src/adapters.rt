@@ -3,6 +3,7 @@ use crate::consoles::expect_taken;
 use crate::expect;
 use adv_io::{Console, ConsoleFault, Line, StdConsole, Taken};
 use std::alloc::Allocator;
+use std::cell::RefCell;
 use std::fmt::Display;
 use std::io;
 use std::io::{BufRead, ErrorKind, Lines, Read};
@@ -34,15 +35,31 @@ impl<'a> BufRead for Keys<'a> {
     }
 }
 
-// A terminal, whose input or output may be broken.
-#[derive(Drop)]
-struct Typed<'a> {
+// What is typed at a terminal, and whether its input or output is broken.
+#[derive(Clone, Copy)]
+struct Session<'a> {
     bytes: &'a [u8],
     is_broken: bool,
     is_closed: bool,
 }
 
-impl<'a> Input for Typed<'a> {
+// A terminal, which keeps what is written to it.
+#[derive(Drop)]
+struct Terminal<'a> {
+    session: Session<'a>,
+    written: RefCell<Vec<u8>>,
+}
+
+impl<'a> Terminal<'a> {
+    fn keep(&self, bytes: &[u8]) -> io::Result<()> {
+        match self.written.try_borrow_mut() {
+            Ok(mut written) => Ok(written.extend_from_slice(bytes)?),
+            Err(_) => Err(io::Error::from(ErrorKind::ResourceBusy)),
+        }
+    }
+}
+
+impl<'a> Input for Terminal<'a> {
     type Reader = Keys<'a>;
 
     fn read_line<A: Allocator + Clone>(&self, buf: &mut String<A>) -> io::Result<usize> {
@@ -55,13 +72,13 @@ impl<'a> Input for Typed<'a> {
 
     fn reader(&self) -> Keys<'a> {
         Keys {
-            bytes: self.bytes,
-            is_broken: self.is_broken,
+            bytes: self.session.bytes,
+            is_broken: self.session.is_broken,
         }
     }
 }
 
-impl<'a> Print for Typed<'a> {
+impl<'a> Print for Terminal<'a> {
     fn print<D: Display + Drop>(&self, _value: D) -> io::Result<()> {
         Ok(())
     }
@@ -70,11 +87,11 @@ impl<'a> Print for Typed<'a> {
         Ok(())
     }
 
-    fn write_all(&self, _bytes: &[u8]) -> io::Result<()> {
-        if self.is_closed {
+    fn write_all(&self, bytes: &[u8]) -> io::Result<()> {
+        if self.session.is_closed {
             Err(io::Error::from(ErrorKind::BrokenPipe))
         } else {
-            Ok(())
+            self.keep(bytes)
         }
     }
 }
@@ -82,10 +99,10 @@ impl<'a> Print for Typed<'a> {
 // What taking a line answers, and the line that is then lent.
 type Take = (Result<Taken, ConsoleFault>, &'static [u8]);
 
-// A terminal, what saying answers there, and its takes.
-const TERMINALS: &[(Typed<'static>, Result<(), ConsoleFault>, &[Take])] = &[
+// A session, what saying answers there, and its takes.
+const SESSIONS: &[(Session<'static>, Result<(), ConsoleFault>, &[Take])] = &[
     (
-        Typed {
+        Session {
             bytes: b"Take LAMP\n\n look",
             is_broken: false,
             is_closed: true,
@@ -100,7 +117,7 @@ const TERMINALS: &[(Typed<'static>, Result<(), ConsoleFault>, &[Take])] = &[
         ],
     ),
     (
-        Typed {
+        Session {
             bytes: b"ended\n",
             is_broken: false,
             is_closed: false,
@@ -110,7 +127,7 @@ const TERMINALS: &[(Typed<'static>, Result<(), ConsoleFault>, &[Take])] = &[
     ),
     // A read that fails in mid-line is a failure, and neither a line nor the end of the lines.
     (
-        Typed {
+        Session {
             bytes: b"look\nget la",
             is_broken: true,
             is_closed: false,
@@ -124,25 +141,38 @@ const TERMINALS: &[(Typed<'static>, Result<(), ConsoleFault>, &[Take])] = &[
     ),
 ];
 
-// Says something at a terminal, and takes its lines.
-fn expect_session(
-    rt: &impl Abort,
-    terminal: &Typed<'_>,
+// Says something at a terminal, whose lines are then taken. What was said is written there, and
+// nothing else.
+fn expect_session<R: Abort + AllocGlobal>(
+    rt: &R,
+    session: Session<'_>,
     said: Result<(), ConsoleFault>,
     takes: &[Take],
 ) {
-    let mut console = StdConsole::new(terminal);
+    let terminal = Terminal {
+        session,
+        written: RefCell::new(Vec::new(rt.alloc())),
+    };
+    let mut console = StdConsole::new(&terminal);
     let mut line = Line::of(b"before");
     expect!(rt; console.say(b"said") == said);
     for (answer, bytes) in takes {
         expect_taken(rt, &mut console, &mut line, *answer, bytes);
     }
+    drop(console);
+    let written = terminal.written.into_inner();
+    let wanted = if said.is_ok() {
+        b"said".as_slice()
+    } else {
+        b"".as_slice()
+    };
+    expect!(rt; written.as_slice() == wanted);
 }
 
 #[test]
 fn standard_input_is_taken_by_lines_until_it_ends_or_fails(rt: HostRuntime) {
-    for (terminal, said, takes) in TERMINALS {
-        expect_session(&rt, terminal, *said, takes);
+    for (session, said, takes) in SESSIONS {
+        expect_session(&rt, *session, *said, takes);
     }
 }
 
@@ -171,11 +201,11 @@ const LONG_LINES: &[(usize, &[Take])] = &[
 fn a_line_of_standard_input_has_a_limit(rt: HostRuntime) {
     for (length, takes) in LONG_LINES {
         let bytes = long_line(&rt, *length);
-        let terminal = Typed {
+        let session = Session {
             bytes: &bytes,
             is_broken: false,
             is_closed: false,
         };
-        expect_session(&rt, &terminal, Ok(()), takes);
+        expect_session(&rt, session, Ok(()), takes);
     }
 }

@@ -14,6 +14,8 @@ mod adapters;
 #[cfg(test)]
 mod consoles;
 #[cfg(test)]
+mod failing_files;
+#[cfg(test)]
 mod shelves;
 
 // Texts, draws and requests.

@@ -1,10 +1,14 @@
 //! Shelves in memory and on a disk: what they keep, and how they fail.
 use crate::answers::are_bytes;
 use crate::expect;
+use crate::failing_files::{Call, FailingFiles};
 use adv_io::{DiskShelf, MemoryShelf, Shelf, ShelfFault};
 use std::alloc::Global;
 use std::fs;
+use std::io::ErrorKind;
+use std::os::unix::fs::symlink;
 use std::process::Abort;
+use std::rt::Files;
 
 // What is done with a file, and what that answers: bytes are stored, or at most so many are loaded.
 enum Step {
@@ -67,4 +71,108 @@ fn a_shelf_of_real_files_stores_and_loads(rt: HostRuntime) {
     let _ = fs::remove_file(&rt, NAME);
     expect_steps(&rt, rt.alloc(), &mut DiskShelf::new(&rt), ON_DISK);
     expect!(rt; fs::remove_file(&rt, NAME).is_ok());
+}
+
+const OLD: &str = "shelf_old.tmp";
+
+const LINK: &str = "shelf_link.tmp";
+
+// What a link leads to is replaced, and the link stays.
+const BEHIND_A_LINK: &[(&str, Step)] = &[
+    (OLD, Step::Store(b"old", Ok(()))),
+    (LINK, Step::Store(b"new", Ok(()))),
+    (OLD, Step::Load(3, Ok(b"new"))),
+];
+
+#[test]
+fn a_link_is_followed_when_a_file_is_stored(rt: HostRuntime) {
+    let _ = fs::remove_file(&rt, LINK);
+    expect!(rt; symlink(&rt, OLD, LINK).is_ok());
+    expect_steps(&rt, rt.alloc(), &mut DiskShelf::new(&rt), BEHIND_A_LINK);
+    expect!(rt; fs::read_link(&rt, LINK).is_ok_and(|path| path.as_str() == OLD));
+    expect!(rt; fs::remove_file(&rt, LINK).is_ok());
+    expect!(rt; fs::remove_file(&rt, OLD).is_ok());
+}
+
+// A call that fails, and what storing a file answers then in the place of an old one and anew.
+type Failure = (
+    Call,
+    ErrorKind,
+    Result<(), ShelfFault>,
+    Result<(), ShelfFault>,
+);
+
+const FAILURES: &[Failure] = &[
+    (
+        Call::Write,
+        ErrorKind::StorageFull,
+        Err(ShelfFault::Failed),
+        Err(ShelfFault::Failed),
+    ),
+    // Want of memory is a fault once a file was opened.
+    (
+        Call::Write,
+        ErrorKind::OutOfMemory,
+        Err(ShelfFault::Failed),
+        Err(ShelfFault::Failed),
+    ),
+    (
+        Call::Sync,
+        ErrorKind::QuotaExceeded,
+        Err(ShelfFault::Failed),
+        Err(ShelfFault::Failed),
+    ),
+    // A pipe or a device keeps nothing.
+    (Call::Sync, ErrorKind::InvalidInput, Ok(()), Ok(())),
+    (Call::Sync, ErrorKind::Unsupported, Ok(()), Ok(())),
+    (Call::Sync, ErrorKind::ReadOnlyFilesystem, Ok(()), Ok(())),
+    // Where no file can be made beside the old one, or put in its place, it is written into.
+    (
+        Call::CreateNew,
+        ErrorKind::PermissionDenied,
+        Ok(()),
+        Err(ShelfFault::Failed),
+    ),
+    (
+        Call::CreateNew,
+        ErrorKind::OutOfMemory,
+        Ok(()),
+        Err(ShelfFault::Memory),
+    ),
+    (Call::Rename, ErrorKind::ResourceBusy, Ok(()), Ok(())),
+];
+
+// Stores a file where a call fails, and expects it afterwards: new where it was stored, else as it
+// was. No file stays beside it.
+fn expect_failure<R: Files + Abort + AllocGlobal>(
+    rt: &R,
+    was: Option<&[u8]>,
+    failure: &Failure,
+    want: Result<(), ShelfFault>,
+) {
+    let failing = FailingFiles {
+        rt,
+        call: failure.0,
+        kind: failure.1,
+    };
+    let stored = DiskShelf::new(&failing).store(rt.alloc(), OLD, b"new");
+    let now = if want.is_ok() {
+        Some(b"new".as_slice())
+    } else {
+        was
+    };
+    expect!(rt; stored == want);
+    expect!(rt; fs::read(rt, OLD).ok().as_deref() == now);
+    expect!(rt; !fs::exists(rt, "shelf_old.tmp.new0").unwrap_or(true));
+}
+
+#[test]
+fn a_file_that_cant_be_stored_stays_as_it_was(rt: HostRuntime) {
+    for failure in FAILURES {
+        expect!(rt; fs::write(&rt, OLD, b"old").is_ok());
+        expect_failure(&rt, Some(b"old"), failure, failure.2);
+        expect!(rt; fs::remove_file(&rt, OLD).is_ok());
+        expect_failure(&rt, None, failure, failure.3);
+        let _ = fs::remove_file(&rt, OLD);
+    }
 }
