@@ -1,4 +1,4 @@
-//! A small game.
+//! Small games.
 use scott_types::{Action, Db, Header, Item, Parts, Room, Text, Trailer, Word};
 use std::alloc::Global;
 use std::process::Abort;
@@ -13,7 +13,8 @@ const HEADER: Header = Header {
     home: 0,
 };
 
-const ACTION: Action = Action {
+// A line of zeros.
+const EMPTY: Action = Action {
     vocab: 0,
     conds: [0; 5],
     pairs: [0; 2],
@@ -29,8 +30,8 @@ fn empty_text(alloc: Global) -> Text {
     Text::of(Vec::new(alloc))
 }
 
-// One entry in each list, and each text empty.
-fn parts<R: Abort + AllocGlobal>(rt: &R) -> Parts {
+// These lines, one entry in each other list, and each text empty.
+fn parts<R: Abort + AllocGlobal>(rt: &R, actions: &[Action]) -> Parts {
     let alloc = rt.alloc();
     let word = Word {
         verb: empty_text(alloc),
@@ -46,7 +47,7 @@ fn parts<R: Abort + AllocGlobal>(rt: &R) -> Parts {
     };
     Parts {
         header: HEADER,
-        actions: vec![in alloc; ACTION].expect(rt, "memory"),
+        actions: Vec::from_slice(alloc, actions).expect(rt, "memory"),
         words: vec![in alloc; word].expect(rt, "memory"),
         rooms: vec![in alloc; room].expect(rt, "memory"),
         messages: vec![in alloc; empty_text(alloc)].expect(rt, "memory"),
@@ -56,7 +57,12 @@ fn parts<R: Abort + AllocGlobal>(rt: &R) -> Parts {
     }
 }
 
-/// A database with one entry in each list.
+/// A database with these lines, a comment each, and one entry in each other list.
+pub fn with_lines<R: Abort + AllocGlobal>(rt: &R, actions: &[Action]) -> Db {
+    Db::new(parts(rt, actions)).ok().expect(rt, "a game")
+}
+
+/// A database with one entry in each list, and a line of zeros.
 pub fn smallest<R: Abort + AllocGlobal>(rt: &R) -> Db {
-    Db::new(parts(rt)).ok().expect(rt, "a game")
+    with_lines(rt, &[EMPTY])
 }

@@ -11,4 +11,6 @@ mod expecting;
 #[cfg(test)]
 mod games;
 #[cfg(test)]
+mod lines;
+#[cfg(test)]
 mod sizes;

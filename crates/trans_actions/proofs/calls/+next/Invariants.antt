@@ -1,0 +1,4 @@
+use Rattle.trans_actions.proofs.calls.+next.Given as goal
+
+abbrev pub decreases-next : goal.decreases-next
+decreases-next l = l.count

@@ -1,0 +1,4 @@
+pub mod Names
+pub mod Helpers
+pub mod Directives
+pub mod Laws

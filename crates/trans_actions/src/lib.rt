@@ -1,0 +1,24 @@
+//! The lines of a translated game: a routine each, and the routines of conditions and opcodes that
+//! they call.
+#![tactic(auto)]
+
+// The names and numbers of which the routines speak.
+mod names;
+mod numbers;
+
+// The routines of conditions and opcodes, as codes, and those that are there.
+mod conditions;
+mod opcodes;
+mod table;
+
+// The routine of a line.
+mod bodies;
+mod calls;
+
+// All of them.
+mod lines;
+
+// What they owe.
+pub mod laws;
+
+pub use lines::actions;
