@@ -1,0 +1,19 @@
+-- What the routines of groups owe.
+use Rattle.std.specs.List.{AllByRecursion}
+use Rattle.inform_tree.specs.declared.widths.Width.{Width}
+use Rattle.inform_meaning.specs.Worlds.{Program}
+use Rattle.scott_types.specs.declared.styles.Style.{Style}
+use Rattle.scott_types.specs.Database.{Database}
+use Rattle.scott_types.specs.Style.{in_style}
+use Rattle.scott_rules.specs.Groups.{groups}
+use Rattle.trans_rows.specs.Programs.{Serves}
+use Rattle.trans_rows.specs.ActionRows.{LineRow}
+use Rattle.trans_rows.specs.Owed.{Translates}
+use Rattle.trans_groups.specs.Directives.{group_directives}
+use Rattle.trans_groups.specs.Rows.{GroupRow}
+
+-- Where a program has the routines of groups, and each line does what it owes, so does each group.
+abbrev pub GroupsOwe : Type 0
+GroupsOwe = (style : Style) (width : Width) (db : Database) (p : Program) → Translates width db
+    → Serves width (group_directives db) p → LineRow (in_style style db) p
+    → AllByRecursion (GroupRow (in_style style db) p) (groups db)

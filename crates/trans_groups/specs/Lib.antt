@@ -1,0 +1,3 @@
+pub mod Directives
+pub mod Rows
+pub mod Laws
