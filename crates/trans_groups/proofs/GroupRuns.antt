@@ -1,19 +1,17 @@
 -- A group's routine does what the group owes, where each line does.
 use Rattle.std.proofs.Common.{◌≡◌, ◌∙◌, arith, ℕ, suc, ◌+◌, ◌*◌, ◌<◌, ◌≤◌, ℤ, pos, Bool, true, false, List, [], ◌∷◌, ◌++◌, length, codes, Option, Some, None, refl, sym, ap, subst, append-nil, append_assoc, true≢false}
-use Rattle.std.specs.List.{AllByRecursion}
 use Rattle.std.proofs.lemmas.Int.{ints}
-use Rattle.adv_io.specs.Steps.{Step, Traced, after, traced}
+use Rattle.adv_io.specs.Steps.{Step, Traced, after}
 use Rattle.inform_tree.specs.declared.conditions.Relation.TheVariants.{Eq}
 use Rattle.inform_tree.specs.Statements.{statements}
 use Rattle.inform_tree.specs.Programs.{RoutineTree}
 use Rattle.inform_meaning.specs.Words.{compares}
-use Rattle.inform_meaning.specs.Worlds.{Program, Scope, scope_of}
-use Rattle.inform_meaning.specs.Frames.{Outcome, Normal, Returns}
+use Rattle.inform_meaning.specs.Worlds.{Program, Scope}
 use Rattle.inform_logic.specs.Stages.{Stage}
-use Rattle.inform_logic.specs.Leading.{Runs, by_return}
-use Rattle.inform_logic.specs.Holding.{routine_at, Has}
-use Rattle.inform_logic.specs.Stopping.{in_block, in_assignment, in_set, in_call, in_return, in_if}
-use Rattle.inform_logic.proofs.Values.{within, local, number, call, called}
+use Rattle.inform_logic.specs.Leading.{by_return}
+use Rattle.inform_logic.specs.Holding.{Has}
+use Rattle.inform_logic.specs.Stopping.{in_block, in_assignment, in_set, in_call, in_return}
+use Rattle.inform_logic.proofs.Values.{local, number, call, called}
 use Rattle.inform_logic.proofs.Conditions.{compare}
 use Rattle.inform_logic.proofs.Changes.{set_variable}
 use Rattle.inform_logic.proofs.Statements.{end, next, returns, return, assign, if_true, if_false}
@@ -22,7 +20,7 @@ use Rattle.inform_logic.proofs.Stops.{later, handed_up, step_stops, called_stops
 use Rattle.scott_types.specs.declared.states.State.{State}
 use Rattle.scott_types.specs.declared.endings.Ran.{Ran}
 use Rattle.scott_types.specs.declared.endings.Ran.TheVariants.{Not, Passed, Over}
-use Rattle.scott_types.specs.Database.{Database, action_at}
+use Rattle.scott_types.specs.Database.{action_at}
 use Rattle.scott_types.specs.Style.{Game}
 use Rattle.scott_rules.specs.Outcomes.{goes_on}
 use Rattle.scott_rules.specs.Actions.{ActionOutcome, goes_on_after, try_action}
@@ -30,9 +28,9 @@ use Rattle.scott_rules.specs.Groups.{Group, tail_tried, passed_or_over, with_tai
 use Rattle.trans_rows.specs.Standing.{StandsFor}
 use Rattle.trans_rows.specs.Steps.{line_steps}
 use Rattle.trans_rows.specs.Names.{group_name, line_name}
-use Rattle.trans_rows.specs.Lines.{group_parts, tail_body}
+use Rattle.trans_rows.specs.Lines.{group_parts}
 use Rattle.trans_rows.specs.Calls.{StageLeft, CallLeaves}
-use Rattle.trans_rows.specs.ActionRows.{line_room, LineRow, passed_value}
+use Rattle.trans_rows.specs.ActionRows.{line_room, LineRow}
 use Rattle.trans_rows.proofs.Room.{one_less}
 use Rattle.trans_rows.proofs.Left.{left_then}
 use Rattle.trans_rows.proofs.Acts.{stops_within}
@@ -62,7 +60,8 @@ module _ (game : Game) (p : Program) (rows : LineRow game p) (g : Group)
       (line_steps game.db)
 
   head_ran : HeadRan t.value.ran
-  head_ran = line_ran game p d g.head w noun t.value.ran t (rows g.head s noun w d room there.head stands)
+  head_ran = line_ran game p d g.head w noun t.value.ran t (rows g.head s noun w d room there.head
+      stands)
 
   some_steps : line_steps game.db + 4 ≤ group_steps game.db g
   some_steps = omega (arith, least (length g.tail) (line_steps game.db + 2)) where
@@ -176,7 +175,8 @@ module _ (game : Game) (p : Program) (rows : LineRow game p) (g : Group)
     with_its_tail (Passed false) is x =
         subst (λ ran. Acts ran t) (sym is) (no_tail 1 (omega arith) x)
     with_its_tail (Passed true) is x = let rest = tail_tried game noun g.tail t.value.state in
-        tail_then rest.value.over rest.value.state rest.events x (subst (λ lines. BlockPasses rest.value.over game.db p d
+        tail_then rest.value.over rest.value.state rest.events x (subst (λ lines. BlockPasses
+        rest.value.over game.db p d
         (calls_of lines) (scope (pos 2)) x.after noun rest.value.state rest.events
         (length g.tail * (line_steps game.db + 2))) tail_is
         (tail_does game p rows noun d room (scope (pos 2)) g.tail there.tail t.value.state x.after

@@ -1,14 +1,13 @@
 -- Groups and their lines, as they stand in a database.
-use Rattle.std.proofs.Common.{◌≡◌, ◌∙◌, arith, ℕ, zero, suc, ◌+◌, ◌<◌, ◌==◌, ◌&&◌, Bool, true, false, not, cond, if◌then◌else◌, List, [], ◌∷◌, map, filter, drop, length, refl, sym, ap, ap₂, subst, true≢false}
+use Rattle.std.proofs.Common.{◌≡◌, ◌∙◌, arith, ℕ, zero, suc, ◌+◌, ◌<◌, ◌==◌, ◌&&◌, Bool, true, false, not, cond, if◌then◌else◌, List, [], ◌∷◌, map, filter, drop, length, refl, sym, ap, ap₂}
 use Rattle.std.specs.Prelude.{slice_index_or}
 use Rattle.std.specs.List.{AllByRecursion, list_all}
-use Rattle.inform_tree.specs.Programs.{DirectiveTree, Routine}
+use Rattle.inform_tree.specs.Programs.{Routine}
 use Rattle.scott_types.specs.declared.parts.Action.{Action}
 use Rattle.scott_types.specs.Database.{Database, action_at}
 use Rattle.scott_types.specs.Action.{is_zero, is_zero_action}
-use Rattle.scott_rules.specs.Actions.{goes_on_after}
-use Rattle.scott_rules.specs.Groups.{Group, tail_of, groups_of, groups}
-use Rattle.trans_rows.specs.Lines.{tail_lines, group_parts, group_routine}
+use Rattle.scott_rules.specs.Groups.{Group, tail_of, groups_of}
+use Rattle.trans_rows.specs.Lines.{group_routine}
 use Rattle.trans_rows.specs.ActionRows.{HasLineRoutine}
 use Rattle.trans_groups.specs.Directives.{group_directives, tried_from, routine_of_head, heads_from}
 

@@ -1,8 +1,8 @@
 -- Lines that are called one after the other, each whatever the others did, until the game is over.
-use Rattle.std.proofs.Common.{◌≡◌, ◌∙◌, arith, ℕ, suc, ◌+◌, ◌*◌, ◌<◌, ◌≤◌, ℤ, pos, Bool, true, false, not, cond, List, [], ◌∷◌, ◌++◌, map, length, Option, Some, None, refl, sym, ap, subst, append_assoc}
+use Rattle.std.proofs.Common.{◌≡◌, ◌∙◌, arith, ℕ, suc, ◌+◌, ◌*◌, ◌<◌, ◌≤◌, ℤ, Bool, true, false, not, cond, List, [], ◌∷◌, ◌++◌, map, length, Option, Some, None, refl, sym, ap, subst, append_assoc}
 use Rattle.std.specs.List.{AllByRecursion}
 use Rattle.adv_io.specs.Steps.{Step, Traced, traced}
-use Rattle.inform_tree.specs.Statements.{Statement, Statements, statements}
+use Rattle.inform_tree.specs.Statements.{Statements, statements}
 use Rattle.inform_meaning.specs.Worlds.{Program, Scope}
 use Rattle.inform_meaning.specs.Frames.{Normal}
 use Rattle.inform_logic.specs.Stages.{Stage}
@@ -24,7 +24,7 @@ use Rattle.trans_rows.specs.Standing.{StandsFor}
 use Rattle.trans_rows.specs.Steps.{line_steps}
 use Rattle.trans_rows.specs.Names.{line_name}
 use Rattle.trans_rows.specs.Lines.{call_statement}
-use Rattle.trans_rows.specs.Calls.{StageLeft, CallLeaves, CallEndsGame}
+use Rattle.trans_rows.specs.Calls.{StageLeft, CallLeaves}
 use Rattle.trans_rows.specs.ActionRows.{LineOutcome, line_room, LineRow}
 use Rattle.trans_rows.proofs.Left.{nothing_left, left_then}
 use Rattle.trans_rows.proofs.Acts.{BlockEndsGame}
@@ -95,7 +95,8 @@ module _ {db : Database} {p : Program} {d : ℕ} {noun : List ℕ} {scope : Scop
       record { acts = by over r.acts } where
         by : (over : Option ℕ)
             → BlockPassesBy over db p d (calls_of ks) scope x.after noun s rest m
-            → BlockPassesBy over db p d (calls_of (k ∷ ks)) scope w noun s (first ++ rest) (n + 2 + m)
+            → BlockPassesBy over db p d (calls_of (k ∷ ks)) scope w noun s (first ++ rest) (n + 2 +
+            m)
         by None r = record {
           after = r.after;
           runs = within (omega arith) (next (call_alone (called x.does)) r.runs);
@@ -152,7 +153,8 @@ module _ (game : Game) (p : Program) (rows : LineRow game p) (noun : List ℕ) (
   pub tail_does : (ks : List ℕ) → AllByRecursion (λ k. k < length game.db.actions) ks
       → (s : State) (w : Stage) → StandsFor game.db s noun w
       → let t = tail_tried game noun ks s in
-      BlockPasses t.value.over game.db p d (calls_of (tried_of game.db ks)) scope w noun t.value.state
+      BlockPasses t.value.over game.db p d (calls_of (tried_of game.db ks)) scope w noun
+      t.value.state
       t.events (length ks * (line_steps game.db + 2))
   tail_does [] there s w stands =
       record {
@@ -166,7 +168,8 @@ module _ (game : Game) (p : Program) (rows : LineRow game p) (noun : List ℕ) (
             (omega arith)
 
         by : (zeros : Bool) → is_zero_action (action_at game.db k) ≡ zeros
-            → ((s : State) (w : Stage) → StandsFor game.db s noun w → LinesDo ks (tried_of game.db ks)
+            → ((s : State) (w : Stage) → StandsFor game.db s noun w → LinesDo ks (tried_of game.db
+            ks)
             s w (length ks * (line_steps game.db + 2)))
             → FirstDoes ks (cond (not zeros) (k ∷ tried_of game.db ks) (tried_of game.db ks)) w
             (suc (length ks) * (line_steps game.db + 2)) (try_action game noun k s)

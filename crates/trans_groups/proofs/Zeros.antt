@@ -1,5 +1,5 @@
 -- A line of zeros does nothing, and what a line that passes says of the lines after it.
-use Rattle.std.proofs.Common.{◌≡◌, ◌∙◌, arith, ℕ, ◌/◌, ◌%◌, Bool, true, false, not, cond, ◌&&◌, ◌||◌, if◌then◌else◌, List, [], ◌∷◌, map, filter, flat_map, Option, Some, None, refl, sym, ap, ap₂, subst}
+use Rattle.std.proofs.Common.{◌≡◌, ◌∙◌, arith, ℕ, ◌/◌, ◌%◌, Bool, true, false, not, cond, ◌&&◌, ◌||◌, if◌then◌else◌, List, [], ◌∷◌, map, flat_map, Option, Some, None, refl, sym, ap, ap₂, subst}
 use Rattle.std.specs.List.{list_all, list_any}
 use Rattle.std.proofs.lemmas.Bool.{and_parts}
 use Rattle.adv_io.specs.Steps.{Noted, after, as_steps, traced}
@@ -41,7 +41,8 @@ module _ (game : Game) (noun : List ℕ) where
   nothing_done [] h params s = refl
   nothing_done (pair ∷ pairs) h params s =
       let parts = and_parts (is_zero pair) (list_all is_zero pairs) h in
-      subst (λ n. run_opcodes game noun (map opcode_of (n / 150 ∷ n % 150 ∷ numbers_of pairs)) params
+      subst (λ n. run_opcodes game noun (map opcode_of (n / 150 ∷ n % 150 ∷ numbers_of pairs))
+      params
       s ≡ traced [] (goes_on s)) (sym (zero_is pair parts.0))
       (ap (λ t. after [] (after [] t)) (nothing_done pairs parts.1 _ s))
 

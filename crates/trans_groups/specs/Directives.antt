@@ -1,7 +1,6 @@
 -- The routines of the groups of a game.
 use Rattle.std.specs.Prelude.{ℕ, ◌+◌, ◌==◌, List, [], ◌∷◌, map, if◌then◌else◌}
-use Rattle.inform_tree.specs.Statements as s
-use Rattle.inform_tree.specs.Statements.{Statement, statements}
+use Rattle.inform_tree.specs.Statements.{statements}
 use Rattle.inform_tree.specs.Programs.{RoutineTree, DirectiveTree, Routine}
 use Rattle.scott_types.specs.declared.parts.Action.{Action}
 use Rattle.scott_types.specs.Database.{Database}

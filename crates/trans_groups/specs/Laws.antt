@@ -1,4 +1,5 @@
--- What the routines of groups owe.
+-- What the routines of groups and the automatic step owe.
+use Rattle.std.specs.Prelude.{codes}
 use Rattle.std.specs.List.{AllByRecursion}
 use Rattle.inform_tree.specs.declared.widths.Width.{Width}
 use Rattle.inform_meaning.specs.Worlds.{Program}
@@ -8,8 +9,10 @@ use Rattle.scott_types.specs.Style.{in_style}
 use Rattle.scott_rules.specs.Groups.{groups}
 use Rattle.trans_rows.specs.Programs.{Serves}
 use Rattle.trans_rows.specs.ActionRows.{LineRow}
+use Rattle.trans_rows.specs.AutomaticRows.{AutomaticRow}
 use Rattle.trans_rows.specs.Owed.{Translates}
 use Rattle.trans_groups.specs.Directives.{group_directives}
+use Rattle.trans_groups.specs.Automatic.{automatic_directives}
 use Rattle.trans_groups.specs.Rows.{GroupRow}
 
 -- Where a program has the routines of groups, and each line does what it owes, so does each group.
@@ -17,3 +20,10 @@ abbrev pub GroupsOwe : Type 0
 GroupsOwe = (style : Style) (width : Width) (db : Database) (p : Program) → Translates width db
     → Serves width (group_directives db) p → LineRow (in_style style db) p
     → AllByRecursion (GroupRow (in_style style db) p) (groups db)
+
+-- Where a program has the automatic step, and each group does what it owes, so does the step.
+abbrev pub AutomaticOwes : Type 0
+AutomaticOwes = (style : Style) (width : Width) (db : Database) (p : Program)
+    → Serves width (automatic_directives db) p
+    → AllByRecursion (GroupRow (in_style style db) p) (groups db)
+    → AutomaticRow (in_style style db) p (codes "automatic")

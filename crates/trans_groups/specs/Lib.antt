@@ -1,3 +1,4 @@
 pub mod Directives
+pub mod Automatic
 pub mod Rows
 pub mod Laws

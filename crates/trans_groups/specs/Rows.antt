@@ -1,6 +1,6 @@
 -- What the routine of a group owes.
 use Rattle.std.specs.Prelude.{ℕ, ◌+◌, ◌*◌, ◌≤◌, pos, List, [], length}
-use Rattle.adv_io.specs.Steps.{Step, Traced}
+use Rattle.adv_io.specs.Steps.{Step}
 use Rattle.inform_meaning.specs.Worlds.{Program}
 use Rattle.inform_logic.specs.Stages.{Stage}
 use Rattle.scott_types.specs.declared.states.State.{State}
@@ -8,7 +8,6 @@ use Rattle.scott_types.specs.declared.endings.Ran.{Ran}
 use Rattle.scott_types.specs.declared.endings.Ran.TheVariants.{Not, Passed, Over}
 use Rattle.scott_types.specs.Database.{Database}
 use Rattle.scott_types.specs.Style.{Game}
-use Rattle.scott_rules.specs.Actions.{ActionOutcome}
 use Rattle.scott_rules.specs.Groups.{Group, group_tried}
 use Rattle.trans_rows.specs.Standing.{StandsFor}
 use Rattle.trans_rows.specs.Steps.{line_steps}
