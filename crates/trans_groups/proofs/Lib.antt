@@ -5,4 +5,7 @@ pub mod GroupRuns
 pub mod Counted
 pub mod Steps
 pub mod Drawn
+pub mod Tried
+pub mod Chosen
+pub mod Searched
 pub mod Owed

@@ -1,4 +1,4 @@
--- What the routines of groups and the automatic step owe.
+-- What the routines of groups, the automatic step and the search owe.
 use Rattle.std.specs.Prelude.{codes}
 use Rattle.std.specs.List.{AllByRecursion}
 use Rattle.inform_tree.specs.declared.widths.Width.{Width}
@@ -9,10 +9,12 @@ use Rattle.scott_types.specs.Style.{in_style}
 use Rattle.scott_rules.specs.Groups.{groups}
 use Rattle.trans_rows.specs.Programs.{Serves}
 use Rattle.trans_rows.specs.ActionRows.{LineRow}
+use Rattle.trans_rows.specs.CommandRows.{SearchRow}
 use Rattle.trans_rows.specs.AutomaticRows.{AutomaticRow}
 use Rattle.trans_rows.specs.Owed.{Translates}
 use Rattle.trans_groups.specs.Directives.{group_directives}
 use Rattle.trans_groups.specs.Automatic.{automatic_directives}
+use Rattle.trans_groups.specs.Search.{search_directives}
 use Rattle.trans_groups.specs.Rows.{GroupRow}
 
 -- Where a program has the routines of groups, and each line does what it owes, so does each group.
@@ -27,3 +29,10 @@ AutomaticOwes = (style : Style) (width : Width) (db : Database) (p : Program)
     → Serves width (automatic_directives db) p
     → AllByRecursion (GroupRow (in_style style db) p) (groups db)
     → AutomaticRow (in_style style db) p (codes "automatic")
+
+-- Where a program has the search, and each group does what it owes, so does the search.
+abbrev pub SearchOwes : Type 0
+SearchOwes = (style : Style) (width : Width) (db : Database) (p : Program) → Translates width db
+    → Serves width (search_directives db) p
+    → AllByRecursion (GroupRow (in_style style db) p) (groups db)
+    → SearchRow (in_style style db) p (codes "search")

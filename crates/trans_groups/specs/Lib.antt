@@ -1,4 +1,5 @@
 pub mod Directives
 pub mod Automatic
+pub mod Search
 pub mod Rows
 pub mod Laws

@@ -1,5 +1,7 @@
 //! What the routines owe. Each law is the contract of a function that does nothing else.
-ghost use Rattle.trans_groups.specs.Laws.{GroupsOwe, AutomaticOwes};
+ghost use Rattle.trans_groups.specs.Laws.{GroupsOwe, AutomaticOwes, SearchOwes};
+
+use trans_rows::laws::{lines_have_words, numbers_are_their_words};
 
 /// Where a program has the routines of groups, and each line does what it owes, so does each group.
 pub fn groups_owe()
@@ -10,3 +12,11 @@ pub fn groups_owe()
 pub fn automatic_owes()
     ensures { AutomaticOwes }
 {}
+
+/// Where a program has the search, and each group does what it owes, so does the search.
+pub fn search_owes()
+    ensures { SearchOwes }
+{
+    numbers_are_their_words();
+    lines_have_words();
+}

@@ -1,13 +1,15 @@
 //! The groups of a translated game: a routine for each head, which tries its line and its tail, and
-//! the automatic step, which calls those of verb 0.
+//! the automatic step and the search, which call them.
 #![tactic(auto)]
 
-// The routines of groups, and the automatic step.
+// The routines of groups, the automatic step and the search.
 mod emitting;
+mod searching;
 mod stepping;
 
 // What they owe.
 pub mod laws;
 
 pub use emitting::groups;
+pub use searching::search;
 pub use stepping::automatic;
