@@ -30,6 +30,15 @@ fn empty_text(alloc: Global) -> Text {
     Text::of(Vec::new(alloc))
 }
 
+// An empty comment for each line.
+fn comments<R: Abort + AllocGlobal>(rt: &R, actions: &[Action]) -> Vec<Text> {
+    let mut comments = Vec::new(rt.alloc());
+    for _ in actions {
+        comments.push(empty_text(rt.alloc())).expect(rt, "memory");
+    }
+    comments
+}
+
 // These lines, one entry in each other list, and each text empty.
 fn parts<R: Abort + AllocGlobal>(rt: &R, actions: &[Action]) -> Parts {
     let alloc = rt.alloc();
@@ -52,7 +61,7 @@ fn parts<R: Abort + AllocGlobal>(rt: &R, actions: &[Action]) -> Parts {
         rooms: vec![in alloc; room].expect(rt, "memory"),
         messages: vec![in alloc; empty_text(alloc)].expect(rt, "memory"),
         items: vec![in alloc; item].expect(rt, "memory"),
-        comments: vec![in alloc; empty_text(alloc)].expect(rt, "memory"),
+        comments: comments(rt, actions),
         trailer: TRAILER,
     }
 }

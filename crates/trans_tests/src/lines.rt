@@ -1,10 +1,11 @@
-//! Lines: the routine of each, and the routines that it calls.
+//! Lines: the routine of each and those that it calls, their groups, and what calls these.
 use super::games::with_lines;
 use super::sizes::sizes;
 use crate::expect;
-use scott_types::{Action, Style};
+use scott_types::{Action, Db, Style};
 use std::process::Abort;
 use trans_actions::actions;
+use trans_groups::{automatic, groups, search};
 
 // The conditions of a line and its pairs of opcodes, and the statements of each routine that it
 // brings, its own last.
@@ -38,4 +39,47 @@ fn lines_are_made(rt: HostRuntime) {
         let made = actions(rt.alloc(), &db, Style::plain()).expect(&rt, "memory");
         expect!(rt; sizes(&rt, &made).as_slice() == *want);
     }
+}
+
+// Lines by their verb and noun and the first pair of opcodes: a head of verb 1 that goes on, with a
+// tail; one that doesn't; an automatic one, whose tail is a line of zeros; and one of verb 1 again.
+const HEADS: &[(u32, u32)] = &[
+    (150, 73 * 150),
+    (0, 54 * 150),
+    (305, 54 * 150),
+    (30, 73 * 150),
+    (0, 0),
+    (151, 54 * 150),
+];
+
+// The statements of the routine of each head.
+const GROUPS: &[usize] = &[3, 1, 1, 1];
+
+// The database with these lines.
+fn heads<R: Abort + AllocGlobal>(rt: &R) -> Db {
+    let mut lines = Vec::new(rt.alloc());
+    for (vocab, pair) in HEADS {
+        let action = Action {
+            vocab: *vocab,
+            conds: [0; 5],
+            pairs: [*pair, 0],
+        };
+        lines.push(action).expect(rt, "memory");
+    }
+    with_lines(rt, &lines)
+}
+
+#[test]
+fn groups_are_made(rt: HostRuntime) {
+    let made = groups(rt.alloc(), &heads(&rt)).expect(&rt, "memory");
+    expect!(rt; sizes(&rt, &made).as_slice() == GROUPS);
+}
+
+#[test]
+fn callers_of_groups_are_made(rt: HostRuntime) {
+    let db = heads(&rt);
+    let made = automatic(rt.alloc(), &db).expect(&rt, "memory");
+    expect!(rt; sizes(&rt, &made).as_slice() == [2].as_slice());
+    let made = search(rt.alloc(), &db).expect(&rt, "memory");
+    expect!(rt; sizes(&rt, &made).as_slice() == [2].as_slice());
 }
