@@ -8,4 +8,6 @@ pub mod Drawn
 pub mod Tried
 pub mod Chosen
 pub mod Searched
+pub mod Called
+pub mod CalledOnce
 pub mod Owed

@@ -1,20 +1,24 @@
 -- What the routines of groups, the automatic step and the search owe.
-use Rattle.std.specs.Prelude.{codes}
+use Rattle.std.specs.Prelude.{◌≡◌, ℕ, List, codes}
 use Rattle.std.specs.List.{AllByRecursion}
 use Rattle.inform_tree.specs.declared.widths.Width.{Width}
 use Rattle.inform_meaning.specs.Worlds.{Program}
 use Rattle.scott_types.specs.declared.styles.Style.{Style}
 use Rattle.scott_types.specs.Database.{Database}
+use Rattle.scott_types.specs.Limits.{KeepsLimits}
 use Rattle.scott_types.specs.Style.{in_style}
-use Rattle.scott_rules.specs.Groups.{groups}
+use Rattle.scott_rules.specs.Groups.{Group, groups}
+use Rattle.trans_rows.specs.Names.{group_name, line_name}
 use Rattle.trans_rows.specs.Programs.{Serves}
+use Rattle.trans_rows.specs.Shaped.{IsIn, routine_calls, program_calls}
 use Rattle.trans_rows.specs.ActionRows.{LineRow}
 use Rattle.trans_rows.specs.CommandRows.{SearchRow}
 use Rattle.trans_rows.specs.AutomaticRows.{AutomaticRow}
 use Rattle.trans_rows.specs.Owed.{Translates}
 use Rattle.trans_groups.specs.Directives.{group_directives}
-use Rattle.trans_groups.specs.Automatic.{automatic_directives}
-use Rattle.trans_groups.specs.Search.{search_directives}
+use Rattle.trans_groups.specs.Automatic.{automatic_routine, automatic_directives}
+use Rattle.trans_groups.specs.Search.{search_routine, search_directives}
+use Rattle.trans_groups.specs.Trying.{trying_directives}
 use Rattle.trans_groups.specs.Rows.{GroupRow}
 
 -- Where a program has the routines of groups, and each line does what it owes, so does each group.
@@ -36,3 +40,14 @@ SearchOwes = (style : Style) (width : Width) (db : Database) (p : Program) → T
     → Serves width (search_directives db) p
     → AllByRecursion (GroupRow (in_style style db) p) (groups db)
     → SearchRow (in_style style db) p (codes "search")
+
+-- Neither the search nor the automatic step calls a line.
+abbrev pub LinesAreNotCalled : Type 0
+LinesAreNotCalled = (gs : List Group) (k : ℕ)
+    → (routine_calls (line_name k) (search_routine gs) ≡ 0)
+    × (routine_calls (line_name k) (automatic_routine gs) ≡ 0)
+
+-- Each group is called at one place of the search, the automatic step and the groups.
+abbrev pub GroupsAreCalledOnce : Type 0
+GroupsAreCalledOnce = (db : Database) → KeepsLimits db → (g : Group) → IsIn g (groups db)
+    → program_calls (group_name g.head) (trying_directives db) ≡ 1

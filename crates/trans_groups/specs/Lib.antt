@@ -1,5 +1,6 @@
 pub mod Directives
 pub mod Automatic
 pub mod Search
+pub mod Trying
 pub mod Rows
 pub mod Laws

@@ -1,5 +1,5 @@
 //! What the routines owe. Each law is the contract of a function that does nothing else.
-ghost use Rattle.trans_groups.specs.Laws.{GroupsOwe, AutomaticOwes, SearchOwes};
+ghost use Rattle.trans_groups.specs.Laws.{GroupsOwe, AutomaticOwes, SearchOwes, LinesAreNotCalled, GroupsAreCalledOnce};
 
 use trans_rows::laws::{lines_have_words, numbers_are_their_words};
 
@@ -20,3 +20,13 @@ pub fn search_owes()
     numbers_are_their_words();
     lines_have_words();
 }
+
+/// Neither the search nor the automatic step calls a line.
+pub fn lines_are_not_called()
+    ensures { LinesAreNotCalled }
+{}
+
+/// Each group is called at one place: in the automatic step, or in the case of its verb.
+pub fn groups_are_called_once()
+    ensures { GroupsAreCalledOnce }
+{}
