@@ -18,3 +18,4 @@ pub mod Light
 pub mod Owed
 pub mod FineLists
 pub mod Formed
+pub mod Demanded

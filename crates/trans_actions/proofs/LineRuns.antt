@@ -211,7 +211,7 @@ both_each P Q R by [] h k = tt
 both_each P Q R by (x ∷ xs) h k = (by x h.0 k.0, both_each P Q R by xs h.1 k.1)
 
 -- what holds of each element holds of those that pass
-of_filtered : {X Y : Type 0} (P : Y → Type 0) (f : X → Y) (test : X → Bool) (xs : List X)
+pub of_filtered : {X Y : Type 0} (P : Y → Type 0) (f : X → Y) (test : X → Bool) (xs : List X)
     → AllByRecursion (λ x. P (f x)) xs → AllByRecursion P (map f (filter test xs))
 of_filtered P f test [] h = tt
 of_filtered {X} {Y} P f test (x ∷ xs) h = by (test x) (of_filtered P f test xs h.1) where

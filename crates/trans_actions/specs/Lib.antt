@@ -2,3 +2,4 @@ pub mod Names
 pub mod Helpers
 pub mod Directives
 pub mod Laws
+pub mod Demands

@@ -1,5 +1,6 @@
 //! What the routines of lines owe. Each law is the contract of a function that does nothing else.
 ghost use Rattle.trans_actions.specs.Laws.{LinesOwe, ActionsFormed};
+ghost use Rattle.trans_actions.specs.Demands.{LinesDemand};
 
 use scott_rules::laws::opcode_fits;
 use trans_rows::laws::{
@@ -23,3 +24,11 @@ pub fn lines_owe()
 pub fn actions_are_formed()
     ensures { ActionsFormed }
 {}
+
+/// Where numbers that are words pass, and the calls of messages and of the routines that lines use,
+/// so does all that a line demands.
+pub fn lines_demand()
+    ensures { LinesDemand }
+{
+    lines_have_words();
+}
