@@ -10,4 +10,5 @@ pub mod Chosen
 pub mod Searched
 pub mod Called
 pub mod CalledOnce
+pub mod Formed
 pub mod Owed

@@ -1,4 +1,4 @@
--- All that groups owe.
+-- All that groups owe, and what all of these routines owe.
 use Rattle.std.proofs.Common.{◌≡◌, ℕ, List, [], ◌∷◌, map, refl}
 use Rattle.std.specs.List.{AllByRecursion}
 use Rattle.inform_tree.specs.Programs.{Routine}
@@ -11,7 +11,7 @@ use Rattle.trans_rows.specs.Names.{group_name, line_number}
 use Rattle.trans_rows.specs.Lines.{group_routine}
 use Rattle.trans_rows.specs.ActionRows.{LineRow}
 use Rattle.trans_groups.specs.Rows.{GroupRow}
-use Rattle.trans_groups.specs.Laws.{GroupsOwe}
+use Rattle.trans_groups.specs.Laws.{GroupsOwe, AutomaticOwes, SearchOwes, TryingOwes}
 use Rattle.trans_groups.proofs.Heads.{GroupStands, groups_stand}
 use Rattle.trans_groups.proofs.GroupRuns.{group_row}
 
@@ -29,3 +29,23 @@ module _ (game : Game) (p : Program) (rows : LineRow game p)
 pub groups_owe : GroupsOwe
 groups_owe style width db p translates serves rows = rows_of (in_style style db) p rows
     serves.notes_lines (groups db) (groups_stand db 0 db.actions refl) serves.holds
+
+pub trying_owes : GroupsOwe → AutomaticOwes → SearchOwes → TryingOwes
+trying_owes groups automatic search style width db p translates serves rows =
+    let each = groups style width db p translates (record {
+      width_is = serves.width_is;
+      holds = serves.holds.1.1;
+      notes_lines = serves.notes_lines;
+    }) rows in record {
+      each_group = each;
+      automatic = automatic style width db p (record {
+        width_is = serves.width_is;
+        holds = (serves.holds.1.0, tt);
+        notes_lines = serves.notes_lines;
+      }) each;
+      search = search style width db p translates (record {
+        width_is = serves.width_is;
+        holds = (serves.holds.0, tt);
+        notes_lines = serves.notes_lines;
+      }) each;
+    }

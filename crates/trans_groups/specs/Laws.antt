@@ -1,12 +1,13 @@
 -- What the routines of groups, the automatic step and the search owe.
-use Rattle.std.specs.Prelude.{◌≡◌, ℕ, List, codes}
+use Rattle.std.specs.Prelude.{◌≡◌, ℕ, true, List, codes}
 use Rattle.std.specs.List.{AllByRecursion}
 use Rattle.inform_tree.specs.declared.widths.Width.{Width}
+use Rattle.inform_tree.specs.Formed.{is_well_formed}
 use Rattle.inform_meaning.specs.Worlds.{Program}
 use Rattle.scott_types.specs.declared.styles.Style.{Style}
 use Rattle.scott_types.specs.Database.{Database}
 use Rattle.scott_types.specs.Limits.{KeepsLimits}
-use Rattle.scott_types.specs.Style.{in_style}
+use Rattle.scott_types.specs.Style.{Game, in_style}
 use Rattle.scott_rules.specs.Groups.{Group, groups}
 use Rattle.trans_rows.specs.Names.{group_name, line_name}
 use Rattle.trans_rows.specs.Programs.{Serves}
@@ -41,6 +42,18 @@ SearchOwes = (style : Style) (width : Width) (db : Database) (p : Program) → T
     → AllByRecursion (GroupRow (in_style style db) p) (groups db)
     → SearchRow (in_style style db) p (codes "search")
 
+-- what all of them owe
+pub record TryingRows (game : Game) (p : Program) : Type 0 where
+  pub each_group : AllByRecursion (GroupRow game p) (groups game.db)
+  pub automatic : AutomaticRow game p (codes "automatic")
+  pub search : SearchRow game p (codes "search")
+
+-- Where a program has all of these routines, and each line does what it owes, so do they.
+abbrev pub TryingOwes : Type 0
+TryingOwes = (style : Style) (width : Width) (db : Database) (p : Program) → Translates width db
+    → Serves width (trying_directives db) p → LineRow (in_style style db) p
+    → TryingRows (in_style style db) p
+
 -- Neither the search nor the automatic step calls a line.
 abbrev pub LinesAreNotCalled : Type 0
 LinesAreNotCalled = (gs : List Group) (k : ℕ)
@@ -51,3 +64,7 @@ LinesAreNotCalled = (gs : List Group) (k : ℕ)
 abbrev pub GroupsAreCalledOnce : Type 0
 GroupsAreCalledOnce = (db : Database) → KeepsLimits db → (g : Group) → IsIn g (groups db)
     → program_calls (group_name g.head) (trying_directives db) ≡ 1
+
+-- All of these routines are well formed.
+abbrev pub TryingFormed : Type 0
+TryingFormed = (db : Database) → KeepsLimits db → is_well_formed (trying_directives db) ≡ true

@@ -1,5 +1,5 @@
 //! What the routines owe. Each law is the contract of a function that does nothing else.
-ghost use Rattle.trans_groups.specs.Laws.{GroupsOwe, AutomaticOwes, SearchOwes, LinesAreNotCalled, GroupsAreCalledOnce};
+ghost use Rattle.trans_groups.specs.Laws.{GroupsOwe, AutomaticOwes, SearchOwes, TryingOwes, LinesAreNotCalled, GroupsAreCalledOnce, TryingFormed};
 
 use trans_rows::laws::{lines_have_words, numbers_are_their_words};
 
@@ -21,6 +21,15 @@ pub fn search_owes()
     lines_have_words();
 }
 
+/// Where a program has all of these routines, and each line does what it owes, so do they.
+pub fn trying_owes()
+    ensures { TryingOwes }
+{
+    groups_owe();
+    automatic_owes();
+    search_owes();
+}
+
 /// Neither the search nor the automatic step calls a line.
 pub fn lines_are_not_called()
     ensures { LinesAreNotCalled }
@@ -29,4 +38,9 @@ pub fn lines_are_not_called()
 /// Each group is called at one place: in the automatic step, or in the case of its verb.
 pub fn groups_are_called_once()
     ensures { GroupsAreCalledOnce }
+{}
+
+/// All of these routines are well formed.
+pub fn trying_is_formed()
+    ensures { TryingFormed }
 {}

@@ -2,10 +2,11 @@
 //! the automatic step and the search, which call them.
 #![tactic(auto)]
 
-// The routines of groups, the automatic step and the search.
+// The routines of groups, the automatic step and the search, and all of them.
 mod emitting;
 mod searching;
 mod stepping;
+mod trying;
 
 // What they owe.
 pub mod laws;
@@ -13,3 +14,4 @@ pub mod laws;
 pub use emitting::groups;
 pub use searching::search;
 pub use stepping::automatic;
+pub use trying::groups_tried;
