@@ -1,5 +1,5 @@
 -- The heads of a verb are tried in order, up to the first that passes.
-use Rattle.std.proofs.Common.{◌≡◌, ◌∙◌, arith, ℕ, ◌+◌, ◌==◌, ◌<◌, ◌≤◌, ◌%◌, pos, nat_eq, Bool, true, false, not, ◌&&◌, ◌||◌, if◌then◌else◌, List, [], ◌∷◌, ◌++◌, codes, Option, Some, None, refl, sym, ap, append_assoc, true≢false}
+use Rattle.std.proofs.Common.{◌≡◌, ◌∙◌, arith, ℕ, ◌+◌, ◌==◌, ◌<◌, ◌≤◌, ◌%◌, pos, nat_eq, Bool, true, false, not, ◌&&◌, ◌||◌, if◌then◌else◌, List, [], ◌∷◌, ◌++◌, codes, Option, Some, None, refl, sym, ap, true≢false}
 use Rattle.std.specs.List.{AllByRecursion}
 use Rattle.std.specs.Ordering.{int_eq}
 use Rattle.std.proofs.lemmas.Int.{ints}
@@ -41,6 +41,7 @@ use Rattle.trans_rows.proofs.Acts.{BlockEndsGame}
 use Rattle.trans_groups.specs.Rows.{CallRan, group_room, group_steps, GroupRow}
 use Rattle.trans_groups.specs.Search.{group_tries, for_noun, verb_tries}
 use Rattle.trans_groups.proofs.Counted.{tries_steps}
+use Rattle.trans_groups.proofs.Steps.{past_of}
 
 -- the scope of the search, with a mark
 abbrev pub scope_at : ℕ → ℕ → ℕ → ℕ → Scope
@@ -82,10 +83,6 @@ pub record TriesAct (found : Found) (db : Database) (p : Program) (d : ℕ) (blo
     (scope : ℕ → Scope) (m : ℕ) (w : Stage) (typed : List ℕ) (s : State) (steps : List Step)
     (most : ℕ) : Type 0 where
   pub acts : TriesActBy found db p d block scope m w typed s steps most
-
-past_of : (past : List Step) {mid last : List Step} (a b : List Step) → mid ≡ past ++ a
-    → last ≡ mid ++ b → last ≡ past ++ (a ++ b)
-past_of past a b first rest = rest ∙ ap (λ xs. xs ++ b) first ∙ append_assoc past a b
 
 module _ {db : Database} {p : Program} {d : ℕ} {typed : List ℕ} {scope : ℕ → Scope} where
   -- what comes after something that does nothing
