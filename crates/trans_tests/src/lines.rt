@@ -5,7 +5,7 @@ use crate::expect;
 use scott_types::{Action, Db, Style};
 use std::process::Abort;
 use trans_actions::actions;
-use trans_groups::{automatic, groups, search};
+use trans_groups::{automatic, groups, groups_tried, search};
 
 // The conditions of a line and its pairs of opcodes, and the statements of each routine that it
 // brings, its own last.
@@ -82,4 +82,10 @@ fn callers_of_groups_are_made(rt: HostRuntime) {
     expect!(rt; sizes(&rt, &made).as_slice() == [2].as_slice());
     let made = search(rt.alloc(), &db).expect(&rt, "memory");
     expect!(rt; sizes(&rt, &made).as_slice() == [2].as_slice());
+}
+
+#[test]
+fn all_that_try_groups_are_made(rt: HostRuntime) {
+    let made = groups_tried(rt.alloc(), &heads(&rt)).expect(&rt, "memory");
+    expect!(rt; made.len() == 6);
 }
