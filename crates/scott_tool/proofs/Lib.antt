@@ -9,6 +9,7 @@ pub mod Promised
 pub mod Refusing
 pub mod Working
 pub mod Promises
+pub mod Replaying
 pub mod Hill
 pub mod Playing
 pub mod Programs

@@ -16,7 +16,7 @@ use Rattle.translator.specs.Faithful.{Faithful}
 use Rattle.scott_tool.specs.Refusal.{Refusal, Unfit, no_request, unread, too_long, unfit, unwritten, refusing, translation_status, content_status, status_of}
 use Rattle.scott_tool.specs.Outcome.{File, Outcome, done, keeping, refused, kept, Concludes, Loses, Ends, whole, unsaid, unstored}
 use Rattle.scott_tool.specs.Work.{Task, reporting, storing, playing, translating, running, Does, task_statuses}
-use Rattle.scott_tool.specs.Obeying.{Keeps, IsSteady, Stands, Answers, Leaves, Obeys, Refuses, FailsToStore, Declines}
+use Rattle.scott_tool.specs.Obeying.{Keeps, Stands, Answers, Leaves, Obeys, Refuses, FailsToStore, Declines}
 use Rattle.scott_tool.proofs.Statuses.{IsEnd, first, task_has_0}
 
 whatever : (P : List (List ℕ) → Type 0) → ((lines : List (List ℕ)) → P lines) → (o : Option (List (List ℕ))) → IfSome o P
@@ -83,13 +83,6 @@ said_stays shelf (playing style db draws) status events lines does = refl
 said_stays shelf (translating name style width db) status events lines (out, faithful, e) = absurd (let stored = ap (λ o. o.stored) e in cc)
 said_stays shelf (running width p draws steps) status events lines does = refl
 
--- 3 is none of these
-not_steady : (status : ℕ) → IsSteady status → (status ≡ 3) → ⊥
-not_steady status (inl e) f = omega arith
-not_steady status (inr (inl e)) f = omega arith
-not_steady status (inr (inr (inl e))) f = omega arith
-not_steady status (inr (inr (inr e))) f = omega arith
-
 -- what concludes and stores nothing ends so
 concluded : (shelf : ShelfView) (old new : ConsoleView) (o : Outcome) (status : ℕ) → o.stored ≡ None → Concludes old new o status → Ends shelf shelf old new o status
 concluded shelf old new o status none (inl h) = whole h.0 h.1 (sym (ap (kept shelf.files) none))
@@ -140,7 +133,8 @@ obeys-stored shelf shelf' view task name bytes does files faults = record {
   files = leaves_file shelf shelf' name bytes 0 task does (λ e. files) (inl refl);
   shelf_later = omega arith;
   later = omega arith;
-  steady = λ h. (faults, refl);
+  shelf_stays = inr (inr faults);
+  console_stays = inr refl;
 }
 
 module _ (old new : ConsoleView) (status : ℕ) where
@@ -160,13 +154,6 @@ module _ (old new : ConsoleView) (status : ℕ) where
   refused_not_9 refusal (inl h) e = refusal_not refusal status (inr (inl e)) (sym h.0)
   refused_not_9 refusal (inr h) e = absurd (let f = h.0 in omega arith)
 
-  -- no count rises with a status that isn't that of a refusal
-  pub refused_not_steady : (refusal : Refusal) → Concludes old new (refused refusal) status → IsSteady status → ⊥
-  refused_not_steady refusal ended (inl e) = refused_not_end refusal ended (inl e)
-  refused_not_steady refusal ended (inr (inl e)) = refused_not_end refusal ended (inr (inl e))
-  refused_not_steady refusal ended (inr (inr (inl e))) = refused_not_9 refusal ended e
-  refused_not_steady refusal ended (inr (inr (inr e))) = refused_not_end refusal ended (inr (inr e))
-
   refused_stands : (S : Type 0) (refusal : Refusal) → Concludes old new (refused refusal) status → Stands S (Rose old.faults new.faults) (status_of refusal ∷ []) status
   refused_stands S refusal (inl h) = inl (subst (Contains (status_of refusal ∷ [])) (sym h.0) (first (status_of refusal)))
   refused_stands S refusal (inr h) = inr (inr (inl (h.0, h.1)))
@@ -182,7 +169,8 @@ module _ (old new : ConsoleView) (status : ℕ) where
       files = nothing_done shelf expected status (λ e. let nine = r.ended.0 in omega arith);
       shelf_later = omega arith;
       later = r.later;
-      steady = λ h. (refl, r.steady r.ended.0);
+      shelf_stays = inr (inr refl);
+      console_stays = r.console_stays;
     }
 
     obeys-unfit : (u : Unfit) → Refuses old new (Some (unfit u)) status → Obeys shelf shelf old new (Err (unfit u)) status
@@ -195,7 +183,8 @@ module _ (old new : ConsoleView) (status : ℕ) where
       files = refl;
       shelf_later = omega arith;
       later = r.later;
-      steady = λ h. absurd (refused_not_steady (unfit u) r.ended h);
+      shelf_stays = inr (inr refl);
+      console_stays = r.console_stays;
     }
 
     -- a content was refused
@@ -224,7 +213,8 @@ module _ (old new : ConsoleView) (status : ℕ) where
       files = leaves_file shelf shelf' name bytes status task does (λ e. absurd (refused_not_0 (unwritten name) r.ended e)) (inr (inr loses));
       shelf_later = more;
       later = r.later;
-      steady = λ h. absurd (refused_not_steady (unwritten name) r.ended h);
+      shelf_stays = elim r.ended [ inl h ↦ inl h.0 | inr h ↦ inr (inl h.0) ];
+      console_stays = r.console_stays;
     }
 
     -- memory ran out as it stored
@@ -265,7 +255,8 @@ module _ (old new : ConsoleView) (status : ℕ) where
       files = stays;
       shelf_later = omega arith;
       later = cause.later;
-      steady = λ h. (refl, cause.steady);
+      shelf_stays = inr (inr refl);
+      console_stays = inr cause.steady;
     }
     showed (Err fault) said part cause e = record {
       answered = where_known (λ lines. GrewByPrefix old.history new.history (events lines)) (λ lines. Answers shelf shelf old new lines (Ok task) status)
@@ -276,7 +267,8 @@ module _ (old new : ConsoleView) (status : ℕ) where
       files = stays;
       shelf_later = omega arith;
       later = cause.later;
-      steady = λ h. absurd (not_steady status h e);
+      shelf_stays = inr (inr refl);
+      console_stays = inl e;
     }
 
     pub obeys-shown : {T E : Type 0} (expected : Result Task Unfit) (result : Result T E) → expected ≡ Ok task

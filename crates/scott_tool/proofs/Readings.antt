@@ -1,7 +1,7 @@
 -- What the work of a request says of what was loaded for it.
 use Rattle.std.proofs.Common.{◌≡◌, ◌∙◌, ℕ, List, [], Option, Some, None, Result, Ok, Err, refl, sym, ap, inl, inr}
 use Rattle.std.specs.FinMap.{get}
-use Rattle.std.specs.Prelude.{unwrap_or}
+use Rattle.std.specs.Prelude.{unwrap_or, option_map}
 use Rattle.adv_draws.specs.Listed.{listed_draws}
 use Rattle.adv_io.specs.Shelf.{Files}
 use Rattle.scott_format.specs.Faults.{Fault}
@@ -33,7 +33,7 @@ use Rattle.translator.specs.Refusals.{first_line, refusal_by, too_wide}
 use Rattle.scott_tool.specs.Translate.{translatable_or_unfit, translatable}
 use Rattle.scott_tool.specs.Run.{program_or_unfit, program_of_file, stop_after, stop_status}
 use Rattle.scott_tool.specs.Work.{Task, reporting, storing, playing, translating, running, work, expected}
-use Rattle.scott_tool.specs.Causes.{IsAccepted}
+use Rattle.scott_tool.specs.Causes.{game_of, IsAccepted}
 use Rattle.scott_tool.proofs.Files.{bind-ok, bind-err, there-loaded, loaded-there}
 
 -- ---- why a content is refused
@@ -108,10 +108,19 @@ translatable_unfit name db (Some k) wide u e = by_line k refl (sym (ap status_in
 translatable_unfit name db None (Some placed) u e = by_width placed refl refl (sym (ap status_in e))
 translatable_unfit name db None None u e = absurd cc
 
+-- the file that a request reads as a database is its main file
+pub game_load : (request : Request) (game : List ℕ) → game_of request ≡ Some game → main_of request ≡ Some (database_load game)
+game_load (check name) game is = ap (option_map database_load) is
+game_load (compile source name) game is = absurd cc
+game_load (decompile name source) game is = ap (option_map database_load) is
+game_load (play name source style) game is = ap (option_map database_load) is
+game_load (translate name program style width) game is = ap (option_map database_load) is
+game_load (run name source steps width) game is = absurd cc
+
 -- the content that is refused is that of the database, of the source, of the program, or of the
 -- draws; or the database has a line, or a number that is too wide
 pub data Fails (request : Request) (texts : Texts) (u : Unfit) : Type 0 where
-  bad_database : (load : Load) (fault : Fault) → main_of request ≡ Some load → database_in texts.main ≡ Err fault
+  bad_database : (game : List ℕ) (fault : Fault) → game_of request ≡ Some game → database_in texts.main ≡ Err fault
       → content_status u.fault ≡ 4 → Fails request texts u
   bad_source : (source game : List ℕ) → request ≡ compile source game → IsNoSource texts.main → content_status u.fault ≡ 5 → Fails request texts u
   bad_program : (name : List ℕ) (source : DrawSource) (steps : ℕ) (width : Width) (fault : reader.Fault) → request ≡ run name source steps width
@@ -150,7 +159,7 @@ run_with source bytes width steps p = draws_from source bytes >>= run_of width s
 pub fails : Laws → (request : Request) (texts : Texts) (u : Unfit) → work request texts ≡ Err u → Fails request texts u
 fails laws (check game) texts u e =
     elim (bind-err (database_of_file game texts.main) report_of u e) [
-      | inl d ↦ (let f = database_unfit game (database_in texts.main) u d in bad_database (database_load game) f.0 refl f.1 f.2)
+      | inl d ↦ (let f = database_unfit game (database_in texts.main) u d in bad_database game f.0 refl f.1 f.2)
       | inr d ↦ absurd (let g = d.2 in cc)
     ]
 fails laws (compile source game) texts u e =
@@ -160,12 +169,12 @@ fails laws (compile source game) texts u e =
     ]
 fails laws (decompile game source) texts u e =
     elim (bind-err (database_of_file game texts.main) (store_of source plain) u e) [
-      | inl d ↦ (let f = database_unfit game (database_in texts.main) u d in bad_database (database_load game) f.0 refl f.1 f.2)
+      | inl d ↦ (let f = database_unfit game (database_in texts.main) u d in bad_database game f.0 refl f.1 f.2)
       | inr d ↦ absurd (let g = d.2 in cc)
     ]
 fails laws (play game source style) texts u e =
     elim (bind-err (database_of_file game texts.main) (with_draws source texts.draws style) u e) [
-      | inl d ↦ (let f = database_unfit game (database_in texts.main) u d in bad_database (database_load game) f.0 refl f.1 f.2)
+      | inl d ↦ (let f = database_unfit game (database_in texts.main) u d in bad_database game f.0 refl f.1 f.2)
       | inr d ↦
           elim (bind-err (draws_from source texts.draws) (play_of style d.0) u d.2) [
             | inl r ↦ (let f = draws_unfit source texts.draws u r in bad_draws f.0 f.1 f.2 f.3 f.4)
@@ -174,7 +183,7 @@ fails laws (play game source style) texts u e =
     ]
 fails laws (translate game program style width) texts u e =
     elim (bind-err (database_of_file game texts.main) (translate_with game program style width) u e) [
-      | inl d ↦ (let f = database_unfit game (database_in texts.main) u d in bad_database (database_load game) f.0 refl f.1 f.2)
+      | inl d ↦ (let f = database_unfit game (database_in texts.main) u d in bad_database game f.0 refl f.1 f.2)
       | inr d ↦
           elim (bind-err (translatable game width d.0) (translation_of program style width) u d.2) [
             | inl r ↦

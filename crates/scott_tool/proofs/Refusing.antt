@@ -9,12 +9,12 @@ use Rattle.scott_tool.specs.Refusal.{Refusal, no_request, unread, too_long, unfi
 use Rattle.scott_tool.specs.Outcome.{refused, statuses, Concludes, Ends, whole, unsaid}
 use Rattle.scott_tool.specs.Loading.{IsLoad, texts_of, stores}
 use Rattle.scott_tool.specs.Work.{Task, expected, statuses_of}
-use Rattle.scott_tool.specs.Obeying.{Stands, Answers, Refuses, Misses}
+use Rattle.scott_tool.specs.Obeying.{Stands, Answers, Refuses, Misses, ShelfStays}
 use Rattle.scott_tool.specs.Causes.{OneLoaded, IsTooLong, HasCause}
 use Rattle.scott_tool.specs.Promises.{IfKnown, SaysUnread}
 use Rattle.scott_tool.proofs.Files.{long_one}
 use Rattle.scott_tool.proofs.Statuses.{is_3, is_9, is_known, first, not_end}
-use Rattle.scott_tool.proofs.Obeying.{refusal_not, refused_not_0, refused_not_9, refused_not_end, refused_not_steady}
+use Rattle.scott_tool.proofs.Obeying.{refusal_not, refused_not_0, refused_not_9, refused_not_end}
 use Rattle.scott_tool.specs.Laws.{Laws}
 use Rattle.scott_tool.proofs.Promised.{Promises, for_files, from_files, for_lines, expected-err, name_keeps, complete_from}
 
@@ -112,7 +112,8 @@ module _ (shelf shelf' : ShelfView) (console console' : ConsoleView) (status : �
         counts = record {
           shelf_later = omega arith;
           console_later = r.later;
-          steady = λ h. absurd (refused_not_steady console console' status no_request r.ended h);
+          shelf_stays = inr (inr steady);
+          console_stays = r.console_stays;
         };
       }
 
@@ -150,9 +151,9 @@ module _ (shelf shelf' : ShelfView) (console console' : ConsoleView) (status : �
     Cause = HasCause shelf shelf' console console' (Some request) status
 
     -- a refusal whose cause is known and that says what is seen
-    refused_promised : (laws : Laws) (refusal : Refusal) → shelf'.files ≡ shelf.files → shelf.faults ≤ shelf'.faults
+    refused_promised : (laws : Laws) (refusal : Refusal) → shelf'.files ≡ shelf.files → shelf.faults ≤ shelf'.faults → ShelfStays shelf shelf' status
         → Refuses console console' (Some refusal) status → Cause → AllStands → AllSeen → Promised
-    refused_promised laws refusal same later r cause stands seen = record {
+    refused_promised laws refusal same later stays r cause stands seen = record {
       status_is = record { known = known_refused refusal r.ended; cause = cause; first = stands };
       seen = record { all = seen; usage = λ e. absurd cc; silent = λ e. absurd (refused_not_9 console console' status refusal r.ended e); lines = inr r.lines };
       files = name_keeps shelf shelf' console console' status (stores request) same;
@@ -166,7 +167,8 @@ module _ (shelf shelf' : ShelfView) (console console' : ConsoleView) (status : �
       counts = record {
         shelf_later = later;
         console_later = r.later;
-        steady = λ h. absurd (refused_not_steady console console' status refusal r.ended h);
+        shelf_stays = stays;
+        console_stays = r.console_stays;
       };
     }
 
@@ -234,7 +236,7 @@ module _ (shelf shelf' : ShelfView) (console console' : ConsoleView) (status : �
           played = λ zero game source style e. absurd (omega arith);
           translated = λ zero game program style width e. absurd (omega arith);
           ran = λ end name source steps width e. absurd (not_end status 9 end (λ f. omega arith) (λ f. omega arith) (λ f. omega arith) nine);
-          counts = record { shelf_later = omega arith; console_later = r.later; steady = λ h. (steady, r.steady nine) };
+          counts = record { shelf_later = omega arith; console_later = r.later; shelf_stays = inr (inr steady); console_stays = r.console_stays };
         }
 
     abbrev Missed : Option Refusal → Type 0
@@ -247,22 +249,23 @@ module _ (shelf shelf' : ShelfView) (console console' : ConsoleView) (status : �
     not_loaded_promised laws (Some (unfit u)) missed same later r = absurd missed
     not_loaded_promised laws (Some (unwritten name)) missed same later r = absurd missed
     not_loaded_promised laws (Some (too_long name limit)) missed same later r =
-        refused_promised laws (too_long name limit) same later r
+        refused_promised laws (too_long name limit) same later (inr (inr missed.1)) r
         (long_cause name limit r.ended
         (from_files shelf.files (λ files. texts_of files request ≡ Err (too_long name limit)) (λ files. OneLoaded (Some request) (IsTooLong files))
-        (λ files e. long_one files request name limit e) missed))
-        (stands_at (too_long name limit) r.ended missed) (seen_at same (too_long name limit) r.ended missed)
+        (λ files e. long_one files request name limit e) missed.0))
+        (stands_at (too_long name limit) r.ended missed.0) (seen_at same (too_long name limit) r.ended missed.0)
     not_loaded_promised laws (Some (unread name)) missed same later r =
         let load = missed.0.0 in
         let is = missed.0.2 in
+        let stays : ShelfStays shelf shelf' status = elim r.ended [ inl h ↦ inl h.0 | inr h ↦ inr (inl h.0) ] in
         elim missed.1 [
           | inl lost ↦
-              refused_promised laws (unread name) same later r (unread_cause name r.ended (inl lost))
+              refused_promised laws (unread name) same later stays r (unread_cause name r.ended (inl lost))
               (for_files shelf.files (λ files. Stand (statuses_of (expected files (Some request))))
               (λ files. stand_lost (unread name) r.ended (statuses_of (expected files (Some request))) refl lost))
               (seen_by (λ files lines. inr (lost, (load, missed.0.1, subst (λ (n : List ℕ). Concludes console console' (refused (unread n)) status) (sym is) r.ended))))
           | inr lacks ↦
-              refused_promised laws (unread name) same later r
+              refused_promised laws (unread name) same later stays r
               (unread_cause name r.ended (inr (load, missed.0.1, subst (λ (n : List ℕ). Lacks shelf.files n) (sym is) lacks.0)))
               (stands_at (unread name) r.ended lacks.1) (seen_at same (unread name) r.ended lacks.1)
         ]

@@ -52,7 +52,8 @@ module _ (shelf : ShelfView) (old new : ConsoleView) (status : ℕ) (width : Wid
     files = refl;
     shelf_later = omega arith;
     later = omega (arith, same);
-    steady = λ h. (refl, same);
+    shelf_stays = inr (inr refl);
+    console_stays = inr same;
   }
 
   -- the console failed
@@ -67,7 +68,8 @@ module _ (shelf : ShelfView) (old new : ConsoleView) (status : ℕ) (width : Wid
     files = refl;
     shelf_later = omega arith;
     later = later;
-    steady = λ h. absurd (elim h [ inl e ↦ omega arith | inr (inl e) ↦ omega arith | inr (inr (inl e)) ↦ omega arith | inr (inr (inr e)) ↦ omega arith ]);
+    shelf_stays = inr (inr refl);
+    console_stays = inl three;
   }
 
   -- ---- a run, and then its line

@@ -38,13 +38,13 @@ use Rattle.inform_tree.specs.declared.widths.Width.{Width}
 use Rattle.inform_tree.specs.Programs.{DirectiveTree}
 use Rattle.inform_reader.specs.Reading as reader
 use Rattle.inform_reader.specs.Reading.{IsFaulty}
-use Rattle.scott_tool.specs.Causes.{MainHas, SourceHas, DrawsHave, HasNoProgram, HasLine, HasWideNumber, RunEnds, HasCause}
+use Rattle.scott_tool.specs.Causes.{game_of, GameHas, SourceHas, DrawsHave, HasNoProgram, HasLine, HasWideNumber, RunEnds, HasCause}
 use Rattle.scott_tool.specs.Promises.{IfKnown, SaysUnread, NameKeeps}
 use Rattle.scott_tool.proofs.Files.{bind-ok, texts-loaded, there-loaded}
 use Rattle.scott_tool.proofs.Statuses.{IsEnd, only, is_2, is_3, is_9, is_content, is_end, task_end, not_end, Tells, of_task, of_fault, of_memory, of_console, of_shelf, tells}
 use Rattle.scott_tool.proofs.Obeying.{refusal_not, refused_not_0, refused_not_end}
 use Rattle.scott_tool.specs.Laws.{Laws}
-use Rattle.scott_tool.proofs.Readings.{Fails, bad_database, bad_source, bad_program, bad_line, bad_width, bad_draws, fails, run_request, translatable_same, main_is, meant_is, program_is, draws_are}
+use Rattle.scott_tool.proofs.Readings.{Fails, bad_database, bad_source, bad_program, bad_line, bad_width, bad_draws, fails, game_load, run_request, translatable_same, main_is, meant_is, program_is, draws_are}
 use Rattle.scott_tool.proofs.Promised.{Promises, from_files, from_lines, expected-ok, complete_from}
 
 module _ (shelf shelf' : ShelfView) (console console' : ConsoleView) (status : ℕ) where
@@ -132,11 +132,17 @@ module _ (shelf shelf' : ShelfView) (console console' : ConsoleView) (status : �
       known_worked (of_console three failed) = subst (Contains statuses) (sym three) is_3
       known_worked (of_shelf two failed) = subst (Contains statuses) (sym two) is_2
 
-      -- the bytes of the main file and of the draws
-      main_has : (P : List ℕ → Type 0) (load : Load) → main_of request ≡ Some load → P texts.main → IfSome shelf.files (λ files. MainHas files (Some request) P)
-      main_has P load is p =
-          from_files shelf.files (λ files. texts_of files request ≡ Ok texts) (λ files. MainHas files (Some request) P)
-          (λ files e. (load, texts.main, is, there-loaded files load texts.main (ap (λ l. loaded files l) (sym is) ∙ (texts-loaded files request texts e).0), p)) there
+      -- the bytes of the database and of the draws
+      game_has : (P : List ℕ → Type 0) (game : List ℕ) → game_of request ≡ Some game → P texts.main → IfSome shelf.files (λ files. GameHas files (Some request) P)
+      game_has P game is p =
+          from_files shelf.files (λ files. texts_of files request ≡ Ok texts) (λ files. GameHas files (Some request) P)
+          (λ files e. (
+            game,
+            texts.main,
+            is,
+            there-loaded files (database_load game) texts.main (ap (λ l. loaded files l) (sym (game_load request game is)) ∙ (texts-loaded files request texts e).0),
+            p,
+          )) there
 
       draws_have : (P : List ℕ → Type 0) (load : Load) → draws_of request ≡ Some load → P texts.draws → IfSome shelf.files (λ files. DrawsHave files (Some request) P)
       draws_have P load is p =
@@ -144,7 +150,7 @@ module _ (shelf shelf' : ShelfView) (console console' : ConsoleView) (status : �
           (λ files e. (load, texts.draws, is, there-loaded files load texts.draws (ap (λ l. loaded files l) (sym is) ∙ (texts-loaded files request texts e).1), p)) there
 
       abbrev NoDatabase : Type 0
-      NoDatabase = IfSome shelf.files (λ files. MainHas files (Some request) (λ bytes. (fault : Fault) × DatFault bytes fault) ⊎ HasLine files (Some request))
+      NoDatabase = IfSome shelf.files (λ files. GameHas files (Some request) (λ bytes. (fault : Fault) × DatFault bytes fault) ⊎ HasLine files (Some request))
 
       abbrev TooWide : Type 0
       TooWide = IfSome shelf.files (λ files. HasWideNumber files (Some request))
@@ -172,9 +178,9 @@ module _ (shelf shelf' : ShelfView) (console console' : ConsoleView) (status : �
           (λ files there. subst (λ (r : Request). HasWideNumber files (Some r)) (sym is) (texts.main, db, placed, there, text, none, wide)) (game_there game program style width is)
 
       database_cause : Laws → (u : Unfit) → Fails request texts u → content_status u.fault ≡ 4 → NoDatabase
-      database_cause laws u (bad_database load fault is reads e) four =
-          from_files shelf.files (λ files. MainHas files (Some request) (λ bytes. (f : Fault) × DatFault bytes f)) _ (λ files h. inl h)
-          (main_has (λ bytes. (f : Fault) × DatFault bytes f) load is (fault, (laws.database_fault texts.main fault).0 reads))
+      database_cause laws u (bad_database game fault is reads e) four =
+          from_files shelf.files (λ files. GameHas files (Some request) (λ bytes. (f : Fault) × DatFault bytes f)) _ (λ files h. inl h)
+          (game_has (λ bytes. (f : Fault) × DatFault bytes f) game is (fault, (laws.database_fault texts.main fault).0 reads))
       database_cause laws u (bad_source source game is why e) four = absurd (omega arith)
       database_cause laws u (bad_program name source steps width fault is why e) four = absurd (omega arith)
       database_cause laws u (bad_line game program style width db k is text line e) four =
@@ -190,7 +196,7 @@ module _ (shelf shelf' : ShelfView) (console console' : ConsoleView) (status : �
           (texts.main, there-loaded files (source_load source) texts.main (ap (λ r. loaded files (main_of r)) (sym is) ∙ (texts-loaded files request texts e).0), why)) there
 
       source_or_draws_cause : (u : Unfit) → Fails request texts u → content_status u.fault ≡ 5 → NoSourceOrDraws
-      source_or_draws_cause u (bad_database load fault is reads e) five = absurd (omega arith)
+      source_or_draws_cause u (bad_database game fault is reads e) five = absurd (omega arith)
       source_or_draws_cause u (bad_source source game is why e) five =
           from_files shelf.files (λ files. SourceHas files (Some request) IsNoSource) _ (λ files h. inl h) (source_has source game is why)
       source_or_draws_cause u (bad_program name source steps width fault is why e) five = absurd (omega arith)
@@ -212,7 +218,7 @@ module _ (shelf shelf' : ShelfView) (console console' : ConsoleView) (status : �
           (texts.main, fault, there-loaded files (program_load name) texts.main (ap (λ r. loaded files (main_of r)) (sym is) ∙ (texts-loaded files request texts e).0), why)) there
 
       program_cause : (u : Unfit) → Fails request texts u → content_status u.fault ≡ 6 → NoProgram
-      program_cause u (bad_database load fault is reads e) six = absurd (omega arith)
+      program_cause u (bad_database game fault is reads e) six = absurd (omega arith)
       program_cause u (bad_source source game is why e) six = absurd (omega arith)
       program_cause u (bad_program name source steps width fault is why e) six = program_has name source steps width fault is why
       program_cause u (bad_line game program style width db k is text line e) six = absurd (omega arith)
@@ -220,7 +226,7 @@ module _ (shelf shelf' : ShelfView) (console console' : ConsoleView) (status : �
       program_cause u (bad_draws load at is lists e) six = absurd (omega arith)
 
       width_cause : (u : Unfit) → Fails request texts u → content_status u.fault ≡ 7 → TooWide
-      width_cause u (bad_database load fault is reads e) seven = absurd (omega arith)
+      width_cause u (bad_database game fault is reads e) seven = absurd (omega arith)
       width_cause u (bad_source source game is why e) seven = absurd (omega arith)
       width_cause u (bad_program name source steps width fault is why e) seven = absurd (omega arith)
       width_cause u (bad_line game program style width db k is text line e) seven = absurd (omega arith)
@@ -228,7 +234,7 @@ module _ (shelf shelf' : ShelfView) (console console' : ConsoleView) (status : �
       width_cause u (bad_draws load at is lists e) seven = absurd (omega arith)
 
       content_is : (u : Unfit) (n : ℕ) → Fails request texts u → status ≡ content_status u.fault → status ≡ n → (n ≡ 4) ⊎ (n ≡ 5) ⊎ (n ≡ 6) ⊎ (n ≡ 7)
-      content_is u n (bad_database load fault is reads e) s f = inl (omega arith)
+      content_is u n (bad_database game fault is reads e) s f = inl (omega arith)
       content_is u n (bad_source source game is why e) s f = inr (inl (omega arith))
       content_is u n (bad_program name source steps width fault is why e) s f = inr (inr (inl (omega arith)))
       content_is u n (bad_line game program style width db k is text line e) s f = inl (omega arith)
@@ -575,5 +581,5 @@ module _ (shelf shelf' : ShelfView) (console console' : ConsoleView) (status : �
             (λ lines. Ran files lines name source steps width console console' status)
             (λ lines h. ran_by laws name source steps width texts files lines (subst (λ (r : Request). texts_of files r ≡ Ok texts) is f) h end)
             (subst O is obeys.answered)) there;
-        counts = record { shelf_later = obeys.shelf_later; console_later = obeys.later; steady = obeys.steady };
+        counts = record { shelf_later = obeys.shelf_later; console_later = obeys.later; shelf_stays = obeys.shelf_stays; console_stays = obeys.console_stays };
       }

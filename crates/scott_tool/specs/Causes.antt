@@ -22,19 +22,27 @@ use Rattle.inform_tree.specs.declared.widths.Width.{Width}
 use Rattle.inform_tree.specs.Programs.{DirectiveTree}
 use Rattle.inform_reader.specs.Reading.{IsProgram, IsFaulty}
 use Rattle.inform_reader.specs.Reading as program
-use Rattle.scott_tool.specs.Loading.{Load, main_of, draws_of, IsLoad, database_load, source_load, draws_load, program_load}
+use Rattle.scott_tool.specs.Loading.{Load, draws_of, IsLoad, database_load, source_load, draws_load, program_load}
 
 -- one of the files that the request loads has this
 abbrev pub OneLoaded : Option Request → (Load → Type 0) → Type 0
 OneLoaded None P = ⊥
 OneLoaded (Some request) P = (load : Load) × IsLoad request load × P load
 
--- the main file that the request loads is there, and its bytes have this
-abbrev pub MainHas : Files → Option Request → (List ℕ → Type 0) → Type 0
-MainHas files None P = ⊥
-MainHas files (Some request) P =
-    (load : Load) × (bytes : List ℕ) × (main_of request ≡ Some load)
-    × (get files load.name ≡ Some bytes) × P bytes
+-- the file that the request reads as a database, if it reads one
+abbrev pub game_of : Request → Option (List ℕ)
+game_of (check game) = Some game
+game_of (compile source game) = None
+game_of (decompile game source) = Some game
+game_of (play game source style) = Some game
+game_of (translate game program style width) = Some game
+game_of (run name source steps width) = None
+
+-- it is there, and its bytes have this
+abbrev pub GameHas : Files → Option Request → (List ℕ → Type 0) → Type 0
+GameHas files None P = ⊥
+GameHas files (Some request) P =
+    (name bytes : List ℕ) × (game_of request ≡ Some name) × (get files name ≡ Some bytes) × P bytes
 
 -- the source that the request compiles is there, and its bytes have this
 abbrev pub SourceHas : Files → Option Request → (List ℕ → Type 0) → Type 0
@@ -93,7 +101,7 @@ pub record HasCause (shelf shelf' : ShelfView) (console console' : ConsoleView)
       ⊎ OneLoaded asked (λ load. Lacks shelf.files load.name)
   pub unsaid : status ≡ 3 → Rose console.faults console'.faults
   pub no_database : status ≡ 4 → IfSome shelf.files
-      (λ files. MainHas files asked (λ bytes. (fault : Fault) × DatFault bytes fault)
+      (λ files. GameHas files asked (λ bytes. (fault : Fault) × DatFault bytes fault)
       ⊎ HasLine files asked)
   pub no_source_or_draws : status ≡ 5 → IfSome shelf.files
       (λ files. SourceHas files asked IsNoSource

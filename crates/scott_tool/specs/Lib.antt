@@ -8,6 +8,7 @@ pub mod Decompile
 pub mod Play
 pub mod Translate
 pub mod Run
+pub mod Replay
 pub mod Work
 pub mod Views
 pub mod Obeying

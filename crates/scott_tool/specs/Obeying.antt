@@ -54,9 +54,13 @@ Leaves shelf shelf' (Err refusal) status = shelf'.files ≡ shelf.files
 abbrev pub MayTake : (status : ℕ) → Type 0
 MayTake status = (status ≡ 0) ⊎ (status ≡ 3) ⊎ (status ≡ 8) ⊎ (status ≡ 10)
 
--- the statuses with which nothing outside failed
-abbrev pub IsSteady : (status : ℕ) → Type 0
-IsSteady status = (status ≡ 0) ⊎ (status ≡ 8) ⊎ (status ≡ 9) ⊎ (status ≡ 10)
+-- a console's count of faults stays, but with 3
+abbrev pub ConsoleStays : (old new : ConsoleView) → (status : ℕ) → Type 0
+ConsoleStays old new status = (status ≡ 3) ⊎ (new.faults ≡ old.faults)
+
+-- a shelf's stays, but with 2, and with 3 where that couldn't be said
+abbrev pub ShelfStays : (shelf shelf' : ShelfView) → (status : ℕ) → Type 0
+ShelfStays shelf shelf' status = (status ≡ 2) ⊎ (status ≡ 3) ⊎ (shelf'.faults ≡ shelf.faults)
 
 -- what a call promises that does what is expected
 pub record Obeys (shelf shelf' : ShelfView) (old new : ConsoleView) (expected : Result Task Refusal)
@@ -69,7 +73,8 @@ pub record Obeys (shelf shelf' : ShelfView) (old new : ConsoleView) (expected : 
   pub files : Leaves shelf shelf' expected status
   pub shelf_later : shelf.faults ≤ shelf'.faults
   pub later : old.faults ≤ new.faults
-  pub steady : IsSteady status → (shelf'.faults ≡ shelf.faults) × (new.faults ≡ old.faults)
+  pub shelf_stays : ShelfStays shelf shelf' status
+  pub console_stays : ConsoleStays old new status
 
 -- the same of a call that has no shelf
 abbrev pub ObeysAlone : (old new : ConsoleView) → Result Task Refusal → (status : ℕ) → Type 0
@@ -85,7 +90,7 @@ pub record Refuses (old new : ConsoleView) (refusal : Option Refusal) (status : 
   pub ended : EndsFor old new refusal status
   pub lines : new.left ≡ old.left
   pub later : old.faults ≤ new.faults
-  pub steady : status ≡ 9 → new.faults ≡ old.faults
+  pub console_stays : ConsoleStays old new status
 
 -- ---- contents
 
@@ -143,6 +148,7 @@ Misses old new Loaded expected (Some (unread name)) =
     ⊎ (Lacks old.files name × IfSome old.files (λ files. expected files ≡ Err (unread name))))
 Misses old new Loaded expected (Some (too_long name limit)) =
     IfSome old.files (λ files. expected files ≡ Err (too_long name limit))
+    × (new.faults ≡ old.faults)
 Misses old new Loaded expected (Some (unfit u)) = ⊥
 Misses old new Loaded expected (Some (unwritten name)) = ⊥
 

@@ -6,11 +6,12 @@ use Rattle.adv_io.specs.Shelf.{Files, ShelfView, with_file}
 use Rattle.scott_requests.specs.Settings.{DrawSource}
 use Rattle.scott_requests.specs.Request.{Request, check, compile, decompile, play, translate, run}
 use Rattle.scott_types.specs.declared.styles.Style.{Style}
+use Rattle.scott_types.specs.Database.{Database}
 use Rattle.scott_tool.specs.Refusal.{no_request, unread}
 use Rattle.scott_tool.specs.Outcome.{statuses, refused, Concludes, Loses}
 use Rattle.scott_tool.specs.Loading.{stores}
 use Rattle.scott_tool.specs.Work.{expected, statuses_of}
-use Rattle.scott_tool.specs.Obeying.{Stands, Answers, MayTake, IsSteady}
+use Rattle.scott_tool.specs.Obeying.{Stands, Answers, MayTake, ShelfStays, ConsoleStays}
 use Rattle.scott_tool.specs.Causes.{OneLoaded, HasCause, IsAccepted}
 use Rattle.scott_tool.specs.Check.{Checked}
 use Rattle.scott_tool.specs.Compile.{Compiled}
@@ -18,6 +19,7 @@ use Rattle.scott_tool.specs.Decompile.{Decompiled}
 use Rattle.scott_tool.specs.Play.{Played}
 use Rattle.scott_tool.specs.Translate.{Translated}
 use Rattle.scott_tool.specs.Run.{Ran}
+use Rattle.scott_tool.specs.Replay.{IsReplay, Replayed}
 use Rattle.inform_tree.specs.declared.widths.Width.{Width}
 
 -- where the files and the lines are known, this holds of both
@@ -121,12 +123,23 @@ HasRun shelf console console' asked status =
     → IfKnown shelf console
     (λ files lines. Ran files lines name source steps width console console' status)
 
+-- where the program is faithful to a database, the lines are typed and the steps enough
+abbrev pub HasReplayed : ShelfView → (console console' : ConsoleView) → Option Request
+    → (status : ℕ) → Type 0
+HasReplayed shelf console console' asked status =
+    (name : List ℕ) (source : DrawSource) (steps : ℕ) (width : Width) (style : Style)
+    (db : Database)
+    → asked ≡ Some (run name source steps width)
+    → IfKnown shelf console
+    (λ files lines. IsReplay files lines name steps width style db
+    → Replayed files lines source style db console console' status)
+
 -- ---- counts of faults
 
--- none falls, and with 0, 8, 9 and 10 none rose
+-- none falls; the console's stays with every status but 3, the shelf's with every one but 2 and 3
 pub record Counts (shelf shelf' : ShelfView) (console console' : ConsoleView) (status : ℕ) : Type 0
   where
     pub shelf_later : shelf.faults ≤ shelf'.faults
     pub console_later : console.faults ≤ console'.faults
-    pub steady : IsSteady status
-        → (shelf'.faults ≡ shelf.faults) × (console'.faults ≡ console.faults)
+    pub shelf_stays : ShelfStays shelf shelf' status
+    pub console_stays : ConsoleStays console console' status

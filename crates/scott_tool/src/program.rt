@@ -4,7 +4,7 @@ ghost use Rattle.scott_requests.specs.Request.{asked_by};
 ghost use Rattle.scott_requests.specs.Views.{request_of};
 ghost use Rattle.scott_tool.specs.Laws.{Laws};
 ghost use Rattle.scott_tool.specs.Obeying.{Handled};
-ghost use Rattle.scott_tool.specs.Promises.{HasStatus, IsSeen, KeepsFiles, Completes, HasChecked, HasCompiled, HasDecompiled, HasPlayed, HasTranslated, HasRun, Counts};
+ghost use Rattle.scott_tool.specs.Promises.{HasStatus, IsSeen, KeepsFiles, Completes, HasChecked, HasCompiled, HasDecompiled, HasPlayed, HasTranslated, HasRun, HasReplayed, Counts};
 
 use crate::commands::work;
 use crate::loads::load_texts;
@@ -111,7 +111,14 @@ pub fn scott<S: Shelf, C: Console>(
     ensures ran { (result ≡ 0) ⊎ (result ≡ 8) ⊎ (result ≡ 10) → HasRun (S.seen shelf.old)
         (C.seen console.old) (C.seen console.new) (asked_by words.now) result }
 
-    // No count of faults falls, and with 0, 8, 9 and 10 none rose.
+    // The run of a program that is faithful to a database, as `translate` stores it, on typed lines
+    // and with steps that are enough ends neither with 8 nor with 10, and with 0 it has shown the
+    // play of the database.
+    ensures replayed { HasReplayed (S.seen shelf.old)
+        (C.seen console.old) (C.seen console.new) (asked_by words.now) result }
+
+    // No count of faults falls. The console's stays with every status but 3, and the shelf's with
+    // every one but 2 and 3.
     ensures counts { Counts (S.seen shelf.old) (S.seen shelf.new)
         (C.seen console.old) (C.seen console.new) result }
 {

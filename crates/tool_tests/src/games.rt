@@ -8,6 +8,7 @@ use std::fmt::Write;
 #[derive(Clone, Copy)]
 pub struct Game<'a> {
     pub rooms: usize,
+    pub carry: u32,
     pub start: u32,
     pub treasures: u32,
     pub light: i32,
@@ -21,6 +22,7 @@ pub struct Game<'a> {
 /// A hall with a rug, and a hill to the north of it.
 pub const T: Game<'static> = Game {
     rooms: 3,
+    carry: 5,
     start: 1,
     treasures: 0,
     light: -1,
@@ -52,8 +54,9 @@ impl<'a> Game<'a> {
         let words = self.more_words.len().saturating_add(6);
         let rooms = self.rooms.saturating_sub(1);
         let messages = self.messages.len().saturating_sub(1);
-        write!(text, "0 {items} {actions} {words} {rooms} 5 ")?;
-        let (start, treasures, light, home) = (self.start, self.treasures, self.light, self.home);
+        let (carry, start, treasures) = (self.carry, self.start, self.treasures);
+        let (light, home) = (self.light, self.home);
+        write!(text, "0 {items} {actions} {words} {rooms} {carry} ")?;
         write!(text, "{start} {treasures} 3 {light} {messages} {home}\n")
     }
 

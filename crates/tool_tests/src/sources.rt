@@ -2,12 +2,17 @@
 use crate::games::{Game, T};
 use crate::trying::{Case, File, NOTHING};
 
-// The plain text of the game T: up to its items, from there to its one line, and what follows that.
-const FRONT: &str = "header {
+// The plain text of the game T: most carried, the room where it starts, the list up to its items,
+// from there to its one line, and what follows that.
+const CARRY: &str = "header {
 unused 0;
 carry 5;
-start r1;
-treasures 0;
+";
+
+const START: &str = "start r1;
+";
+
+const LISTS: &str = "treasures 0;
 length 3;
 light -1;
 home 0;
@@ -46,7 +51,7 @@ trailer {
 
 const NO_LINE: &str = "also { } { } \"\";";
 
-const PLAIN: File<'static> = File::Pieces(&[FRONT, LINES, NO_LINE, BACK]);
+const PLAIN: File<'static> = File::Pieces(&[CARRY, START, LISTS, LINES, NO_LINE, BACK]);
 
 const COMPILED: Case<'static> = Case {
     command: "compile t.adv u.dat",
@@ -55,15 +60,18 @@ const COMPILED: Case<'static> = Case {
     ..NOTHING
 };
 
-// Two things, and a line whose parameters are in brackets.
+// Two things, of which one can be carried, and a line whose parameters are in brackets.
 const HANDS: Game<'static> = Game {
+    carry: 1,
     actions: &["450 0 20 0 0 0 7853 0"],
     items: &["\"Rug\" 1", "\"Pin\" 255"],
     ..T
 };
 
 const HANDS_PLAIN: File<'static> = File::Pieces(&[
-    FRONT,
+    "header {\nunused 0;\ncarry 1;\n",
+    START,
+    LISTS,
     "item i1 \"Pin\": carried;\n",
     LINES,
     "line 3 0 { } { get(i0); drop(i1); } \"\";",
@@ -77,7 +85,9 @@ const BARE: Game<'static> = Game {
 };
 
 const BARE_PLAIN: File<'static> = File::Pieces(&[
-    FRONT,
+    CARRY,
+    START,
+    LISTS,
     LINES,
     "line 3 0 { param 0; param 1; param 0; param 0; carried i0; } { get; drop; } \"\";",
     BACK,
@@ -124,17 +134,15 @@ const REFUSED: Case<'static> = Case {
 
 const REFUSALS: [Case<'static>; 9] = [
     Case {
-        source: File::Pieces(&[
-            "header {\nunused 0;\ncarry 5;\nstart r9;",
-            "\ntreasures 0; length 3; light -1; home 0; }",
-            " words { } rooms { } messages { } items { } lines { } trailer { 1 1 0 }",
-        ]),
+        source: File::Pieces(&[CARRY, "start r9;\n", LISTS, LINES, NO_LINE, BACK]),
         said: &["t.adv: unknown name at 34\n"],
         ..REFUSED
     },
     Case {
         source: File::Pieces(&[
-            FRONT,
+            CARRY,
+            START,
+            LISTS,
             LINES,
             "also { param 0; param 0; param 0; param 0; param 0; param 0; } { } \"\";",
             BACK,
@@ -144,7 +152,9 @@ const REFUSALS: [Case<'static>; 9] = [
     },
     Case {
         source: File::Pieces(&[
-            FRONT,
+            CARRY,
+            START,
+            LISTS,
             LINES,
             "also { } { op 0; op 0; op 0; op 0; op 0; } \"\";",
             BACK,
@@ -153,12 +163,19 @@ const REFUSALS: [Case<'static>; 9] = [
         ..REFUSED
     },
     Case {
-        source: File::Pieces(&[FRONT, LINES, "line 3 150 { } { } \"\";", BACK]),
+        source: File::Pieces(&[CARRY, START, LISTS, LINES, "line 3 150 { } { } \"\";", BACK]),
         said: &["t.adv: 150 is out of range at 373\n"],
         ..REFUSED
     },
     Case {
-        source: File::Pieces(&[FRONT, LINES, "also { } { say nosuch; } \"\";", BACK]),
+        source: File::Pieces(&[
+            CARRY,
+            START,
+            LISTS,
+            LINES,
+            "also { } { say nosuch; } \"\";",
+            BACK,
+        ]),
         said: &["t.adv: unknown name at 381\n"],
         ..REFUSED
     },

@@ -48,7 +48,7 @@ returns-in-Err-TooLong g c =
     record {
       fetched = record {
         found = tt;
-        missed = file-long (load_of c.args.load) _ longer.0 (g.S.Shelf.seen c.args.shelf.now).files longer.1;
+        missed = (file-long (load_of c.args.load) _ longer.0 (g.S.Shelf.seen c.args.shelf.now).files longer.1, longer.2);
         files_stay = c.load.ensures.files_stay;
         later = c.load.ensures.later;
         steady = tt;

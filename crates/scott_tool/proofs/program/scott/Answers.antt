@@ -1,9 +1,11 @@
 use Rattle.scott_tool.proofs.Promises.{promised}
+use Rattle.scott_tool.proofs.Replaying.{replays}
 use Rattle.scott_tool.proofs.program.scott.Goals as goal
 
 pub returns : goal.returns
 returns g c =
-    let all = promised c.reading_laws.ensures _ _ _ _ _ _ c.handle.ensures in
+    let laws = c.reading_laws.ensures in
+    let all = promised laws _ _ _ _ _ _ c.handle.ensures in
     record {
       status = all.status_is;
       seen = all.seen;
@@ -15,5 +17,6 @@ returns g c =
       played = all.played;
       translated = all.translated;
       ran = all.ran;
+      replayed = replays laws _ _ _ _ _ _ all.status_is.cause all.ran;
       counts = all.counts;
     }

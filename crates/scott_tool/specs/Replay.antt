@@ -1,0 +1,43 @@
+-- `run G` where the file is a translation: it shows the play of the database.
+use Rattle.std.specs.Prelude.{◌≡◌, ◌≤◌, ℕ, List, length, Some, None, IfSome}
+use Rattle.std.specs.FinMap.{get}
+use Rattle.std.specs.List.{AllByRecursion}
+use Rattle.adv_io.specs.Console.{ConsoleView}
+use Rattle.adv_io.specs.History.{grown, shown}
+use Rattle.adv_io.specs.Shelf.{Files}
+use Rattle.adv_io.specs.Steps.{trace_of}
+use Rattle.adv_io.specs.TypedLine.{IsTyped}
+use Rattle.inform_tree.specs.declared.widths.Width.{Width}
+use Rattle.scott_requests.specs.Settings.{DrawSource}
+use Rattle.scott_rules.specs.Play as rules
+use Rattle.scott_types.specs.declared.styles.Style.{Style}
+use Rattle.scott_types.specs.Database.{Database}
+use Rattle.scott_types.specs.Style.{in_style}
+use Rattle.trans_rows.specs.Steps.{enough}
+use Rattle.translator.specs.Faithful.{Faithful}
+use Rattle.scott_tool.specs.Play.{DrawsAre}
+
+-- The file of this name is the text of a program that is faithful to a database in this style, as
+-- `translate` stores it; the lines are typed ones, and the steps are enough for them.
+pub record IsReplay (files : Files) (lines : List (List ℕ)) (name : List ℕ) (steps : ℕ)
+    (width : Width) (style : Style) (db : Database) : Type 0 where
+  pub bytes : List ℕ
+  pub there : get files name ≡ Some bytes
+  pub faithful : Faithful style width db None bytes
+  pub typed : AllByRecursion IsTyped lines
+  pub enough_steps : enough db (length lines) ≤ steps
+
+-- with these draws the console saw what the play of the database says and takes
+abbrev pub SawPlay : Files → List (List ℕ) → DrawSource → Style → Database
+    → (old new : ConsoleView) → Type 0
+SawPlay files lines source style db old new =
+    (draws : List ℕ) × DrawsAre files source draws
+    × (new.history
+    ≡ grown old.history (shown (trace_of (rules.play (in_style style db) lines draws).events)))
+
+-- the run doesn't end in a trap or for want of steps, and with 0 it has shown the play
+pub record Replayed (files : Files) (lines : List (List ℕ)) (source : DrawSource) (style : Style)
+    (db : Database) (old new : ConsoleView) (status : ℕ) : Type 0 where
+  pub no_trap : ¬ (status ≡ 8)
+  pub not_spent : ¬ (status ≡ 10)
+  pub seen : status ≡ 0 → SawPlay files lines source style db old new
