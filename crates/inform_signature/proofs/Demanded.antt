@@ -69,13 +69,15 @@ module _ (scope : Scope) (signs : List Sign) (knows : Knows scope.known signs) w
       → is_kind test o ≡ true → kind_fault test name (scope.known name) ≡ None
   of_kind_in test name None is passes = cc
   of_kind_in test name (Some kind) is passes =
-      of_kind test name (scope.known name) kind (known_as scope.known signs name kind knows is) passes
+      of_kind test name (scope.known name) kind (known_as scope.known signs name kind knows is)
+      passes
 
   taken_in : (name : List ℕ) (count : ℕ) (o : Option Kind) → kind_in signs name ≡ o
       → is_kind (takes count) o ≡ true → call_fault name count (scope.known name) ≡ None
   taken_in name count None is passes = cc
   taken_in name count (Some kind) is passes =
-      taken name count (scope.known name) kind (known_as scope.known signs name kind knows is) passes
+      taken name count (scope.known name) kind (known_as scope.known signs name kind knows is)
+      passes
 
   -- a local, or a name of the kind
   or_kind : (test : Kind → Bool) (name : List ℕ) (local : Bool)
@@ -94,7 +96,8 @@ module _ (scope : Scope) (signs : List Sign) (knows : Knows scope.known signs) w
   not_wide W16 n h = grind (arith, h)
   not_wide W32 n h = refl
 
-  one : (demand : Demand) → is_met scope.width signs scope.locals demand ≡ true → fault_at scope demand ≡ None
+  one : (demand : Demand) → is_met scope.width signs scope.locals demand ≡ true
+      → fault_at scope demand ≡ None
   one (q.Number n) h = no_fault (is_wide scope.width n) (wide_number n) (not_wide scope.width n h)
   one (q.Constant name) h = cc
   one (q.Value name) h = or_kind has_value name (is_one_of name scope.locals) h

@@ -1,2 +1,3 @@
 pub mod Demanded
 pub mod Sound
+pub mod Elements

@@ -49,6 +49,13 @@ IsSound width known (d.Global name value) =
 IsSound width known (d.Array name words entries) = IsSoundArray width known name entries
 IsSound width known (d.Routine r) = first_of (routine_faults width known r) ≡ None
 
+-- a directive that is a routine without a fault
+abbrev pub IsFaultless : Width → Known → DirectiveTree → Type 0
+IsFaultless width known (d.Constant name value) = ⊥
+IsFaultless width known (d.Global name value) = ⊥
+IsFaultless width known (d.Array name words entries) = ⊥
+IsFaultless width known (d.Routine r) = first_of (routine_faults width known r) ≡ None
+
 -- ---- programs
 
 -- No two directives have one name, each is sound, the arrays have no more entries than they may,

@@ -8,7 +8,8 @@ use Rattle.scott_types.specs.Database.{Database}
 use Rattle.scott_tool.specs.Check.{database_or_unfit}
 use Rattle.scott_tool.specs.Obeying.{Declines, database_refusal}
 
-pub database-declined : (name : List ℕ) (read : Result Database Fault) (answer : FormatFault) → Stands answer read → Declines (database_or_unfit name read) (database_refusal name answer)
+pub database-declined : (name : List ℕ) (read : Result Database Fault) (answer : FormatFault)
+    → Stands answer read → Declines (database_or_unfit name read) (database_refusal name answer)
 database-declined name read (NoNumber at) stands = ap (database_or_unfit name) stands
 database-declined name read (BigNumber at) stands = ap (database_or_unfit name) stands
 database-declined name read (NoQuote at) stands = ap (database_or_unfit name) stands

@@ -5,7 +5,8 @@ use Rattle.scott_tool.specs.Refusal.{Refusal, Unfit, no_request, unread, too_lon
 use Rattle.scott_tool.specs.Obeying.{Declines}
 
 -- the first step is declined
-pub declined-first : {X Y : Type 0} (expected : Result X Unfit) (next : X → Result Y Unfit) (refusal : Option Refusal) → Declines expected refusal → Declines (expected >>= next) refusal
+pub declined-first : {X Y : Type 0} (expected : Result X Unfit) (next : X → Result Y Unfit)
+    (refusal : Option Refusal) → Declines expected refusal → Declines (expected >>= next) refusal
 declined-first expected next None d = tt
 declined-first expected next (Some no_request) d = absurd d
 declined-first expected next (Some (unread name)) d = absurd d

@@ -12,11 +12,13 @@ use Rattle.scott_tool.specs.Causes.{IsTooLong, IsLoadable}
 
 -- ---- steps
 
-pub bind-ok : {X Y E : Type 0} (r : Result X E) (next : X → Result Y E) (y : Y) → (r >>= next) ≡ Ok y → (x : X) × (r ≡ Ok x) × (next x ≡ Ok y)
+pub bind-ok : {X Y E : Type 0} (r : Result X E) (next : X → Result Y E) (y : Y) → (r >>= next)
+    ≡ Ok y → (x : X) × (r ≡ Ok x) × (next x ≡ Ok y)
 bind-ok (Ok x) next y e = (x, refl, e)
 bind-ok (Err refusal) next y e = absurd cc
 
-pub bind-err : {X Y E : Type 0} (r : Result X E) (next : X → Result Y E) (refusal : E) → (r >>= next) ≡ Err refusal
+pub bind-err : {X Y E : Type 0} (r : Result X E) (next : X → Result Y E) (refusal : E) →
+    (r >>= next) ≡ Err refusal
     → (r ≡ Err refusal) ⊎ ((x : X) × (r ≡ Ok x) × (next x ≡ Err refusal))
 bind-err (Ok x) next refusal e = inr (x, refl, e)
 bind-err (Err other) next refusal e = let same : other ≡ refusal = cc in inl (ap Err same)
@@ -25,7 +27,8 @@ bind-err (Err other) next refusal e = let same : other ≡ refusal = cc in inl (
 
 data Loading (load : Load) (file : Option (List ℕ)) (got : Result (List ℕ) Refusal) : Type 0 where
   absent : file ≡ None → got ≡ Err (unread load.name) → Loading load file got
-  long : (bytes : List ℕ) → file ≡ Some bytes → load.limit < length bytes → got ≡ Err (too_long load.name load.limit) → Loading load file got
+  long : (bytes : List ℕ) → file ≡ Some bytes → load.limit < length bytes → got ≡ Err
+      (too_long load.name load.limit) → Loading load file got
   there : (bytes : List ℕ) → file ≡ Some bytes → got ≡ Ok bytes → Loading load file got
 
 by_length : (load : Load) (bytes : List ℕ) (b : Bool) → nat_le (length bytes) load.limit ≡ b
@@ -44,58 +47,75 @@ ok_or_err : {X E : Type 0} (r : Result X E) (x : X) (refusal : E) → r ≡ Ok x
 ok_or_err r x refusal e f = cc
 
 -- a file that was loaded is there
-pub there-loaded : (files : Files) (load : Load) (bytes : List ℕ) → loaded files (Some load) ≡ Ok bytes → get files load.name ≡ Some bytes
+pub there-loaded : (files : Files) (load : Load) (bytes : List ℕ) → loaded files (Some load)
+    ≡ Ok bytes → get files load.name ≡ Some bytes
 there-loaded files load bytes e = by (loading load (get files load.name))
   where
-    by : Loading load (get files load.name) (loaded files (Some load)) → get files load.name ≡ Some bytes
+    by : Loading load (get files load.name) (loaded files (Some load)) → get files load.name
+        ≡ Some bytes
     by (absent none g) = absurd (ok_or_err (loaded files (Some load)) bytes _ e g)
     by (long other has more g) = absurd (ok_or_err (loaded files (Some load)) bytes _ e g)
     by (there other has g) = has ∙ ap Some (same_ok (loaded files (Some load)) other bytes g e)
 
 -- a file that is there and within its limit is loaded
-pub loaded-there : (files : Files) (load : Load) (bytes : List ℕ) → IsLoadable files load bytes → loaded files (Some load) ≡ Ok bytes
+pub loaded-there : (files : Files) (load : Load) (bytes : List ℕ) → IsLoadable files load bytes
+    → loaded files (Some load) ≡ Ok bytes
 loaded-there files load bytes h =
     ap (λ file. within_limit load file) h.0 ∙ within (nat_le (length bytes) load.limit) refl
   where
-    within : (b : Bool) → nat_le (length bytes) load.limit ≡ b → (if b then Ok bytes else Err (too_long load.name load.limit)) ≡ Ok bytes
+    within : (b : Bool) → nat_le (length bytes) load.limit ≡ b →
+        (if b then Ok bytes else Err (too_long load.name load.limit)) ≡ Ok bytes
     within true e = refl
-    within false e = absurd (let less : length bytes ≤ load.limit = h.1 in grind (arith, nat_tests, e))
+    within false e = absurd (let less : length bytes ≤ load.limit = h.1 in grind
+        (arith, nat_tests, e))
 
 -- ---- the files of a request
 
 abbrev with_draws : Files → Request → List ℕ → Result Texts Refusal
-with_draws files request main = loaded files (draws_of request) >>= λ draws. Ok (record { main = main; draws = draws })
+with_draws files request main = loaded files (draws_of request) >>= λ draws. Ok
+    (record { main = main; draws = draws })
 
-pub texts-loaded : (files : Files) (request : Request) (texts : Texts) → texts_of files request ≡ Ok texts
-    → (loaded files (main_of request) ≡ Ok texts.main) × (loaded files (draws_of request) ≡ Ok texts.draws)
+pub texts-loaded : (files : Files) (request : Request) (texts : Texts) → texts_of files request
+    ≡ Ok texts
+    → (loaded files (main_of request) ≡ Ok texts.main) ×
+    (loaded files (draws_of request) ≡ Ok texts.draws)
 texts-loaded files request texts e =
     let m = bind-ok (loaded files (main_of request)) (with_draws files request) texts e in
-    let d = bind-ok (loaded files (draws_of request)) (λ draws. Ok (record { main = m.0; draws = draws })) texts m.2 in
+    let d = bind-ok (loaded files (draws_of request)) (λ draws. Ok
+    (record { main = m.0; draws = draws })) texts m.2 in
     let same : record { main = m.0; draws = d.0 } ≡ texts = d_same m.0 d.0 d.2 in
     (m.1 ∙ ap (λ t. Ok t.main) same, d.1 ∙ ap (λ t. Ok t.draws) same)
   where
-    d_same : (main draws : List ℕ) → (let r : Result Texts Refusal = Ok (record { main = main; draws = draws }) in r ≡ Ok texts) → record { main = main; draws = draws } ≡ texts
+    d_same : (main draws : List ℕ) → (let r : Result Texts Refusal = Ok
+        (record { main = main; draws = draws }) in r ≡ Ok texts)
+        → record { main = main; draws = draws } ≡ texts
     d_same main draws f = cc
 
 -- a file that is refused as too long is
-long_file : (files : Files) (asked : Option Load) (name : List ℕ) (limit : ℕ) → loaded files asked ≡ Err (too_long name limit)
+long_file : (files : Files) (asked : Option Load) (name : List ℕ) (limit : ℕ) → loaded files asked
+    ≡ Err (too_long name limit)
     → (load : Load) × (asked ≡ Some load) × IsTooLong files load
 long_file files None name limit e = absurd cc
 long_file files (Some load) name limit e = by (loading load (get files load.name))
   where
-    by : Loading load (get files load.name) (loaded files (Some load)) → (other : Load) × (Some load ≡ Some other) × IsTooLong files other
+    by : Loading load (get files load.name) (loaded files (Some load)) → (other : Load) ×
+        (Some load ≡ Some other) × IsTooLong files other
     by (absent none g) = absurd cc
     by (long bytes has more g) = (load, refl, (bytes, has, more))
     by (there bytes has g) = absurd (ok_or_err (loaded files (Some load)) bytes _ g e)
 
-pub long_one : (files : Files) (request : Request) (name : List ℕ) (limit : ℕ) → texts_of files request ≡ Err (too_long name limit)
+pub long_one : (files : Files) (request : Request) (name : List ℕ) (limit : ℕ)
+    → texts_of files request ≡ Err (too_long name limit)
     → (load : Load) × IsLoad request load × IsTooLong files load
 long_one files request name limit e =
-    elim (bind-err (loaded files (main_of request)) (with_draws files request) (too_long name limit) e) [
+    elim (bind-err (loaded files (main_of request)) (with_draws files request)
+    (too_long name limit) e) [
       | inl m ↦ (let l = long_file files (main_of request) name limit m in (l.0, inl l.1, l.2))
       | inr m ↦
-          elim (bind-err (loaded files (draws_of request)) (λ draws. Ok (record { main = m.0; draws = draws })) (too_long name limit) m.2) [
-            | inl d ↦ (let l = long_file files (draws_of request) name limit d in (l.0, inr l.1, l.2))
+          elim (bind-err (loaded files (draws_of request))
+              (λ draws. Ok (record { main = m.0; draws = draws })) (too_long name limit) m.2) [
+            | inl d ↦ (let l = long_file files (draws_of request) name limit d in
+            (l.0, inr l.1, l.2))
             | inr d ↦ absurd (let f = d.2 in cc)
           ]
     ]

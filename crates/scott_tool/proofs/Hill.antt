@@ -32,24 +32,34 @@ hill_play draws = refl
 module _ (one : OneDatabase) (written : WrittenTextIsText) (keeps : KeepsLimits hill) where
   hill_read : (bytes : List ℕ) (db : Database) → bytes ≡ canon hill → DatText bytes db → db ≡ hill
   hill_read bytes db e text =
-      let own : DatText (canon hill) hill = subst (λ (b : List ℕ). DatText b hill) (append-nil (canon hill)) (written hill [] keeps) in
+      let own : DatText (canon hill) hill = subst (λ (b : List ℕ). DatText b hill)
+      (append-nil (canon hill)) (written hill [] keeps) in
       one (canon hill) db hill (subst (λ (b : List ℕ). DatText b db) e text) own
 
   some_same : {X : Type 0} (a b : X) → Some a ≡ Some b → a ≡ b
   some_same a b e = cc
 
-  hill_played : (files : Files) (source : DrawSource) (old new : ConsoleView) → HasHill files → Played files hill_lines (codes "t.dat") source plain_style old new → new.history ≡ grown old.history hill_history
+  hill_played : (files : Files) (source : DrawSource) (old new : ConsoleView) → HasHill files
+      → Played files hill_lines (codes "t.dat") source plain_style old new → new.history
+      ≡ grown old.history hill_history
   hill_played files source old new there p =
       let bytes = some_same p.bytes (canon hill) (sym p.there ∙ there) in
       let db = hill_read p.bytes p.db bytes p.text in
-      p.seen ∙ ap (λ d. grown old.history (shown (trace_of (rules.play (plain d) hill_lines p.draws).events))) db ∙ ap (λ steps. grown old.history (shown (trace_of steps))) (hill_play p.draws)
+      p.seen ∙ ap (λ d. grown old.history (shown (trace_of
+      (rules.play (plain d) hill_lines p.draws).events))) db ∙ ap
+      (λ steps. grown old.history (shown (trace_of steps))) (hill_play p.draws)
 
   -- what the clause of `play` says of these words, this game and these lines
-  pub hill_seen : {Z : Type 0} (words : List (String Z)) (shelf shelf' : Shelved) (console console' : Recorded) (status : ℕ)
+  pub hill_seen : {Z : Type 0} (words : List (String Z)) (shelf shelf' : Shelved)
+      (console console' : Recorded) (status : ℕ)
       → map string_bytes words ≡ hill_words → HasHill shelf.files → console.left ≡ hill_lines
-      → (status ≡ 0 → HasPlayed (stock_of shelf) (seen_of console) (seen_of console') (asked_by words)) → status ≡ 0 → console'.history ≡ console.history ++ hill_history
+      → (status ≡ 0 → HasPlayed (stock_of shelf) (seen_of console) (seen_of console')
+      (asked_by words)) → status ≡ 0 → console'.history ≡ console.history ++ hill_history
   hill_seen words shelf shelf' console console' status is there lines played zero =
-      let asks : asked_by words ≡ Some (play (codes "t.dat") (seeded 1) plain_style) = ap request_in is in
+      let asks : asked_by words ≡ Some (play (codes "t.dat") (seeded 1) plain_style) = ap request_in
+      is in
       let p = played zero (codes "t.dat") (seeded 1) plain_style asks in
-      let q = subst (λ (ls : List (List ℕ)). Played shelf.files ls (codes "t.dat") (seeded 1) plain_style (seen_of console) (seen_of console')) lines p in
-      some_same console'.history (console.history ++ hill_history) (hill_played shelf.files (seeded 1) (seen_of console) (seen_of console') there q)
+      let q = subst (λ (ls : List (List ℕ)). Played shelf.files ls (codes "t.dat")
+      (seeded 1) plain_style (seen_of console) (seen_of console')) lines p in
+      some_same console'.history (console.history ++ hill_history)
+      (hill_played shelf.files (seeded 1) (seen_of console) (seen_of console') there q)

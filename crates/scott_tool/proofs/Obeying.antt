@@ -10,31 +10,27 @@ use Rattle.adv_io.specs.Shelf.{ShelfView, with_file}
 use Rattle.adv_io.proofs.Sayings.{grown-nil}
 use Rattle.scott_tool.specs.declared.refusals.ContentFault.{ContentFault}
 use Rattle.scott_tool.specs.declared.refusals.ContentFault.TheVariants.{NoDatabase, NoSource, NoMeaning, NoDraws, NoProgram, NoTranslation}
-use Rattle.translator.specs.declared.faults.TransFault.{TransFault}
-use Rattle.translator.specs.declared.faults.TransFault.TheVariants.{NotBuilt, Wide, Memory}
 use Rattle.translator.specs.Faithful.{Faithful}
-use Rattle.scott_tool.specs.Refusal.{Refusal, Unfit, no_request, unread, too_long, unfit, unwritten, refusing, translation_status, content_status, status_of}
+use Rattle.scott_tool.specs.Refusal.{Refusal, Unfit, no_request, unread, too_long, unfit, unwritten, refusing, content_status, status_of}
 use Rattle.scott_tool.specs.Outcome.{File, Outcome, done, keeping, refused, kept, Concludes, Loses, Ends, whole, unsaid, unstored}
 use Rattle.scott_tool.specs.Work.{Task, reporting, storing, playing, translating, running, Does, task_statuses}
 use Rattle.scott_tool.specs.Obeying.{Keeps, Stands, Answers, Leaves, Obeys, Refuses, FailsToStore, Declines}
 use Rattle.scott_tool.proofs.Statuses.{IsEnd, first, task_has_0}
 
-whatever : (P : List (List ℕ) → Type 0) → ((lines : List (List ℕ)) → P lines) → (o : Option (List (List ℕ))) → IfSome o P
+whatever : (P : List (List ℕ) → Type 0) → ((lines : List (List ℕ)) → P lines) →
+    (o : Option (List (List ℕ))) → IfSome o P
 whatever P h None = tt
 whatever P h (Some lines) = h lines
 
-pub where_known : (P Q : List (List ℕ) → Type 0) → ((lines : List (List ℕ)) → P lines → Q lines) → (o : Option (List (List ℕ))) → IfSome o P → IfSome o Q
+pub where_known : (P Q : List (List ℕ) → Type 0) → ((lines : List (List ℕ)) → P lines → Q lines) →
+    (o : Option (List (List ℕ))) → IfSome o P → IfSome o Q
 where_known P Q f None h = tt
 where_known P Q f (Some lines) h = f lines h
 
 -- the statuses of refusals
 abbrev is_refused : ℕ → Bool
-is_refused n = nat_eq n 1 || (nat_eq n 2 || (nat_eq n 4 || (nat_eq n 5 || (nat_eq n 6 || (nat_eq n 7 || nat_eq n 11)))))
-
-translation_is : (fault : TransFault) → is_refused (translation_status fault) ≡ true
-translation_is (NotBuilt k) = refl
-translation_is (Wide place value) = refl
-translation_is Memory = refl
+is_refused n = nat_eq n 1 || (nat_eq n 2 || (nat_eq n 4 ||
+    (nat_eq n 5 || (nat_eq n 6 || (nat_eq n 7 || nat_eq n 11)))))
 
 content_is : (fault : ContentFault) → is_refused (content_status fault) ≡ true
 content_is (NoDatabase fault) = refl
@@ -42,7 +38,7 @@ content_is (NoSource fault) = refl
 content_is (NoMeaning fault) = refl
 content_is (NoDraws fault) = refl
 content_is (NoProgram fault) = refl
-content_is (NoTranslation fault) = translation_is fault
+content_is (NoTranslation fault) = refl
 
 refusal_is : (refusal : Refusal) → is_refused (status_of refusal) ≡ true
 refusal_is no_request = refl
@@ -64,27 +60,35 @@ not_refused n (inr (inr (inr (inl e)))) = ap is_refused e
 not_refused n (inr (inr (inr (inr e)))) = ap is_refused e
 
 pub refusal_not : (refusal : Refusal) (n : ℕ) → NoRefusal n → status_of refusal ≡ n → ⊥
-refusal_not refusal n h f = true≢false (sym (refusal_is refusal) ∙ ap is_refused f ∙ not_refused n h)
+refusal_not refusal n h f = true≢false (sym (refusal_is refusal) ∙ ap is_refused f
+    ∙ not_refused n h)
 
 -- the files stay where nothing was done
-nothing_done : (shelf : ShelfView) (expected : Result Task Refusal) (status : ℕ) → (status ≡ 0 → ⊥) → Leaves shelf shelf expected status
+nothing_done : (shelf : ShelfView) (expected : Result Task Refusal) (status : ℕ) → (status ≡ 0 → ⊥)
+    → Leaves shelf shelf expected status
 nothing_done shelf (Ok (reporting db)) status not_0 = refl
-nothing_done shelf (Ok (storing name bytes)) status not_0 = record { stored = λ e. absurd (not_0 e); stay = inr (inl refl) }
+nothing_done shelf (Ok (storing name bytes)) status not_0 = record
+    { stored = λ e. absurd (not_0 e); stay = inr (inl refl) }
 nothing_done shelf (Ok (playing style db draws)) status not_0 = refl
-nothing_done shelf (Ok (translating name style width db)) status not_0 = record { stored = λ e. absurd (not_0 e); stay = inr (inl refl) }
+nothing_done shelf (Ok (translating name style width db)) status not_0 = record
+    { stored = λ e. absurd (not_0 e); stay = inr (inl refl) }
 nothing_done shelf (Ok (running width p draws steps)) status not_0 = refl
 nothing_done shelf (Err refusal) status not_0 = refl
 
 -- and where what was done is all said
-said_stays : (shelf : ShelfView) (task : Task) (status : ℕ) (events : List Event) (lines : List (List ℕ)) → Does task lines (done events) → Leaves shelf shelf (Ok task) status
+said_stays : (shelf : ShelfView) (task : Task) (status : ℕ) (events : List Event)
+    (lines : List (List ℕ)) → Does task lines (done events) → Leaves shelf shelf (Ok task) status
 said_stays shelf (reporting db) status events lines does = refl
-said_stays shelf (storing name bytes) status events lines does = absurd (let stored = ap (λ o. o.stored) does in cc)
+said_stays shelf (storing name bytes) status events lines does = absurd
+    (let stored = ap (λ o. o.stored) does in cc)
 said_stays shelf (playing style db draws) status events lines does = refl
-said_stays shelf (translating name style width db) status events lines (out, faithful, e) = absurd (let stored = ap (λ o. o.stored) e in cc)
+said_stays shelf (translating name style width db) status events lines (out, faithful, e) = absurd
+    (let stored = ap (λ o. o.stored) e in cc)
 said_stays shelf (running width p draws steps) status events lines does = refl
 
 -- what concludes and stores nothing ends so
-concluded : (shelf : ShelfView) (old new : ConsoleView) (o : Outcome) (status : ℕ) → o.stored ≡ None → Concludes old new o status → Ends shelf shelf old new o status
+concluded : (shelf : ShelfView) (old new : ConsoleView) (o : Outcome) (status : ℕ) → o.stored ≡ None
+    → Concludes old new o status → Ends shelf shelf old new o status
 concluded shelf old new o status none (inl h) = whole h.0 h.1 (sym (ap (kept shelf.files) none))
 concluded shelf old new o status none (inr h) = unsaid h.0 h.1 h.2 refl
 
@@ -101,7 +105,8 @@ module _ (shelf shelf' : ShelfView) (name bytes : List ℕ) (status : ℕ) where
   abbrev WasKept : List ℕ → Type 0
   WasKept other = (status ≡ 0) ⊎ (shelf'.files ≡ shelf.files) ⊎ Loses shelf shelf' other
 
-  keeps : (MayBe : List ℕ → Type 0) (other : List ℕ) → name ≡ other → MayBe bytes → (status ≡ 0 → shelf'.files ≡ with_file shelf.files name bytes) → WasKept name
+  keeps : (MayBe : List ℕ → Type 0) (other : List ℕ) → name ≡ other → MayBe bytes →
+      (status ≡ 0 → shelf'.files ≡ with_file shelf.files name bytes) → WasKept name
       → Keeps shelf shelf' other MayBe status
   keeps MayBe other same may stored stay = record {
     stored = λ zero. (bytes, may, stored zero ∙ ap (λ n. with_file shelf.files n bytes) same);
@@ -109,24 +114,33 @@ module _ (shelf shelf' : ShelfView) (name bytes : List ℕ) (status : ℕ) where
   }
 
   -- the files after a task that stores bytes
-  leaves_file : (task : Task) → StoresFile task name bytes → (status ≡ 0 → shelf'.files ≡ with_file shelf.files name bytes) → WasKept name
+  leaves_file : (task : Task) → StoresFile task name bytes →
+      (status ≡ 0 → shelf'.files ≡ with_file shelf.files name bytes) → WasKept name
       → Leaves shelf shelf' (Ok task) status
-  leaves_file (reporting db) does stored stay = absurd (let none = ap (λ o. o.stored) (does []) in cc)
+  leaves_file (reporting db) does stored stay = absurd (let none = ap (λ o. o.stored)
+      (does []) in cc)
   leaves_file (storing other more) does stored stay =
-      keeps (λ out. out ≡ more) other (ap (λ o. (file_of o).name) (does [])) (ap (λ o. (file_of o).bytes) (does [])) stored stay
-  leaves_file (playing style db draws) does stored stay = absurd (let none = ap (λ o. o.stored) (does []) in cc)
+      keeps (λ out. out ≡ more) other (ap (λ o. (file_of o).name) (does []))
+      (ap (λ o. (file_of o).bytes) (does [])) stored stay
+  leaves_file (playing style db draws) does stored stay = absurd
+      (let none = ap (λ o. o.stored) (does []) in cc)
   leaves_file (translating other style width db) does stored stay =
       let made = does [] in
       keeps (Faithful style width db None) other (ap (λ o. (file_of o).name) made.2)
-      (subst (Faithful style width db None) (sym (ap (λ o. (file_of o).bytes) made.2)) made.1) stored stay
-  leaves_file (running width p draws steps) does stored stay = absurd (let none = ap (λ o. o.stored) (does []) in cc)
+      (subst (Faithful style width db None) (sym (ap (λ o. (file_of o).bytes) made.2)) made.1)
+      stored stay
+  leaves_file (running width p draws steps) does stored stay = absurd
+      (let none = ap (λ o. o.stored) (does []) in cc)
 
 -- the file was stored, and nothing is said
-pub obeys-stored : (shelf shelf' : ShelfView) (view : ConsoleView) (task : Task) (name bytes : List ℕ) → StoresFile task name bytes
-    → shelf'.files ≡ with_file shelf.files name bytes → shelf'.faults ≡ shelf.faults → Obeys shelf shelf' view view (Ok task) 0
+pub obeys-stored : (shelf shelf' : ShelfView) (view : ConsoleView) (task : Task)
+    (name bytes : List ℕ) → StoresFile task name bytes
+    → shelf'.files ≡ with_file shelf.files name bytes → shelf'.faults ≡ shelf.faults
+    → Obeys shelf shelf' view view (Ok task) 0
 obeys-stored shelf shelf' view task name bytes does files faults = record {
   answered = whatever (λ lines. Answers shelf shelf' view view lines (Ok task) 0)
-      (λ lines. inl (keeping name bytes, does lines, whole refl (sym (grown-nil view.history)) files)) view.left;
+      (λ lines. inl (keeping name bytes, does lines, whole refl
+      (sym (grown-nil view.history)) files)) view.left;
   stands = inl (task_has_0 task);
   silent = λ e. refl;
   lines = inl (inl refl);
@@ -139,30 +153,39 @@ obeys-stored shelf shelf' view task name bytes does files faults = record {
 
 module _ (old new : ConsoleView) (status : ℕ) where
   -- a request that is refused isn't done, and memory didn't run out
-  pub refused_not_0 : (refusal : Refusal) → Concludes old new (refused refusal) status → status ≡ 0 → ⊥
+  pub refused_not_0 : (refusal : Refusal) → Concludes old new (refused refusal) status → status ≡ 0
+      → ⊥
   refused_not_0 refusal (inl h) e = refusal_not refusal status (inl e) (sym h.0)
   refused_not_0 refusal (inr h) e = absurd (let f = h.0 in omega arith)
 
-  pub refused_not_end : (refusal : Refusal) → Concludes old new (refused refusal) status → IsEnd status → ⊥
+  pub refused_not_end : (refusal : Refusal) → Concludes old new (refused refusal) status
+      → IsEnd status → ⊥
   refused_not_end refusal ended (inl e) = refused_not_0 refusal ended e
-  refused_not_end refusal (inl h) (inr (inl e)) = refusal_not refusal status (inr (inr (inr (inl e)))) (sym h.0)
-  refused_not_end refusal (inl h) (inr (inr e)) = refusal_not refusal status (inr (inr (inr (inr e)))) (sym h.0)
+  refused_not_end refusal (inl h) (inr (inl e)) = refusal_not refusal status
+      (inr (inr (inr (inl e)))) (sym h.0)
+  refused_not_end refusal (inl h) (inr (inr e)) = refusal_not refusal status
+      (inr (inr (inr (inr e)))) (sym h.0)
   refused_not_end refusal (inr h) (inr (inl e)) = absurd (let f = h.0 in omega arith)
   refused_not_end refusal (inr h) (inr (inr e)) = absurd (let f = h.0 in omega arith)
 
-  pub refused_not_9 : (refusal : Refusal) → Concludes old new (refused refusal) status → status ≡ 9 → ⊥
+  pub refused_not_9 : (refusal : Refusal) → Concludes old new (refused refusal) status → status ≡ 9
+      → ⊥
   refused_not_9 refusal (inl h) e = refusal_not refusal status (inr (inl e)) (sym h.0)
   refused_not_9 refusal (inr h) e = absurd (let f = h.0 in omega arith)
 
-  refused_stands : (S : Type 0) (refusal : Refusal) → Concludes old new (refused refusal) status → Stands S (Rose old.faults new.faults) (status_of refusal ∷ []) status
-  refused_stands S refusal (inl h) = inl (subst (Contains (status_of refusal ∷ [])) (sym h.0) (first (status_of refusal)))
+  refused_stands : (S : Type 0) (refusal : Refusal) → Concludes old new (refused refusal) status
+      → Stands S (Rose old.faults new.faults) (status_of refusal ∷ []) status
+  refused_stands S refusal (inl h) = inl (subst (Contains (status_of refusal ∷ [])) (sym h.0)
+      (first (status_of refusal)))
   refused_stands S refusal (inr h) = inr (inr (inl (h.0, h.1)))
 
   module _ (shelf : ShelfView) where
     -- memory ran out
-    pub obeys-starved : (expected : Result Task Refusal) → Refuses old new None status → Obeys shelf shelf old new expected status
+    pub obeys-starved : (expected : Result Task Refusal) → Refuses old new None status
+        → Obeys shelf shelf old new expected status
     obeys-starved expected r = record {
-      answered = whatever (λ lines. Answers shelf shelf old new lines expected status) (λ lines. inr r.ended) old.left;
+      answered = whatever (λ lines. Answers shelf shelf old new lines expected status)
+          (λ lines. inr r.ended) old.left;
       stands = inr (inl r.ended.0);
       silent = λ e. r.ended.1;
       lines = inr r.lines;
@@ -173,10 +196,12 @@ module _ (old new : ConsoleView) (status : ℕ) where
       console_stays = r.console_stays;
     }
 
-    obeys-unfit : (u : Unfit) → Refuses old new (Some (unfit u)) status → Obeys shelf shelf old new (Err (unfit u)) status
+    obeys-unfit : (u : Unfit) → Refuses old new (Some (unfit u)) status → Obeys shelf shelf old new
+        (Err (unfit u)) status
     obeys-unfit u r = record {
       answered = whatever (λ lines. Answers shelf shelf old new lines (Err (unfit u)) status)
-          (λ lines. inl (refused (unfit u), refl, concluded shelf old new (refused (unfit u)) status refl r.ended)) old.left;
+          (λ lines. inl (refused (unfit u), refl, concluded shelf old new
+          (refused (unfit u)) status refl r.ended)) old.left;
       stands = refused_stands (Rose shelf.faults shelf.faults) (unfit u) r.ended;
       silent = λ e. absurd (refused_not_9 (unfit u) r.ended e);
       lines = inr r.lines;
@@ -188,29 +213,36 @@ module _ (old new : ConsoleView) (status : ℕ) where
     }
 
     -- a content was refused
-    pub obeys-declined : (expected : Result Task Unfit) (refusal : Option Refusal) → Declines expected refusal → Refuses old new refusal status
+    pub obeys-declined : (expected : Result Task Unfit) (refusal : Option Refusal)
+        → Declines expected refusal → Refuses old new refusal status
         → Obeys shelf shelf old new (refusing expected) status
     obeys-declined expected None d r = obeys-starved (refusing expected) r
     obeys-declined expected (Some no_request) d r = absurd d
     obeys-declined expected (Some (unread name)) d r = absurd d
     obeys-declined expected (Some (too_long name limit)) d r = absurd d
     obeys-declined expected (Some (unfit u)) d r =
-        subst (λ (x : Result Task Unfit). Obeys shelf shelf old new (refusing x) status) (sym d) (obeys-unfit u r)
+        subst (λ (x : Result Task Unfit). Obeys shelf shelf old new (refusing x) status) (sym d)
+            (obeys-unfit u r)
     obeys-declined expected (Some (unwritten name)) d r = absurd d
 
   -- ---- what is stored
 
-  module _ (shelf shelf' : ShelfView) (task : Task) (name bytes : List ℕ) (does : StoresFile task name bytes) where
+  module _ (shelf shelf' : ShelfView) (task : Task) (name bytes : List ℕ)
+      (does : StoresFile task name bytes) where
     -- the shelf failed
-    obeys-unstored : Loses shelf shelf' name → shelf.faults ≤ shelf'.faults → Refuses old new (Some (unwritten name)) status
+    obeys-unstored : Loses shelf shelf' name → shelf.faults ≤ shelf'.faults → Refuses old new
+        (Some (unwritten name)) status
         → Obeys shelf shelf' old new (Ok task) status
     obeys-unstored loses more r = record {
       answered = whatever (λ lines. Answers shelf shelf' old new lines (Ok task) status)
-          (λ lines. inl (keeping name bytes, does lines, unstored (record { name = name; bytes = bytes }) refl loses r.ended)) old.left;
-      stands = elim r.ended [ inl h ↦ inr (inr (inr (h.0, loses.0))) | inr h ↦ inr (inr (inl (h.0, h.1))) ];
+          (λ lines. inl (keeping name bytes, does lines, unstored
+          (record { name = name; bytes = bytes }) refl loses r.ended)) old.left;
+      stands = elim r.ended [ inl h ↦ inr (inr (inr (h.0, loses.0))) | inr h ↦ inr
+          (inr (inl (h.0, h.1))) ];
       silent = λ e. absurd (refused_not_9 (unwritten name) r.ended e);
       lines = inr r.lines;
-      files = leaves_file shelf shelf' name bytes status task does (λ e. absurd (refused_not_0 (unwritten name) r.ended e)) (inr (inr loses));
+      files = leaves_file shelf shelf' name bytes status task does
+          (λ e. absurd (refused_not_0 (unwritten name) r.ended e)) (inr (inr loses));
       shelf_later = more;
       later = r.later;
       shelf_stays = elim r.ended [ inl h ↦ inl h.0 | inr h ↦ inr (inl h.0) ];
@@ -218,18 +250,23 @@ module _ (old new : ConsoleView) (status : ℕ) where
     }
 
     -- memory ran out as it stored
-    obeys-unkept : shelf'.files ≡ shelf.files → shelf'.faults ≡ shelf.faults → Refuses old new None status
+    obeys-unkept : shelf'.files ≡ shelf.files → shelf'.faults ≡ shelf.faults
+        → Refuses old new None status
         → Obeys shelf shelf' old new (Ok task) status
     obeys-unkept files faults r =
-        let same : record { files = shelf'.files; faults = shelf'.faults } ≡ shelf = λ i. record { files = files i; faults = faults i } in
-        subst (λ (s : ShelfView). Obeys shelf s old new (Ok task) status) (sym same) (obeys-starved shelf (Ok task) r)
+        let same : record { files = shelf'.files; faults = shelf'.faults }
+        ≡ shelf = λ i. record { files = files i; faults = faults i } in
+        subst (λ (s : ShelfView). Obeys shelf s old new (Ok task) status) (sym same)
+            (obeys-starved shelf (Ok task) r)
 
     -- the file wasn't stored
-    pub obeys-not_stored : (refusal : Option Refusal) → FailsToStore shelf shelf' name refusal → shelf.faults ≤ shelf'.faults → Refuses old new refusal status
+    pub obeys-not_stored : (refusal : Option Refusal) → FailsToStore shelf shelf' name refusal
+        → shelf.faults ≤ shelf'.faults → Refuses old new refusal status
         → Obeys shelf shelf' old new (Ok task) status
     obeys-not_stored None h more r = obeys-unkept h.0 h.1 r
     obeys-not_stored (Some (unwritten other)) h more r =
-        obeys-unstored h.1 more (subst (λ (n : List ℕ). Refuses old new (Some (unwritten n)) status) h.0 r)
+        obeys-unstored h.1 more (subst (λ (n : List ℕ). Refuses old new (Some (unwritten n)) status)
+            h.0 r)
     obeys-not_stored (Some no_request) h more r = absurd h
     obeys-not_stored (Some (unread other)) h more r = absurd h
     obeys-not_stored (Some (too_long other limit)) h more r = absurd h
@@ -237,17 +274,21 @@ module _ (old new : ConsoleView) (status : ℕ) where
 
   -- ---- what is shown
 
-  module _ (shelf : ShelfView) (task : Task) (events : List (List ℕ) → List Event) (does : (lines : List (List ℕ)) → Does task lines (done (events lines))) where
+  module _ (shelf : ShelfView) (task : Task) (events : List (List ℕ) → List Event)
+      (does : (lines : List (List ℕ)) → Does task lines (done (events lines))) where
     stays : Leaves shelf shelf (Ok task) status
     stays = said_stays shelf task status (events []) [] (does [])
 
     -- what a task shows was shown, or the console failed
     showed : {T E : Type 0} (result : Result T E)
         → IfSome old.left (λ lines. OnOk result (new.history ≡ grown old.history (events lines)))
-        → IfSome old.left (λ lines. OnErr result (GrewByPrefix old.history new.history (events lines)))
-        → HasCause old.faults new.faults result → MatchResult result (λ _. status ≡ 0) (λ _. status ≡ 3) → Obeys shelf shelf old new (Ok task) status
+        → IfSome old.left (λ lines. OnErr result (GrewByPrefix old.history new.history
+        (events lines)))
+        → HasCause old.faults new.faults result → MatchResult result (λ _. status ≡ 0)
+        (λ _. status ≡ 3) → Obeys shelf shelf old new (Ok task) status
     showed (Ok value) said part cause e = record {
-      answered = where_known (λ lines. new.history ≡ grown old.history (events lines)) (λ lines. Answers shelf shelf old new lines (Ok task) status)
+      answered = where_known (λ lines. new.history ≡ grown old.history (events lines))
+          (λ lines. Answers shelf shelf old new lines (Ok task) status)
           (λ lines h. inl (done (events lines), does lines, whole e h refl)) old.left said;
       stands = inl (subst (Contains (task_statuses task)) (sym e) (task_has_0 task));
       silent = λ f. absurd (omega arith);
@@ -259,8 +300,10 @@ module _ (old new : ConsoleView) (status : ℕ) where
       console_stays = inr cause.steady;
     }
     showed (Err fault) said part cause e = record {
-      answered = where_known (λ lines. GrewByPrefix old.history new.history (events lines)) (λ lines. Answers shelf shelf old new lines (Ok task) status)
-          (λ lines h. inl (done (events lines), does lines, unsaid e cause.failed h refl)) old.left part;
+      answered = where_known (λ lines. GrewByPrefix old.history new.history (events lines))
+          (λ lines. Answers shelf shelf old new lines (Ok task) status)
+          (λ lines h. inl (done (events lines), does lines, unsaid e cause.failed h refl)) old.left
+          part;
       stands = inr (inr (inl (e, cause.failed)));
       silent = λ f. absurd (omega arith);
       lines = inl (inr (inl e));
@@ -271,22 +314,33 @@ module _ (old new : ConsoleView) (status : ℕ) where
       console_stays = inl e;
     }
 
-    pub obeys-shown : {T E : Type 0} (expected : Result Task Unfit) (result : Result T E) → expected ≡ Ok task
+    pub obeys-shown : {T E : Type 0} (expected : Result Task Unfit) (result : Result T E) → expected
+        ≡ Ok task
         → IfSome old.left (λ lines. OnOk result (new.history ≡ grown old.history (events lines)))
-        → IfSome old.left (λ lines. OnErr result (GrewByPrefix old.history new.history (events lines)))
-        → HasCause old.faults new.faults result → MatchResult result (λ _. status ≡ 0) (λ _. status ≡ 3) → Obeys shelf shelf old new (refusing expected) status
+        → IfSome old.left (λ lines. OnErr result (GrewByPrefix old.history new.history
+        (events lines)))
+        → HasCause old.faults new.faults result → MatchResult result (λ _. status ≡ 0)
+        (λ _. status ≡ 3) → Obeys shelf shelf old new (refusing expected) status
     obeys-shown expected result e said part cause is =
-        subst (λ (x : Result Task Unfit). Obeys shelf shelf old new (refusing x) status) (sym e) (showed result said part cause is)
+        subst (λ (x : Result Task Unfit). Obeys shelf shelf old new (refusing x) status) (sym e)
+            (showed result said part cause is)
 
     -- events that no line changes
-    pub known_said : {T E : Type 0} (result : Result T E) (all : List Event) → ((lines : List (List ℕ)) → events lines ≡ all) → OnOk result (new.history ≡ grown old.history all)
+    pub known_said : {T E : Type 0} (result : Result T E) (all : List Event) →
+        ((lines : List (List ℕ)) → events lines ≡ all) → OnOk result
+        (new.history ≡ grown old.history all)
         → IfSome old.left (λ lines. OnOk result (new.history ≡ grown old.history (events lines)))
     known_said result all same h =
         whatever (λ lines. OnOk result (new.history ≡ grown old.history (events lines)))
-        (λ lines. subst (λ (x : List Event). OnOk result (new.history ≡ grown old.history x)) (sym (same lines)) h) old.left
+        (λ lines. subst (λ (x : List Event). OnOk result (new.history ≡ grown old.history x))
+        (sym (same lines)) h) old.left
 
-    pub known_part : {T E : Type 0} (result : Result T E) (all : List Event) → ((lines : List (List ℕ)) → events lines ≡ all) → OnErr result (GrewByPrefix old.history new.history all)
-        → IfSome old.left (λ lines. OnErr result (GrewByPrefix old.history new.history (events lines)))
+    pub known_part : {T E : Type 0} (result : Result T E) (all : List Event) →
+        ((lines : List (List ℕ)) → events lines ≡ all) → OnErr result
+        (GrewByPrefix old.history new.history all)
+        → IfSome old.left (λ lines. OnErr result (GrewByPrefix old.history new.history
+        (events lines)))
     known_part result all same h =
         whatever (λ lines. OnErr result (GrewByPrefix old.history new.history (events lines)))
-        (λ lines. subst (λ (x : List Event). OnErr result (GrewByPrefix old.history new.history x)) (sym (same lines)) h) old.left
+        (λ lines. subst (λ (x : List Event). OnErr result (GrewByPrefix old.history new.history x))
+        (sym (same lines)) h) old.left

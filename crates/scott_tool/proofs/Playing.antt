@@ -23,22 +23,35 @@ use Rattle.scott_tool.specs.Obeying.{Obeys}
 use Rattle.scott_tool.proofs.Obeying.{where_known, obeys-shown}
 
 -- from the beginning of a game
-pub obeys-played : (shelf : ShelfView) (old new : ConsoleView) (status : ℕ) (style : Style) (db : Database) (draws : List ℕ) (result : Result Ending ConsoleFault)
+pub obeys-played : (shelf : ShelfView) (old new : ConsoleView) (status : ℕ) (style : Style)
+    (db : Database) (draws : List ℕ) (result : Result Ending ConsoleFault)
     (game : Game) (position : Position) (state : State) (after : SessionView) (before now : Supply)
     → game ≡ in_style style db → position ≡ Fresh → state ≡ start db
-    → IfSome old.left (λ lines. Plays old new result (go game position state lines draws) after before now)
-    → HasCause old.faults new.faults result → MatchResult result (λ _. status ≡ 0) (λ _. status ≡ 3) → Obeys shelf shelf old new (Ok (playing style db draws)) status
-obeys-played shelf old new status style db draws result game position state after before now is at_fresh at_start plays cause status_is =
-    obeys-shown old new status shelf (playing style db draws) (λ lines. shown (trace_of (play (in_style style db) lines draws).events)) (λ lines. refl) (Ok (playing style db draws)) result refl
-    (where_known (λ lines. Plays old new result (go game position state lines draws) after before now)
-    (λ lines. OnOk result (new.history ≡ grown old.history (shown (trace_of (play (in_style style db) lines draws).events))))
-    (λ lines p. subst (λ (all : List Event). OnOk result (new.history ≡ grown old.history all)) (same lines) p.shows) old.left plays)
-    (where_known (λ lines. Plays old new result (go game position state lines draws) after before now)
-    (λ lines. OnErr result (GrewByPrefix old.history new.history (shown (trace_of (play (in_style style db) lines draws).events))))
-    (λ lines p. subst (λ (all : List Event). OnErr result (GrewByPrefix old.history new.history all)) (same lines) p.part) old.left plays)
+    → IfSome old.left (λ lines. Plays old new result (go game position state lines draws) after
+    before now)
+    → HasCause old.faults new.faults result → MatchResult result (λ _. status ≡ 0) (λ _. status ≡ 3)
+    → Obeys shelf shelf old new (Ok (playing style db draws)) status
+obeys-played shelf old new status style db draws result game position state after before now is
+    at_fresh at_start plays cause status_is =
+    obeys-shown old new status shelf (playing style db draws)
+    (λ lines. shown (trace_of (play (in_style style db) lines draws).events)) (λ lines. refl)
+    (Ok (playing style db draws)) result refl
+    (where_known (λ lines. Plays old new result (go game position state lines draws) after before
+    now)
+    (λ lines. OnOk result (new.history ≡ grown old.history
+    (shown (trace_of (play (in_style style db) lines draws).events))))
+    (λ lines p. subst (λ (all : List Event). OnOk result (new.history ≡ grown old.history all))
+    (same lines) p.shows) old.left plays)
+    (where_known (λ lines. Plays old new result (go game position state lines draws) after before
+    now)
+    (λ lines. OnErr result (GrewByPrefix old.history new.history
+    (shown (trace_of (play (in_style style db) lines draws).events))))
+    (λ lines p. subst (λ (all : List Event). OnErr result
+    (GrewByPrefix old.history new.history all)) (same lines) p.part) old.left plays)
     cause status_is
   where
-    same : (lines : List (List ℕ)) → shown (trace_of (go game position state lines draws).events) ≡ shown (trace_of (play (in_style style db) lines draws).events)
+    same : (lines : List (List ℕ)) → shown (trace_of (go game position state lines draws).events)
+        ≡ shown (trace_of (play (in_style style db) lines draws).events)
     same lines = ap (λ g. shown (trace_of (go g position state lines draws).events)) is
         ∙ ap (λ p. shown (trace_of (go (in_style style db) p state lines draws).events)) at_fresh
         ∙ ap (λ s. shown (trace_of (go (in_style style db) Fresh s lines draws).events)) at_start

@@ -9,9 +9,11 @@ use Rattle.scott_tool.specs.Run.{program_or_unfit}
 use Rattle.scott_tool.specs.declared.refusals.ContentFault.TheVariants.{NoProgram}
 
 module _ (name : List ℕ) (expected : Result (List DirectiveTree) Fault) where
-  told : (answer : ProgramFault) (fault : Fault) → expected ≡ Err fault → answer ≡ fault_answer fault
+  told : (answer : ProgramFault) (fault : Fault) → expected ≡ Err fault → answer
+      ≡ fault_answer fault
       → program_or_unfit name expected ≡ Err (record { name = name; fault = NoProgram answer })
-  told answer fault is same = ap (program_or_unfit name) is ∙ ap (λ a. Err (record { name = name; fault = NoProgram a })) (sym same)
+  told answer fault is same = ap (program_or_unfit name) is ∙ ap
+      (λ a. Err (record { name = name; fault = NoProgram a })) (sym same)
 
   -- a fault that is answered is the one that is expected
   pub declined : (answer : ProgramFault) → (answer ≡ Memory → ⊥) → Tells answer expected

@@ -9,14 +9,19 @@ use Rattle.scott_tool.proofs.Promised.{Promises}
 use Rattle.scott_tool.proofs.Refusing.{not_asked_promised, not_loaded_promised}
 use Rattle.scott_tool.proofs.Working.{worked_promised}
 
-pub promised : Laws → (shelf shelf' : ShelfView) (console console' : ConsoleView) (asked : Option Request) (status : ℕ)
-    → Handled shelf shelf' console console' asked status → Promises shelf shelf' console console' asked status
+pub promised : Laws → (shelf shelf' : ShelfView) (console console' : ConsoleView)
+    (asked : Option Request) (status : ℕ)
+    → Handled shelf shelf' console console' asked status
+    → Promises shelf shelf' console console' asked status
 promised laws shelf shelf' console console' asked status (not_asked none same refuses) =
     subst (λ (a : Option Request). Promises shelf shelf' console console' a status) (sym none)
-    (not_asked_promised shelf shelf' console console' status laws (ap (λ s. s.files) same) (ap (λ s. s.faults) same) refuses)
-promised laws shelf shelf' console console' asked status (not_loaded request refusal is missed same later refuses) =
+    (not_asked_promised shelf shelf' console console' status laws (ap (λ s. s.files) same)
+    (ap (λ s. s.faults) same) refuses)
+promised laws shelf shelf' console console' asked status
+    (not_loaded request refusal is missed same later refuses) =
     subst (λ (a : Option Request). Promises shelf shelf' console console' a status) (sym is)
-    (not_loaded_promised shelf shelf' console console' status request laws refusal missed same later refuses)
+    (not_loaded_promised shelf shelf' console console' status request laws refusal missed same later
+    refuses)
 promised laws shelf shelf' console console' asked status (worked request texts is there obeys) =
     subst (λ (a : Option Request). Promises shelf shelf' console console' a status) (sym is)
     (worked_promised shelf shelf' console console' status laws request texts there obeys)

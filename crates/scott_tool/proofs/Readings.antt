@@ -29,7 +29,6 @@ use Rattle.scott_tool.specs.Check.{database_or_unfit, database_of_file}
 use Rattle.scott_tool.specs.Compile.{source_or_unfit, meaning_or_unfit, compiled_from, IsNoSource}
 use Rattle.scott_tool.specs.Play.{draws_or_unfit, draws_from, DrawsAre}
 use Rattle.trans_rows.specs.Wide.{Placed, wide_at}
-use Rattle.translator.specs.Refusals.{first_line, refusal_by, too_wide}
 use Rattle.scott_tool.specs.Translate.{translatable_or_unfit, translatable}
 use Rattle.scott_tool.specs.Run.{program_or_unfit, program_of_file, stop_after, stop_status}
 use Rattle.scott_tool.specs.Work.{Task, reporting, storing, playing, translating, running, work, expected}
@@ -42,30 +41,36 @@ abbrev status_in : {X : Type 0} → Result X Unfit → ℕ
 status_in (Ok x) = 0
 status_in (Err u) = content_status u.fault
 
-database_unfit : (name : List ℕ) (read : Result Database Fault) (u : Unfit) → database_or_unfit name read ≡ Err u
+database_unfit : (name : List ℕ) (read : Result Database Fault) (u : Unfit)
+    → database_or_unfit name read ≡ Err u
     → (fault : Fault) × (read ≡ Err fault) × (content_status u.fault ≡ 4)
 database_unfit name (Ok db) u e = absurd cc
 database_unfit name (Err fault) u e = (fault, refl, sym (ap status_in e))
 
-database_fit : (name : List ℕ) (read : Result Database Fault) (db : Database) → database_or_unfit name read ≡ Ok db → read ≡ Ok db
+database_fit : (name : List ℕ) (read : Result Database Fault) (db : Database)
+    → database_or_unfit name read ≡ Ok db → read ≡ Ok db
 database_fit name (Ok other) db e = let same : other ≡ db = cc in ap Ok same
 database_fit name (Err fault) db e = absurd cc
 
-source_unfit : (name : List ℕ) (read : Result Source reading.Fault) (u : Unfit) → source_or_unfit name read ≡ Err u
+source_unfit : (name : List ℕ) (read : Result Source reading.Fault) (u : Unfit)
+    → source_or_unfit name read ≡ Err u
     → (fault : reading.Fault) × (read ≡ Err fault) × (content_status u.fault ≡ 5)
 source_unfit name (Ok tree) u e = absurd cc
 source_unfit name (Err fault) u e = (fault, refl, sym (ap status_in e))
 
-meaning_unfit : (name : List ℕ) (read : Result Database meaning.Fault) (u : Unfit) → meaning_or_unfit name read ≡ Err u
+meaning_unfit : (name : List ℕ) (read : Result Database meaning.Fault) (u : Unfit)
+    → meaning_or_unfit name read ≡ Err u
     → (fault : meaning.Fault) × (read ≡ Err fault) × (content_status u.fault ≡ 5)
 meaning_unfit name (Ok db) u e = absurd cc
 meaning_unfit name (Err fault) u e = (fault, refl, sym (ap status_in e))
 
-source_fit : (name : List ℕ) (read : Result Source reading.Fault) (tree : Source) → source_or_unfit name read ≡ Ok tree → read ≡ Ok tree
+source_fit : (name : List ℕ) (read : Result Source reading.Fault) (tree : Source)
+    → source_or_unfit name read ≡ Ok tree → read ≡ Ok tree
 source_fit name (Ok other) tree e = let same : other ≡ tree = cc in ap Ok same
 source_fit name (Err fault) tree e = absurd cc
 
-meaning_fit : (name : List ℕ) (read : Result Database meaning.Fault) (db : Database) → meaning_or_unfit name read ≡ Ok db → read ≡ Ok db
+meaning_fit : (name : List ℕ) (read : Result Database meaning.Fault) (db : Database)
+    → meaning_or_unfit name read ≡ Ok db → read ≡ Ok db
 meaning_fit name (Ok other) db e = let same : other ≡ db = cc in ap Ok same
 meaning_fit name (Err fault) db e = absurd cc
 
@@ -73,43 +78,46 @@ abbrev means : List ℕ → Source → Result Database Unfit
 means name tree = meaning_or_unfit name (meant tree)
 
 -- a text that can't be compiled is no source, or one that means no database
-compiled_unfit : Laws → (name bytes : List ℕ) (u : Unfit) → compiled_from name bytes ≡ Err u → IsNoSource bytes × (content_status u.fault ≡ 5)
+compiled_unfit : Laws → (name bytes : List ℕ) (u : Unfit) → compiled_from name bytes ≡ Err u
+    → IsNoSource bytes × (content_status u.fault ≡ 5)
 compiled_unfit laws name bytes u e =
     elim (bind-err (source_or_unfit name (source_in bytes)) (means name) u e) [
-      | inl s ↦ (let f = source_unfit name (source_in bytes) u s in (inl (f.0, (laws.source_fault bytes f.0).0 f.1), f.2))
+      | inl s ↦ (let f = source_unfit name (source_in bytes) u s in
+      (inl (f.0, (laws.source_fault bytes f.0).0 f.1), f.2))
       | inr m ↦
           (let f = meaning_unfit name (meant m.0) u m.2 in
-          (inr (m.0, f.0, (laws.source bytes m.0).0 (source_fit name (source_in bytes) m.0 m.1), f.1), f.2))
+          (inr (m.0, f.0, (laws.source bytes m.0).0 (source_fit name (source_in bytes) m.0 m.1),
+          f.1), f.2))
     ]
 
-program_unfit : (name : List ℕ) (read : Result (List DirectiveTree) reader.Fault) (u : Unfit) → program_or_unfit name read ≡ Err u
+program_unfit : (name : List ℕ) (read : Result (List DirectiveTree) reader.Fault) (u : Unfit)
+    → program_or_unfit name read ≡ Err u
     → (fault : reader.Fault) × (read ≡ Err fault) × (content_status u.fault ≡ 6)
 program_unfit name (Ok p) u e = absurd cc
 program_unfit name (Err fault) u e = (fault, refl, sym (ap status_in e))
 
 draws_unfit : (source : DrawSource) (bytes : List ℕ) (u : Unfit) → draws_from source bytes ≡ Err u
-    → (load : Load) × (at : ℕ) × (draws_load source ≡ Some load) × (listed_draws bytes ≡ Err at) × (content_status u.fault ≡ 5)
+    → (load : Load) × (at : ℕ) × (draws_load source ≡ Some load) × (listed_draws bytes ≡ Err at) ×
+    (content_status u.fault ≡ 5)
 draws_unfit (seeded seed) bytes u e = absurd cc
 draws_unfit (listed name) bytes u e = by (listed_draws bytes) refl e
   where
     by : (read : Result (List ℕ) ℕ) → listed_draws bytes ≡ read → draws_or_unfit name read ≡ Err u
-        → (load : Load) × (at : ℕ) × (draws_load (listed name) ≡ Some load) × (listed_draws bytes ≡ Err at) × (content_status u.fault ≡ 5)
+        → (load : Load) × (at : ℕ) × (draws_load (listed name) ≡ Some load) ×
+        (listed_draws bytes ≡ Err at) × (content_status u.fault ≡ 5)
     by (Ok draws) f g = absurd cc
     by (Err at) f g = (_, at, refl, f, sym (ap status_in g))
 
--- why a database isn't translated, by its first line and its first wide number
-data Untranslated (line : Option ℕ) (wide : Option Placed) (u : Unfit) : Type 0 where
-  by_line : (k : ℕ) → line ≡ Some k → content_status u.fault ≡ 4 → Untranslated line wide u
-  by_width : (placed : Placed) → line ≡ None → wide ≡ Some placed → content_status u.fault ≡ 7 → Untranslated line wide u
-
-translatable_unfit : (name : List ℕ) (db : Database) (line : Option ℕ) (wide : Option Placed) (u : Unfit) → translatable_or_unfit name db (refusal_by line wide) ≡ Err u
-    → Untranslated line wide u
-translatable_unfit name db (Some k) wide u e = by_line k refl (sym (ap status_in e))
-translatable_unfit name db None (Some placed) u e = by_width placed refl refl (sym (ap status_in e))
-translatable_unfit name db None None u e = absurd cc
+-- why a database isn't translated
+translatable_unfit : (name : List ℕ) (db : Database) (wide : Option Placed) (u : Unfit)
+    → translatable_or_unfit name db wide ≡ Err u
+    → (placed : Placed) × (wide ≡ Some placed) × (content_status u.fault ≡ 7)
+translatable_unfit name db (Some placed) u e = (placed, refl, sym (ap status_in e))
+translatable_unfit name db None u e = absurd cc
 
 -- the file that a request reads as a database is its main file
-pub game_load : (request : Request) (game : List ℕ) → game_of request ≡ Some game → main_of request ≡ Some (database_load game)
+pub game_load : (request : Request) (game : List ℕ) → game_of request ≡ Some game → main_of request
+    ≡ Some (database_load game)
 game_load (check name) game is = ap (option_map database_load) is
 game_load (compile source name) game is = absurd cc
 game_load (decompile name source) game is = ap (option_map database_load) is
@@ -118,18 +126,22 @@ game_load (translate name program style width) game is = ap (option_map database
 game_load (run name source steps width) game is = absurd cc
 
 -- the content that is refused is that of the database, of the source, of the program, or of the
--- draws; or the database has a line, or a number that is too wide
+-- draws; or the database has a number that is too wide
 pub data Fails (request : Request) (texts : Texts) (u : Unfit) : Type 0 where
-  bad_database : (game : List ℕ) (fault : Fault) → game_of request ≡ Some game → database_in texts.main ≡ Err fault
+  bad_database : (game : List ℕ) (fault : Fault) → game_of request ≡ Some game
+      → database_in texts.main ≡ Err fault
       → content_status u.fault ≡ 4 → Fails request texts u
-  bad_source : (source game : List ℕ) → request ≡ compile source game → IsNoSource texts.main → content_status u.fault ≡ 5 → Fails request texts u
-  bad_program : (name : List ℕ) (source : DrawSource) (steps : ℕ) (width : Width) (fault : reader.Fault) → request ≡ run name source steps width
+  bad_source : (source game : List ℕ) → request ≡ compile source game → IsNoSource texts.main
+      → content_status u.fault ≡ 5 → Fails request texts u
+  bad_program : (name : List ℕ) (source : DrawSource) (steps : ℕ) (width : Width)
+      (fault : reader.Fault) → request ≡ run name source steps width
       → IsFaulty width texts.main fault → content_status u.fault ≡ 6 → Fails request texts u
-  bad_line : (game program : List ℕ) (style : Style) (width : Width) (db : Database) (k : ℕ) → request ≡ translate game program style width
-      → DatText texts.main db → first_line db ≡ Some k → content_status u.fault ≡ 4 → Fails request texts u
-  bad_width : (game program : List ℕ) (style : Style) (width : Width) (db : Database) (placed : Placed) → request ≡ translate game program style width
-      → DatText texts.main db → first_line db ≡ None → wide_at width db ≡ Some placed → content_status u.fault ≡ 7 → Fails request texts u
-  bad_draws : (load : Load) (at : ℕ) → draws_of request ≡ Some load → listed_draws texts.draws ≡ Err at
+  bad_width : (game program : List ℕ) (style : Style) (width : Width) (db : Database)
+      (placed : Placed) → request ≡ translate game program style width
+      → DatText texts.main db → wide_at width db ≡ Some placed → content_status u.fault ≡ 7
+      → Fails request texts u
+  bad_draws : (load : Load) (at : ℕ) → draws_of request ≡ Some load → listed_draws texts.draws
+      ≡ Err at
       → content_status u.fault ≡ 5 → Fails request texts u
 
 abbrev report_of : Database → Result Task Unfit
@@ -148,7 +160,8 @@ abbrev translation_of : List ℕ → Style → Width → Database → Result Tas
 translation_of program style width db = Ok (translating program style width db)
 
 abbrev translate_with : List ℕ → List ℕ → Style → Width → Database → Result Task Unfit
-translate_with game program style width db = translatable game width db >>= translation_of program style width
+translate_with game program style width db = translatable game width db >>= translation_of program
+    style width
 
 abbrev run_of : Width → ℕ → List DirectiveTree → List ℕ → Result Task Unfit
 run_of width steps p draws = Ok (running width p draws steps)
@@ -156,25 +169,30 @@ run_of width steps p draws = Ok (running width p draws steps)
 abbrev run_with : DrawSource → List ℕ → Width → ℕ → List DirectiveTree → Result Task Unfit
 run_with source bytes width steps p = draws_from source bytes >>= run_of width steps p
 
-pub fails : Laws → (request : Request) (texts : Texts) (u : Unfit) → work request texts ≡ Err u → Fails request texts u
+pub fails : Laws → (request : Request) (texts : Texts) (u : Unfit) → work request texts ≡ Err u
+    → Fails request texts u
 fails laws (check game) texts u e =
     elim (bind-err (database_of_file game texts.main) report_of u e) [
-      | inl d ↦ (let f = database_unfit game (database_in texts.main) u d in bad_database game f.0 refl f.1 f.2)
+      | inl d ↦ (let f = database_unfit game (database_in texts.main) u d in bad_database game f.0
+      refl f.1 f.2)
       | inr d ↦ absurd (let g = d.2 in cc)
     ]
 fails laws (compile source game) texts u e =
     elim (bind-err (compiled_from source texts.main) (store_of game canon) u e) [
-      | inl d ↦ (let f = compiled_unfit laws source texts.main u d in bad_source source game refl f.0 f.1)
+      | inl d ↦ (let f = compiled_unfit laws source texts.main u d in bad_source source game refl
+      f.0 f.1)
       | inr d ↦ absurd (let g = d.2 in cc)
     ]
 fails laws (decompile game source) texts u e =
     elim (bind-err (database_of_file game texts.main) (store_of source plain) u e) [
-      | inl d ↦ (let f = database_unfit game (database_in texts.main) u d in bad_database game f.0 refl f.1 f.2)
+      | inl d ↦ (let f = database_unfit game (database_in texts.main) u d in bad_database game f.0
+      refl f.1 f.2)
       | inr d ↦ absurd (let g = d.2 in cc)
     ]
 fails laws (play game source style) texts u e =
     elim (bind-err (database_of_file game texts.main) (with_draws source texts.draws style) u e) [
-      | inl d ↦ (let f = database_unfit game (database_in texts.main) u d in bad_database game f.0 refl f.1 f.2)
+      | inl d ↦ (let f = database_unfit game (database_in texts.main) u d in bad_database game f.0
+      refl f.1 f.2)
       | inr d ↦
           elim (bind-err (draws_from source texts.draws) (play_of style d.0) u d.2) [
             | inl r ↦ (let f = draws_unfit source texts.draws u r in bad_draws f.0 f.1 f.2 f.3 f.4)
@@ -182,24 +200,27 @@ fails laws (play game source style) texts u e =
           ]
     ]
 fails laws (translate game program style width) texts u e =
-    elim (bind-err (database_of_file game texts.main) (translate_with game program style width) u e) [
-      | inl d ↦ (let f = database_unfit game (database_in texts.main) u d in bad_database game f.0 refl f.1 f.2)
+    elim (bind-err (database_of_file game texts.main) (translate_with game program style width) u e)
+    [
+      | inl d ↦ (let f = database_unfit game (database_in texts.main) u d in bad_database game f.0
+      refl f.1 f.2)
       | inr d ↦
           elim (bind-err (translatable game width d.0) (translation_of program style width) u d.2) [
             | inl r ↦
-                (let text : DatText texts.main d.0 = (laws.database texts.main d.0).0 (database_fit game (database_in texts.main) d.0 d.1) in
-                elim (translatable_unfit game d.0 (first_line d.0) (wide_at width d.0) u r) [
-                  | by_line k is four ↦ bad_line game program style width d.0 k refl text is four
-                  | by_width placed none is seven ↦ bad_width game program style width d.0 placed refl text none is seven
-                ])
+                (let text : DatText texts.main d.0 = (laws.database texts.main d.0).0
+                (database_fit game (database_in texts.main) d.0 d.1) in
+                let f = translatable_unfit game d.0 (wide_at width d.0) u r in
+                bad_width game program style width d.0 f.0 refl text f.1 f.2)
             | inr r ↦ absurd (let g = r.2 in cc)
           ]
     ]
 fails laws (run name source steps width) texts u e =
-    elim (bind-err (program_of_file width name texts.main) (run_with source texts.draws width steps) u e) [
+    elim (bind-err (program_of_file width name texts.main)
+    (run_with source texts.draws width steps) u e) [
       | inl d ↦
           (let f = program_unfit name (program_in width texts.main) u d in
-          bad_program name source steps width f.0 refl ((laws.program_fault width texts.main f.0).0 f.1) f.2)
+          bad_program name source steps width f.0 refl ((laws.program_fault width texts.main f.0).0
+          f.1) f.2)
       | inr d ↦
           elim (bind-err (draws_from source texts.draws) (run_of width steps d.0) u d.2) [
             | inl r ↦ (let f = draws_unfit source texts.draws u r in bad_draws f.0 f.1 f.2 f.3 f.4)
@@ -208,29 +229,40 @@ fails laws (run name source steps width) texts u e =
     ]
 
 -- a task that is a run comes of a request to run the program
-pub run_request : (request : Request) (texts : Texts) (width : Width) (p : List DirectiveTree) (draws : List ℕ) (steps : ℕ)
-    → work request texts ≡ Ok (running width p draws steps) → (name : List ℕ) × (source : DrawSource) × (request ≡ run name source steps width)
+pub run_request : (request : Request) (texts : Texts) (width : Width) (p : List DirectiveTree)
+    (draws : List ℕ) (steps : ℕ)
+    → work request texts ≡ Ok (running width p draws steps) → (name : List ℕ) ×
+    (source : DrawSource) × (request ≡ run name source steps width)
 run_request (check game) texts width p draws steps e =
-    absurd (let d = bind-ok (database_of_file game texts.main) report_of (running width p draws steps) e in let f = d.2 in cc)
+    absurd (let d = bind-ok (database_of_file game texts.main) report_of
+        (running width p draws steps) e in let f = d.2 in cc)
 run_request (compile source game) texts width p draws steps e =
-    absurd (let d = bind-ok (compiled_from source texts.main) (store_of game canon) (running width p draws steps) e in let f = d.2 in cc)
+    absurd (let d = bind-ok (compiled_from source texts.main) (store_of game canon)
+        (running width p draws steps) e in let f = d.2 in cc)
 run_request (decompile game source) texts width p draws steps e =
-    absurd (let d = bind-ok (database_of_file game texts.main) (store_of source plain) (running width p draws steps) e in let f = d.2 in cc)
+    absurd (let d = bind-ok (database_of_file game texts.main) (store_of source plain)
+        (running width p draws steps) e in let f = d.2 in cc)
 run_request (play game source style) texts width p draws steps e =
     absurd (
-    let d = bind-ok (database_of_file game texts.main) (with_draws source texts.draws style) (running width p draws steps) e in
-    let r = bind-ok (draws_from source texts.draws) (play_of style d.0) (running width p draws steps) d.2 in
+    let d = bind-ok (database_of_file game texts.main) (with_draws source texts.draws style)
+    (running width p draws steps) e in
+    let r = bind-ok (draws_from source texts.draws) (play_of style d.0)
+    (running width p draws steps) d.2 in
     let f = r.2 in
     cc)
 run_request (translate game program style wide) texts width p draws steps e =
     absurd (
-    let d = bind-ok (database_of_file game texts.main) (translate_with game program style wide) (running width p draws steps) e in
-    let r = bind-ok (translatable game wide d.0) (translation_of program style wide) (running width p draws steps) d.2 in
+    let d = bind-ok (database_of_file game texts.main) (translate_with game program style wide)
+    (running width p draws steps) e in
+    let r = bind-ok (translatable game wide d.0) (translation_of program style wide)
+    (running width p draws steps) d.2 in
     let f = r.2 in
     cc)
 run_request (run name source most wide) texts width p draws steps e =
-    let d = bind-ok (program_of_file wide name texts.main) (run_with source texts.draws wide most) (running width p draws steps) e in
-    let r = bind-ok (draws_from source texts.draws) (run_of wide most d.0) (running width p draws steps) d.2 in
+    let d = bind-ok (program_of_file wide name texts.main) (run_with source texts.draws wide most)
+    (running width p draws steps) e in
+    let r = bind-ok (draws_from source texts.draws) (run_of wide most d.0)
+    (running width p draws steps) d.2 in
     let same : running wide d.0 r.0 most ≡ running width p draws steps = (let f = r.2 in cc) in
     let width_is : wide ≡ width = cc in
     let steps_are : most ≡ steps = cc in
@@ -238,18 +270,20 @@ run_request (run name source most wide) texts width p draws steps e =
 
 -- ---- what is accepted
 
-program_fit : (name : List ℕ) (read : Result (List DirectiveTree) reader.Fault) (p : List DirectiveTree) → program_or_unfit name read ≡ Ok p → read ≡ Ok p
+program_fit : (name : List ℕ) (read : Result (List DirectiveTree) reader.Fault)
+    (p : List DirectiveTree) → program_or_unfit name read ≡ Ok p → read ≡ Ok p
 program_fit name (Ok other) p e = let same : other ≡ p = cc in ap Ok same
 program_fit name (Err fault) p e = absurd cc
 
 -- what can be translated is the database itself
-fit_same : (name : List ℕ) (db fit : Database) (line : Option ℕ) (wide : Option Placed) → translatable_or_unfit name db (refusal_by line wide) ≡ Ok fit → fit ≡ db
-fit_same name db fit (Some k) wide e = absurd cc
-fit_same name db fit None (Some placed) e = absurd cc
-fit_same name db fit None None e = let same : db ≡ fit = cc in sym same
+fit_same : (name : List ℕ) (db fit : Database) (wide : Option Placed)
+    → translatable_or_unfit name db wide ≡ Ok fit → fit ≡ db
+fit_same name db fit (Some placed) e = absurd cc
+fit_same name db fit None e = let same : db ≡ fit = cc in sym same
 
-pub translatable_same : (name : List ℕ) (width : Width) (db fit : Database) → translatable name width db ≡ Ok fit → fit ≡ db
-translatable_same name width db fit e = fit_same name db fit (first_line db) (wide_at width db) e
+pub translatable_same : (name : List ℕ) (width : Width) (db fit : Database)
+    → translatable name width db ≡ Ok fit → fit ≡ db
+translatable_same name width db fit e = fit_same name db fit (wide_at width db) e
 
 -- a task that is a run ends with 0, with the lines that are left
 abbrev pub EndsWith0 : Task → Option (List (List ℕ)) → Type 0
@@ -258,51 +292,67 @@ EndsWith0 (storing name bytes) left = Unit {0}
 EndsWith0 (playing style db draws) left = Unit {0}
 EndsWith0 (translating name style width db) left = Unit {0}
 EndsWith0 (running width p draws steps) left =
-    (lines : List (List ℕ)) × (left ≡ Some lines) × (stop_status (stop_after width p steps lines draws) ≡ 0)
+    (lines : List (List ℕ)) × (left ≡ Some lines) × (stop_status
+    (stop_after width p steps lines draws) ≡ 0)
 
 module _ (files : Files) where
   -- the database of a request
-  pub main_is : (laws : Laws) (game : List ℕ) (bytes : List ℕ) (db : Database) → loaded files (Some (database_load game)) ≡ Ok bytes
+  pub main_is : (laws : Laws) (game : List ℕ) (bytes : List ℕ) (db : Database) → loaded files
+      (Some (database_load game)) ≡ Ok bytes
       → database_of_file game bytes ≡ Ok db → (get files game ≡ Some bytes) × DatText bytes db
-  main_is laws game bytes db l e = (there-loaded files (database_load game) bytes l, (laws.database bytes db).0 (database_fit game (database_in bytes) db e))
+  main_is laws game bytes db l e = (there-loaded files (database_load game) bytes l,
+      (laws.database bytes db).0 (database_fit game (database_in bytes) db e))
 
   -- the database that the source of a request means
-  pub meant_is : (laws : Laws) (source : List ℕ) (bytes : List ℕ) (db : Database) → loaded files (Some (source_load source)) ≡ Ok bytes
-      → compiled_from source bytes ≡ Ok db → (get files source ≡ Some bytes) × ((tree : Source) × SourceText bytes tree × (meant tree ≡ Ok db))
+  pub meant_is : (laws : Laws) (source : List ℕ) (bytes : List ℕ) (db : Database) → loaded files
+      (Some (source_load source)) ≡ Ok bytes
+      → compiled_from source bytes ≡ Ok db → (get files source ≡ Some bytes) ×
+      ((tree : Source) × SourceText bytes tree × (meant tree ≡ Ok db))
   meant_is laws source bytes db l e =
       let s = bind-ok (source_or_unfit source (source_in bytes)) (means source) db e in (
         there-loaded files (source_load source) bytes l,
-        (s.0, (laws.source bytes s.0).0 (source_fit source (source_in bytes) s.0 s.1), meaning_fit source (meant s.0) db s.2),
+        (s.0, (laws.source bytes s.0).0 (source_fit source (source_in bytes) s.0 s.1), meaning_fit
+        source (meant s.0) db s.2),
       )
 
   -- the program of a request
-  pub program_is : (laws : Laws) (width : Width) (name bytes : List ℕ) (p : List DirectiveTree) → loaded files (Some (program_load name)) ≡ Ok bytes
-      → program_of_file width name bytes ≡ Ok p → (get files name ≡ Some bytes) × IsProgram width bytes p
+  pub program_is : (laws : Laws) (width : Width) (name bytes : List ℕ) (p : List DirectiveTree)
+      → loaded files (Some (program_load name)) ≡ Ok bytes
+      → program_of_file width name bytes ≡ Ok p → (get files name ≡ Some bytes)
+      × IsProgram width bytes p
   program_is laws width name bytes p l e =
-      (there-loaded files (program_load name) bytes l, (laws.program width bytes p).0 (program_fit name (program_in width bytes) p e))
+      (there-loaded files (program_load name) bytes l, (laws.program width bytes p).0
+      (program_fit name (program_in width bytes) p e))
 
   -- the draws of a request
-  pub draws_are : (source : DrawSource) (bytes draws : List ℕ) → loaded files (draws_load source) ≡ Ok bytes → draws_from source bytes ≡ Ok draws
+  pub draws_are : (source : DrawSource) (bytes draws : List ℕ) → loaded files (draws_load source)
+      ≡ Ok bytes → draws_from source bytes ≡ Ok draws
       → DrawsAre files source draws
   draws_are (seeded seed) bytes draws l e = cc
-  draws_are (listed name) bytes draws l e = (bytes, there-loaded files _ bytes l, by (listed_draws bytes) refl e)
+  draws_are (listed name) bytes draws l e = (bytes, there-loaded files _ bytes l, by
+      (listed_draws bytes) refl e)
     where
-      by : (read : Result (List ℕ) ℕ) → listed_draws bytes ≡ read → draws_or_unfit name read ≡ Ok draws → listed_draws bytes ≡ Ok draws
+      by : (read : Result (List ℕ) ℕ) → listed_draws bytes ≡ read → draws_or_unfit name read
+          ≡ Ok draws → listed_draws bytes ≡ Ok draws
       by (Ok other) f g = let same : other ≡ draws = cc in f ∙ ap Ok same
       by (Err at) f g = absurd cc
 
   -- ---- a request that is accepted has a task
 
   abbrev Comes : Request → Option (List (List ℕ)) → Type 0
-  Comes request left = (task : Task) × (expected files (Some request) ≡ Ok task) × EndsWith0 task left
+  Comes request left = (task : Task) × (expected files (Some request) ≡ Ok task)
+      × EndsWith0 task left
 
   abbrev rest : Request → List ℕ → Result Texts Refusal
-  rest request main = loaded files (draws_of request) >>= λ draws. Ok (record { main = main; draws = draws })
+  rest request main = loaded files (draws_of request) >>= λ draws. Ok
+      (record { main = main; draws = draws })
 
   abbrev come : Request → Result Texts Refusal → Result Task Refusal
   come request r = r >>= λ t. refusing (work request t)
 
-  comes : (request : Request) (left : Option (List (List ℕ))) (texts : Texts) (task : Task) → loaded files (main_of request) ≡ Ok texts.main → loaded files (draws_of request) ≡ Ok texts.draws
+  comes : (request : Request) (left : Option (List (List ℕ))) (texts : Texts) (task : Task)
+      → loaded files (main_of request) ≡ Ok texts.main → loaded files (draws_of request)
+      ≡ Ok texts.draws
       → work request texts ≡ Ok task → EndsWith0 task left → Comes request left
   comes request left texts task m d w ends = (task, loads_main ∙ loads_draws ∙ ap refusing w, ends)
     where
@@ -310,58 +360,83 @@ module _ (files : Files) where
       loads_main = ap (λ r. come request (r >>= rest request)) m
 
       loads_draws : come request (rest request texts.main) ≡ refusing (work request texts)
-      loads_draws = ap (λ r. come request (r >>= λ draws. Ok (record { main = texts.main; draws = draws }))) d
+      loads_draws = ap (λ r. come request (r >>= λ draws. Ok
+          (record { main = texts.main; draws = draws }))) d
 
-  game_reads : (laws : Laws) (name bytes : List ℕ) (db : Database) → DatText bytes db → database_of_file name bytes ≡ Ok db
+  game_reads : (laws : Laws) (name bytes : List ℕ) (db : Database) → DatText bytes db
+      → database_of_file name bytes ≡ Ok db
   game_reads laws name bytes db text = ap (database_or_unfit name) ((laws.database bytes db).1 text)
 
-  source_compiles : (laws : Laws) (name bytes : List ℕ) (tree : Source) (db : Database) → SourceText bytes tree → meant tree ≡ Ok db → compiled_from name bytes ≡ Ok db
+  source_compiles : (laws : Laws) (name bytes : List ℕ) (tree : Source) (db : Database)
+      → SourceText bytes tree → meant tree ≡ Ok db → compiled_from name bytes ≡ Ok db
   source_compiles laws name bytes tree db text e =
-      ap (λ r. source_or_unfit name r >>= means name) ((laws.source bytes tree).1 text) ∙ ap (meaning_or_unfit name) e
+      ap (λ r. source_or_unfit name r >>= means name) ((laws.source bytes tree).1 text) ∙ ap
+      (meaning_or_unfit name) e
 
-  program_reads : (laws : Laws) (width : Width) (name bytes : List ℕ) (p : List DirectiveTree) → IsProgram width bytes p → program_of_file width name bytes ≡ Ok p
-  program_reads laws width name bytes p is = ap (program_or_unfit name) ((laws.program width bytes p).1 is)
+  program_reads : (laws : Laws) (width : Width) (name bytes : List ℕ) (p : List DirectiveTree)
+      → IsProgram width bytes p → program_of_file width name bytes ≡ Ok p
+  program_reads laws width name bytes p is = ap (program_or_unfit name)
+      ((laws.program width bytes p).1 is)
 
-  can_translate : (name : List ℕ) (width : Width) (db : Database) → first_line db ≡ None → wide_at width db ≡ None → translatable name width db ≡ Ok db
-  can_translate name width db no_line no_wide =
-      ap (λ line. translatable_or_unfit name db (refusal_by line (wide_at width db))) no_line ∙ ap (λ wide. translatable_or_unfit name db (too_wide wide)) no_wide
+  can_translate : (name : List ℕ) (width : Width) (db : Database) → wide_at width db ≡ None
+      → translatable name width db ≡ Ok db
+  can_translate name width db no_wide = ap (translatable_or_unfit name db) no_wide
 
-  same_file : (name : List ℕ) {a b : List ℕ} → get files name ≡ Some a → get files name ≡ Some b → a ≡ b
+  same_file : (name : List ℕ) {a b : List ℕ} → get files name ≡ Some a → get files name ≡ Some b → a
+      ≡ b
   same_file name {a} {b} there other = ap (λ o. unwrap_or o a) (sym there ∙ other)
 
-  pub accepted : (laws : Laws) (request : Request) (left : Option (List (List ℕ))) → IsAccepted files left (Some request) → Comes request left
+  pub accepted : (laws : Laws) (request : Request) (left : Option (List (List ℕ)))
+      → IsAccepted files left (Some request) → Comes request left
   accepted laws (check game) left h =
       comes (check game) left (record { main = h.0; draws = [] }) (reporting h.1)
-      (loaded-there files (database_load game) h.0 h.2) refl (ap (λ r. r >>= report_of) (game_reads laws game h.0 h.1 h.3)) tt
+      (loaded-there files (database_load game) h.0 h.2) refl
+      (ap (λ r. r >>= report_of) (game_reads laws game h.0 h.1 h.3)) tt
   accepted laws (compile source game) left h =
-      comes (compile source game) left (record { main = h.0; draws = [] }) (storing game (canon h.2))
-      (loaded-there files (source_load source) h.0 h.3) refl (ap (λ r. r >>= store_of game canon) (source_compiles laws source h.0 h.1 h.2 h.4 h.5)) tt
+      comes (compile source game) left (record { main = h.0; draws = [] })
+          (storing game (canon h.2))
+      (loaded-there files (source_load source) h.0 h.3) refl
+      (ap (λ r. r >>= store_of game canon) (source_compiles laws source h.0 h.1 h.2 h.4 h.5)) tt
   accepted laws (decompile game source) left h =
-      comes (decompile game source) left (record { main = h.0; draws = [] }) (storing source (plain h.1))
-      (loaded-there files (database_load game) h.0 h.2) refl (ap (λ r. r >>= store_of source plain) (game_reads laws game h.0 h.1 h.3)) tt
+      comes (decompile game source) left (record { main = h.0; draws = [] })
+          (storing source (plain h.1))
+      (loaded-there files (database_load game) h.0 h.2) refl
+      (ap (λ r. r >>= store_of source plain) (game_reads laws game h.0 h.1 h.3)) tt
   accepted laws (play game (seeded seed) style) left h =
       let g = h.0 in
       comes (play game (seeded seed) style) left (record { main = g.0; draws = [] }) _
-      (loaded-there files (database_load game) g.0 g.2) refl (ap (λ r. r >>= with_draws (seeded seed) [] style) (game_reads laws game g.0 g.1 g.3)) tt
+      (loaded-there files (database_load game) g.0 g.2) refl
+      (ap (λ r. r >>= with_draws (seeded seed) [] style) (game_reads laws game g.0 g.1 g.3)) tt
   accepted laws (play game (listed name) style) left h =
       let g = h.0 in
       let d = h.1 in
-      comes (play game (listed name) style) left (record { main = g.0; draws = d.0 }) (playing style g.1 d.1)
+      comes (play game (listed name) style) left (record { main = g.0; draws = d.0 })
+          (playing style g.1 d.1)
       (loaded-there files (database_load game) g.0 g.2) (loaded-there files _ d.0 d.2)
-      (ap (λ r. r >>= with_draws (listed name) d.0 style) (game_reads laws game g.0 g.1 g.3) ∙ ap (λ r. draws_or_unfit name r >>= play_of style g.1) d.3) tt
-  accepted laws (translate game program style width) left (bytes, db, loads, text, no_line, no_wide) =
-      comes (translate game program style width) left (record { main = bytes; draws = [] }) (translating program style width db)
+      (ap (λ r. r >>= with_draws (listed name) d.0 style) (game_reads laws game g.0 g.1 g.3) ∙ ap
+      (λ r. draws_or_unfit name r >>= play_of style g.1) d.3) tt
+  accepted laws (translate game program style width) left (bytes, db, loads, text, no_wide) =
+      comes (translate game program style width) left (record { main = bytes; draws = [] })
+          (translating program style width db)
       (loaded-there files (database_load game) bytes loads) refl
       (ap (λ r. r >>= translate_with game program style width) (game_reads laws game bytes db text)
-      ∙ ap (λ r. r >>= translation_of program style width) (can_translate game width db no_line no_wide)) tt
-  accepted laws (run name (seeded seed) steps width) left ((bytes, p, draws, lines, loads, is, from_seed, lines_are, zero), h) =
-      comes (run name (seeded seed) steps width) left (record { main = bytes; draws = [] }) (running width p draws steps)
+      ∙ ap (λ r. r >>= translation_of program style width) (can_translate game width db no_wide)) tt
+  accepted laws (run name (seeded seed) steps width) left
+      ((bytes, p, draws, lines, loads, is, from_seed, lines_are, zero), h) =
+      comes (run name (seeded seed) steps width) left (record { main = bytes; draws = [] })
+          (running width p draws steps)
       (loaded-there files (program_load name) bytes loads) refl
-      (ap (λ r. r >>= run_with (seeded seed) [] width steps) (program_reads laws width name bytes p is) ∙ ap (λ d. Ok (running width p d steps)) (sym from_seed))
+      (ap (λ r. r >>= run_with (seeded seed) [] width steps)
+      (program_reads laws width name bytes p is) ∙ ap (λ d. Ok (running width p d steps))
+      (sym from_seed))
       (lines, lines_are, zero)
-  accepted laws (run name (listed file) steps width) left ((bytes, p, draws, lines, loads, is, (more, there, lists), lines_are, zero), h) =
-      comes (run name (listed file) steps width) left (record { main = bytes; draws = h.0 }) (running width p draws steps)
+  accepted laws (run name (listed file) steps width) left
+      ((bytes, p, draws, lines, loads, is, (more, there, lists), lines_are, zero), h) =
+      comes (run name (listed file) steps width) left (record { main = bytes; draws = h.0 })
+          (running width p draws steps)
       (loaded-there files (program_load name) bytes loads) (loaded-there files _ h.0 h.2)
-      (ap (λ r. r >>= run_with (listed file) h.0 width steps) (program_reads laws width name bytes p is)
-      ∙ ap (λ r. draws_or_unfit file r >>= run_of width steps p) (ap listed_draws (same_file file h.2.0 there) ∙ lists))
+      (ap (λ r. r >>= run_with (listed file) h.0 width steps)
+      (program_reads laws width name bytes p is)
+      ∙ ap (λ r. draws_or_unfit file r >>= run_of width steps p)
+      (ap listed_draws (same_file file h.2.0 there) ∙ lists))
       (lines, lines_are, zero)

@@ -42,24 +42,31 @@ module _ (shelf shelf' : ShelfView) (console console' : ConsoleView) (status : �
     own n not_3 e = elim ended [ inl h ↦ sym h.0 ∙ e | inr h ↦ absurd (not_3 (sym e ∙ h.0)) ]
 
     broke : status ≡ 3 → Broke
-    broke e = elim ended [ inl h ↦ absurd (refusal_not refusal 3 (inr (inr (inl refl))) (sym h.0 ∙ e)) | inr h ↦ h.1 ]
+    broke e = elim ended [ inl h ↦ absurd (refusal_not refusal 3 (inr (inr (inl refl)))
+        (sym h.0 ∙ e)) | inr h ↦ h.1 ]
 
     stand_refused : Stand (status_of refusal ∷ [])
     stand_refused = elim ended [
-      | inl h ↦ inl (subst (Contains (status_of refusal ∷ [])) (sym h.0) (first (status_of refusal)))
+      | inl h ↦ inl (subst (Contains (status_of refusal ∷ [])) (sym h.0)
+      (first (status_of refusal)))
       | inr h ↦ inr (inr (inl (h.0, h.1)))
     ]
 
-    stand_expected : (files : Files) (asked : Option Request) → expected files asked ≡ Err refusal → Stand (statuses_of (expected files asked))
-    stand_expected files asked e = subst (λ (r : Result Task Refusal). Stand (statuses_of r)) (sym e) stand_refused
+    stand_expected : (files : Files) (asked : Option Request) → expected files asked ≡ Err refusal
+        → Stand (statuses_of (expected files asked))
+    stand_expected files asked e = subst (λ (r : Result Task Refusal). Stand (statuses_of r))
+        (sym e) stand_refused
 
-    refused_ends : shelf'.files ≡ shelf.files → Ends shelf shelf' console console' (refused refusal) status
+    refused_ends : shelf'.files ≡ shelf.files → Ends shelf shelf' console console'
+        (refused refusal) status
     refused_ends same = elim ended [ inl h ↦ whole h.0 h.1 same | inr h ↦ unsaid h.0 h.1 h.2 same ]
 
-    answers_expected : shelf'.files ≡ shelf.files → (files : Files) (asked : Option Request) (lines : List (List ℕ)) → expected files asked ≡ Err refusal
+    answers_expected : shelf'.files ≡ shelf.files → (files : Files) (asked : Option Request)
+        (lines : List (List ℕ)) → expected files asked ≡ Err refusal
         → Answers shelf shelf' console console' lines (expected files asked) status
     answers_expected same files asked lines e =
-        subst (λ (r : Result Task Refusal). Answers shelf shelf' console console' lines r status) (sym e) (inl (refused refusal, refl, refused_ends same))
+        subst (λ (r : Result Task Refusal). Answers shelf shelf' console console' lines r status)
+            (sym e) (inl (refused refusal, refl, refused_ends same))
 
     -- where the shelf failed, any status stands that says so
     stand_lost : (others : List ℕ) → status_of refusal ≡ 2 → Lost → Stand others
@@ -70,28 +77,43 @@ module _ (shelf shelf' : ShelfView) (console console' : ConsoleView) (status : �
 
   -- ---- no request
 
-  pub not_asked_promised : (laws : Laws) → shelf'.files ≡ shelf.files → shelf'.faults ≡ shelf.faults → Refuses console console' (Some no_request) status
+  pub not_asked_promised : (laws : Laws) → shelf'.files ≡ shelf.files → shelf'.faults ≡ shelf.faults
+      → Refuses console console' (Some no_request) status
       → Promises shelf shelf' console console' None status
   not_asked_promised laws same steady r =
-      let stands = for_files shelf.files (λ files. Stand (statuses_of (expected files None))) (λ files. stand_expected no_request r.ended files None refl) in
-      let seen : IfKnown shelf console (λ files lines. Answers shelf shelf' console console' lines (expected files None) status ⊎ SaysUnread shelf shelf' console console' None status) = for_files shelf.files (λ files. IfSome console.left (λ lines. Answers shelf shelf' console console' lines (expected files None) status ⊎ SaysUnread shelf shelf' console console' None status))
-      (λ files. for_lines console.left (λ lines. Answers shelf shelf' console console' lines (expected files None) status ⊎ SaysUnread shelf shelf' console console' None status)
+      let stands = for_files shelf.files (λ files. Stand (statuses_of (expected files None)))
+      (λ files. stand_expected no_request r.ended files None refl) in
+      let seen : IfKnown shelf console (λ files lines. Answers shelf shelf' console console' lines
+      (expected files None) status ⊎ SaysUnread shelf shelf' console console' None status) =
+      for_files shelf.files (λ files. IfSome console.left
+      (λ lines. Answers shelf shelf' console console' lines (expected files None) status
+      ⊎ SaysUnread shelf shelf' console console' None status))
+      (λ files. for_lines console.left (λ lines. Answers shelf shelf' console console' lines
+      (expected files None) status ⊎ SaysUnread shelf shelf' console console' None status)
       (λ lines. inl (answers_expected no_request r.ended same files None lines refl))) in
       record {
         status_is = record {
           known = known_refused no_request r.ended;
           cause = record {
             no_request = λ e. refl;
-            unread = λ e. absurd (let f = own no_request r.ended 2 (λ e. omega arith) e in omega arith);
+            unread = λ e. absurd (let f = own no_request r.ended 2
+                (λ e. omega arith) e in omega arith);
             unsaid = broke no_request r.ended;
-            no_database = λ e. absurd (let f = own no_request r.ended 4 (λ e. omega arith) e in omega arith);
-            no_source_or_draws = λ e. absurd (let f = own no_request r.ended 5 (λ e. omega arith) e in omega arith);
-            no_program = λ e. absurd (let f = own no_request r.ended 6 (λ e. omega arith) e in omega arith);
-            too_wide = λ e. absurd (let f = own no_request r.ended 7 (λ e. omega arith) e in omega arith);
-            trapped = λ e. absurd (let f = own no_request r.ended 8 (λ e. omega arith) e in omega arith);
-            spent = λ e. absurd (let f = own no_request r.ended 10 (λ e. omega arith) e in omega arith);
+            no_database = λ e. absurd (let f = own no_request r.ended 4
+                (λ e. omega arith) e in omega arith);
+            no_source_or_draws = λ e. absurd (let f = own no_request r.ended 5
+                (λ e. omega arith) e in omega arith);
+            no_program = λ e. absurd (let f = own no_request r.ended 6
+                (λ e. omega arith) e in omega arith);
+            too_wide = λ e. absurd (let f = own no_request r.ended 7
+                (λ e. omega arith) e in omega arith);
+            trapped = λ e. absurd (let f = own no_request r.ended 8
+                (λ e. omega arith) e in omega arith);
+            spent = λ e. absurd (let f = own no_request r.ended 10
+                (λ e. omega arith) e in omega arith);
             memory = λ e. absurd (refused_not_9 console console' status no_request r.ended e);
-            too_long = λ e. absurd (let f = own no_request r.ended 11 (λ e. omega arith) e in omega arith);
+            too_long = λ e. absurd (let f = own no_request r.ended 11
+                (λ e. omega arith) e in omega arith);
           };
           first = stands;
         };
@@ -121,7 +143,9 @@ module _ (shelf shelf' : ShelfView) (console console' : ConsoleView) (status : �
 
   module _ (request : Request) where
     abbrev Seen : Files → List (List ℕ) → Type 0
-    Seen files lines = Answers shelf shelf' console console' lines (expected files (Some request)) status ⊎ SaysUnread shelf shelf' console console' (Some request) status
+    Seen files lines = Answers shelf shelf' console console' lines
+        (expected files (Some request)) status ⊎ SaysUnread shelf shelf' console console'
+        (Some request) status
 
     abbrev AllSeen : Type 0
     AllSeen = IfKnown shelf console Seen
@@ -131,18 +155,27 @@ module _ (shelf shelf' : ShelfView) (console console' : ConsoleView) (status : �
 
     seen_by : ((files : Files) (lines : List (List ℕ)) → Seen files lines) → AllSeen
     seen_by f =
-        for_files shelf.files (λ files. IfSome console.left (Seen files)) (λ files. for_lines console.left (Seen files) (f files))
+        for_files shelf.files (λ files. IfSome console.left (Seen files))
+        (λ files. for_lines console.left (Seen files) (f files))
 
     -- the refusal is the one that the files have
-    stands_at : (refusal : Refusal) → Concludes console console' (refused refusal) status → IfSome shelf.files (λ files. texts_of files request ≡ Err refusal) → AllStands
+    stands_at : (refusal : Refusal) → Concludes console console' (refused refusal) status
+        → IfSome shelf.files (λ files. texts_of files request ≡ Err refusal) → AllStands
     stands_at refusal ended h =
-        from_files shelf.files (λ files. texts_of files request ≡ Err refusal) (λ files. Stand (statuses_of (expected files (Some request))))
-        (λ files e. stand_expected refusal ended files (Some request) (expected-err files request refusal e)) h
+        from_files shelf.files (λ files. texts_of files request ≡ Err refusal)
+        (λ files. Stand (statuses_of (expected files (Some request))))
+        (λ files e. stand_expected refusal ended files (Some request)
+        (expected-err files request refusal e)) h
 
-    seen_at : shelf'.files ≡ shelf.files → (refusal : Refusal) → Concludes console console' (refused refusal) status → IfSome shelf.files (λ files. texts_of files request ≡ Err refusal) → AllSeen
+    seen_at : shelf'.files ≡ shelf.files → (refusal : Refusal) → Concludes console console'
+        (refused refusal) status → IfSome shelf.files (λ files. texts_of files request
+        ≡ Err refusal) → AllSeen
     seen_at same refusal ended h =
-        from_files shelf.files (λ files. texts_of files request ≡ Err refusal) (λ files. IfSome console.left (Seen files))
-        (λ files e. for_lines console.left (Seen files) (λ lines. inl (answers_expected refusal ended same files (Some request) lines (expected-err files request refusal e)))) h
+        from_files shelf.files (λ files. texts_of files request ≡ Err refusal)
+        (λ files. IfSome console.left (Seen files))
+        (λ files e. for_lines console.left (Seen files) (λ lines. inl
+        (answers_expected refusal ended same files (Some request) lines
+        (expected-err files request refusal e)))) h
 
     abbrev Promised : Type 0
     Promised = Promises shelf shelf' console console' (Some request) status
@@ -151,19 +184,26 @@ module _ (shelf shelf' : ShelfView) (console console' : ConsoleView) (status : �
     Cause = HasCause shelf shelf' console console' (Some request) status
 
     -- a refusal whose cause is known and that says what is seen
-    refused_promised : (laws : Laws) (refusal : Refusal) → shelf'.files ≡ shelf.files → shelf.faults ≤ shelf'.faults → ShelfStays shelf shelf' status
+    refused_promised : (laws : Laws) (refusal : Refusal) → shelf'.files ≡ shelf.files
+        → shelf.faults ≤ shelf'.faults → ShelfStays shelf shelf' status
         → Refuses console console' (Some refusal) status → Cause → AllStands → AllSeen → Promised
     refused_promised laws refusal same later stays r cause stands seen = record {
       status_is = record { known = known_refused refusal r.ended; cause = cause; first = stands };
-      seen = record { all = seen; usage = λ e. absurd cc; silent = λ e. absurd (refused_not_9 console console' status refusal r.ended e); lines = inr r.lines };
+      seen = record { all = seen; usage = λ e. absurd cc; silent = λ e. absurd
+          (refused_not_9 console console' status refusal r.ended e); lines = inr r.lines };
       files = name_keeps shelf shelf' console console' status (stores request) same;
       complete = complete_from shelf shelf' console console' status laws (Some request) stands seen;
       checked = λ zero game e. absurd (refused_not_0 console console' status refusal r.ended zero);
-      compiled = λ zero source game e. absurd (refused_not_0 console console' status refusal r.ended zero);
-      decompiled = λ zero game source e. absurd (refused_not_0 console console' status refusal r.ended zero);
-      played = λ zero game source style e. absurd (refused_not_0 console console' status refusal r.ended zero);
-      translated = λ zero game program style width e. absurd (refused_not_0 console console' status refusal r.ended zero);
-      ran = λ end name source steps width e. absurd (refused_not_end console console' status refusal r.ended end);
+      compiled = λ zero source game e. absurd (refused_not_0 console console' status refusal r.ended
+          zero);
+      decompiled = λ zero game source e. absurd (refused_not_0 console console' status refusal
+          r.ended zero);
+      played = λ zero game source style e. absurd (refused_not_0 console console' status refusal
+          r.ended zero);
+      translated = λ zero game program style width e. absurd
+          (refused_not_0 console console' status refusal r.ended zero);
+      ran = λ end name source steps width e. absurd (refused_not_end console console' status refusal
+          r.ended end);
       counts = record {
         shelf_later = later;
         console_later = r.later;
@@ -175,39 +215,56 @@ module _ (shelf shelf' : ShelfView) (console console' : ConsoleView) (status : �
     unread_cause : (name : List ℕ) → Concludes console console' (refused (unread name)) status
         → Lost ⊎ OneLoaded (Some request) (λ load. Lacks shelf.files load.name) → Cause
     unread_cause name ended lost = record {
-      no_request = λ e. absurd (let f = own (unread name) ended 1 (λ e. omega arith) e in omega arith);
+      no_request = λ e. absurd (let f = own (unread name) ended 1
+          (λ e. omega arith) e in omega arith);
       unread = λ e. lost;
       unsaid = broke (unread name) ended;
-      no_database = λ e. absurd (let f = own (unread name) ended 4 (λ e. omega arith) e in omega arith);
-      no_source_or_draws = λ e. absurd (let f = own (unread name) ended 5 (λ e. omega arith) e in omega arith);
-      no_program = λ e. absurd (let f = own (unread name) ended 6 (λ e. omega arith) e in omega arith);
-      too_wide = λ e. absurd (let f = own (unread name) ended 7 (λ e. omega arith) e in omega arith);
+      no_database = λ e. absurd (let f = own (unread name) ended 4
+          (λ e. omega arith) e in omega arith);
+      no_source_or_draws = λ e. absurd (let f = own (unread name) ended 5
+          (λ e. omega arith) e in omega arith);
+      no_program = λ e. absurd (let f = own (unread name) ended 6
+          (λ e. omega arith) e in omega arith);
+      too_wide = λ e. absurd (let f = own (unread name) ended 7
+          (λ e. omega arith) e in omega arith);
       trapped = λ e. absurd (let f = own (unread name) ended 8 (λ e. omega arith) e in omega arith);
       spent = λ e. absurd (let f = own (unread name) ended 10 (λ e. omega arith) e in omega arith);
       memory = λ e. refl;
-      too_long = λ e. absurd (let f = own (unread name) ended 11 (λ e. omega arith) e in omega arith);
+      too_long = λ e. absurd (let f = own (unread name) ended 11
+          (λ e. omega arith) e in omega arith);
     }
 
-    long_cause : (name : List ℕ) (limit : ℕ) → Concludes console console' (refused (too_long name limit)) status
+    long_cause : (name : List ℕ) (limit : ℕ) → Concludes console console'
+        (refused (too_long name limit)) status
         → IfSome shelf.files (λ files. OneLoaded (Some request) (IsTooLong files)) → Cause
     long_cause name limit ended long = record {
-      no_request = λ e. absurd (let f = own (too_long name limit) ended 1 (λ e. omega arith) e in omega arith);
-      unread = λ e. absurd (let f = own (too_long name limit) ended 2 (λ e. omega arith) e in omega arith);
+      no_request = λ e. absurd (let f = own (too_long name limit) ended 1
+          (λ e. omega arith) e in omega arith);
+      unread = λ e. absurd (let f = own (too_long name limit) ended 2
+          (λ e. omega arith) e in omega arith);
       unsaid = broke (too_long name limit) ended;
-      no_database = λ e. absurd (let f = own (too_long name limit) ended 4 (λ e. omega arith) e in omega arith);
-      no_source_or_draws = λ e. absurd (let f = own (too_long name limit) ended 5 (λ e. omega arith) e in omega arith);
-      no_program = λ e. absurd (let f = own (too_long name limit) ended 6 (λ e. omega arith) e in omega arith);
-      too_wide = λ e. absurd (let f = own (too_long name limit) ended 7 (λ e. omega arith) e in omega arith);
-      trapped = λ e. absurd (let f = own (too_long name limit) ended 8 (λ e. omega arith) e in omega arith);
-      spent = λ e. absurd (let f = own (too_long name limit) ended 10 (λ e. omega arith) e in omega arith);
+      no_database = λ e. absurd (let f = own (too_long name limit) ended 4
+          (λ e. omega arith) e in omega arith);
+      no_source_or_draws = λ e. absurd (let f = own (too_long name limit) ended 5
+          (λ e. omega arith) e in omega arith);
+      no_program = λ e. absurd (let f = own (too_long name limit) ended 6
+          (λ e. omega arith) e in omega arith);
+      too_wide = λ e. absurd (let f = own (too_long name limit) ended 7
+          (λ e. omega arith) e in omega arith);
+      trapped = λ e. absurd (let f = own (too_long name limit) ended 8
+          (λ e. omega arith) e in omega arith);
+      spent = λ e. absurd (let f = own (too_long name limit) ended 10
+          (λ e. omega arith) e in omega arith);
       memory = λ e. refl;
       too_long = λ e. long;
     }
 
-    memory_promised : (laws : Laws) → shelf'.files ≡ shelf.files → shelf'.faults ≡ shelf.faults → Refuses console console' None status → Promised
+    memory_promised : (laws : Laws) → shelf'.files ≡ shelf.files → shelf'.faults ≡ shelf.faults
+        → Refuses console console' None status → Promised
     memory_promised laws same steady r =
         let nine : status ≡ 9 = r.ended.0 in
-        let stands : AllStands = for_files shelf.files (λ files. Stand (statuses_of (expected files (Some request)))) (λ files. inr (inl nine)) in
+        let stands : AllStands = for_files shelf.files (λ files. Stand
+        (statuses_of (expected files (Some request)))) (λ files. inr (inl nine)) in
         let all : AllSeen = seen_by (λ files lines. inl (inr r.ended)) in
         record {
           status_is = record {
@@ -227,22 +284,27 @@ module _ (shelf shelf' : ShelfView) (console console' : ConsoleView) (status : �
             };
             first = stands;
           };
-          seen = record { all = all; usage = λ e. absurd cc; silent = λ e. r.ended.1; lines = inr r.lines };
+          seen = record { all = all; usage = λ e. absurd cc; silent = λ e. r.ended.1; lines = inr
+              r.lines };
           files = name_keeps shelf shelf' console console' status (stores request) same;
-          complete = complete_from shelf shelf' console console' status laws (Some request) stands all;
+          complete = complete_from shelf shelf' console console' status laws
+              (Some request) stands all;
           checked = λ zero game e. absurd (omega arith);
           compiled = λ zero source game e. absurd (omega arith);
           decompiled = λ zero game source e. absurd (omega arith);
           played = λ zero game source style e. absurd (omega arith);
           translated = λ zero game program style width e. absurd (omega arith);
-          ran = λ end name source steps width e. absurd (not_end status 9 end (λ f. omega arith) (λ f. omega arith) (λ f. omega arith) nine);
-          counts = record { shelf_later = omega arith; console_later = r.later; shelf_stays = inr (inr steady); console_stays = r.console_stays };
+          ran = λ end name source steps width e. absurd (not_end status 9 end (λ f. omega arith)
+              (λ f. omega arith) (λ f. omega arith) nine);
+          counts = record { shelf_later = omega arith; console_later = r.later; shelf_stays = inr
+              (inr steady); console_stays = r.console_stays };
         }
 
     abbrev Missed : Option Refusal → Type 0
     Missed refusal = Misses shelf shelf' (IsLoad request) (λ files. texts_of files request) refusal
 
-    pub not_loaded_promised : (laws : Laws) (refusal : Option Refusal) → Missed refusal → shelf'.files ≡ shelf.files → shelf.faults ≤ shelf'.faults
+    pub not_loaded_promised : (laws : Laws) (refusal : Option Refusal) → Missed refusal
+        → shelf'.files ≡ shelf.files → shelf.faults ≤ shelf'.faults
         → Refuses console console' refusal status → Promised
     not_loaded_promised laws None missed same later r = memory_promised laws same missed r
     not_loaded_promised laws (Some no_request) missed same later r = absurd missed
@@ -251,21 +313,29 @@ module _ (shelf shelf' : ShelfView) (console console' : ConsoleView) (status : �
     not_loaded_promised laws (Some (too_long name limit)) missed same later r =
         refused_promised laws (too_long name limit) same later (inr (inr missed.1)) r
         (long_cause name limit r.ended
-        (from_files shelf.files (λ files. texts_of files request ≡ Err (too_long name limit)) (λ files. OneLoaded (Some request) (IsTooLong files))
+        (from_files shelf.files (λ files. texts_of files request ≡ Err (too_long name limit))
+        (λ files. OneLoaded (Some request) (IsTooLong files))
         (λ files e. long_one files request name limit e) missed.0))
-        (stands_at (too_long name limit) r.ended missed.0) (seen_at same (too_long name limit) r.ended missed.0)
+        (stands_at (too_long name limit) r.ended missed.0)
+        (seen_at same (too_long name limit) r.ended missed.0)
     not_loaded_promised laws (Some (unread name)) missed same later r =
         let load = missed.0.0 in
         let is = missed.0.2 in
-        let stays : ShelfStays shelf shelf' status = elim r.ended [ inl h ↦ inl h.0 | inr h ↦ inr (inl h.0) ] in
+        let stays : ShelfStays shelf shelf' status = elim r.ended
+        [ inl h ↦ inl h.0 | inr h ↦ inr (inl h.0) ] in
         elim missed.1 [
           | inl lost ↦
-              refused_promised laws (unread name) same later stays r (unread_cause name r.ended (inl lost))
+              refused_promised laws (unread name) same later stays r
+              (unread_cause name r.ended (inl lost))
               (for_files shelf.files (λ files. Stand (statuses_of (expected files (Some request))))
-              (λ files. stand_lost (unread name) r.ended (statuses_of (expected files (Some request))) refl lost))
-              (seen_by (λ files lines. inr (lost, (load, missed.0.1, subst (λ (n : List ℕ). Concludes console console' (refused (unread n)) status) (sym is) r.ended))))
+              (λ files. stand_lost (unread name) r.ended
+              (statuses_of (expected files (Some request))) refl lost))
+              (seen_by (λ files lines. inr (lost, (load, missed.0.1, subst
+              (λ (n : List ℕ). Concludes console console' (refused (unread n)) status)
+              (sym is) r.ended))))
           | inr lacks ↦
               refused_promised laws (unread name) same later stays r
-              (unread_cause name r.ended (inr (load, missed.0.1, subst (λ (n : List ℕ). Lacks shelf.files n) (sym is) lacks.0)))
+              (unread_cause name r.ended (inr (load, missed.0.1, subst
+              (λ (n : List ℕ). Lacks shelf.files n) (sym is) lacks.0)))
               (stands_at (unread name) r.ended lacks.1) (seen_at same (unread name) r.ended lacks.1)
         ]

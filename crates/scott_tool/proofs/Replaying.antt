@@ -1,23 +1,21 @@
 -- That the run of a faithful program is the play of its database.
-use Rattle.std.proofs.Common.{◌≡◌, ◌∙◌, ◌++◌, ℕ, zero, suc, Bool, true, false, ◌&&◌, List, [], ◌∷◌, Option, Some, None, IfSome, Result, Ok, Err, refl, sym, ap, subst, inl, inr, arith}
+use Rattle.std.proofs.Common.{◌≡◌, ◌∙◌, ◌++◌, ℕ, zero, suc, Bool, true, false, ◌&&◌, List, [], ◌∷◌, Option, Some, None, IfSome, Result, Ok, Err, refl, sym, ap, subst, inl, arith}
 use Rattle.std.specs.Prelude.{if◌then◌else◌}
 use Rattle.std.specs.List.{list_all}
 use Rattle.std.specs.Char.{is_ascii_digit}
 use Rattle.std.specs.Str.Parse.{digits_value_after}
 use Rattle.std.specs.FinMap.{get}
 use Rattle.std.proofs.lemmas.List.{append-nil}
-use Rattle.std.proofs.lemmas.Bool.{and_parts}
 use Rattle.std.proofs.lemmas.Bool.Decides.{nat_tests}
 use Rattle.adv_draws.specs.Run.{Run, is_draw, AllDraws, draw_of, runs_of}
-use Rattle.adv_draws.specs.Listed.{with_draw, followed_by, draws_of, listed_draws}
+use Rattle.adv_draws.specs.Listed.{with_draw, draws_of}
 use Rattle.adv_draws.specs.Seeded.{draw_of_word, rolls, seeded_count, generator_of}
 use Rattle.adv_io.specs.Console.{ConsoleView}
 use Rattle.adv_io.specs.History.{grown, shown, says}
 use Rattle.adv_io.specs.Shelf.{Files, ShelfView}
 use Rattle.adv_io.specs.Steps.{trace_of}
-use Rattle.inform_meaning.specs.Frames as f
-use Rattle.inform_meaning.specs.Runs.{Stop, Halted, Lacking, stop_of}
-use Rattle.inform_reader.specs.Reading.{IsProgram, program_in}
+use Rattle.inform_meaning.specs.Runs.{Stop, stop_of}
+use Rattle.inform_reader.specs.Reading.{IsProgram}
 use Rattle.inform_tree.specs.declared.widths.Width.{Width}
 use Rattle.inform_tree.specs.Programs.{DirectiveTree}
 use Rattle.scott_requests.specs.Settings.{DrawSource, listed, seeded}
@@ -31,10 +29,9 @@ use Rattle.scott_types.specs.Database.{Database}
 use Rattle.scott_types.specs.Style.{in_style}
 use Rattle.trans_rows.specs.Faithful.{PlaysAlike}
 use Rattle.trans_rows.specs.Same.{EndingIs}
-use Rattle.translator.specs.Faithful.{Faithful}
 use Rattle.scott_tool.specs.Laws.{Laws}
 use Rattle.scott_tool.specs.Play.{DrawsAre}
-use Rattle.scott_tool.specs.Run.{Ran, ran, stop_after, stop_status, stop_line, run_outcome}
+use Rattle.scott_tool.specs.Run.{Ran, ran, stop_after, stop_status, stop_line}
 use Rattle.scott_tool.specs.Replay.{IsReplay, SawPlay, Replayed}
 use Rattle.scott_tool.specs.Causes.{RunEnds, HasCause}
 use Rattle.scott_tool.specs.Promises.{HasRun, HasReplayed}

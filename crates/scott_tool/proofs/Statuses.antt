@@ -3,9 +3,7 @@ use Rattle.std.proofs.Common.{◌≡◌, ◌∙◌, ◌<◌, ℕ, zero, suc, [],
 use Rattle.std.specs.Prelude.{Contains}
 use Rattle.scott_tool.specs.declared.refusals.ContentFault.{ContentFault}
 use Rattle.scott_tool.specs.declared.refusals.ContentFault.TheVariants.{NoDatabase, NoSource, NoMeaning, NoDraws, NoProgram, NoTranslation}
-use Rattle.translator.specs.declared.faults.TransFault.{TransFault}
-use Rattle.translator.specs.declared.faults.TransFault.TheVariants.{NotBuilt, Wide, Memory}
-use Rattle.scott_tool.specs.Refusal.{Refusal, Unfit, no_request, unread, too_long, unfit, unwritten, refusing, translation_status, content_status, status_of}
+use Rattle.scott_tool.specs.Refusal.{Refusal, Unfit, no_request, unread, too_long, unfit, unwritten, refusing, content_status, status_of}
 use Rattle.scott_tool.specs.Outcome.{statuses}
 use Rattle.scott_tool.specs.Work.{Task, reporting, storing, playing, translating, running, task_statuses, statuses_of}
 use Rattle.scott_tool.specs.Obeying.{Stands}
@@ -21,18 +19,13 @@ is_3 = (3, lit< tt, refl)
 pub is_9 : Contains statuses 9
 is_9 = (9, lit< tt, refl)
 
-is_translation : (fault : TransFault) → Contains statuses (translation_status fault)
-is_translation (NotBuilt k) = (4, lit< tt, refl)
-is_translation (Wide place value) = (7, lit< tt, refl)
-is_translation Memory = (7, lit< tt, refl)
-
 pub is_content : (fault : ContentFault) → Contains statuses (content_status fault)
 is_content (NoDatabase fault) = (4, lit< tt, refl)
 is_content (NoSource fault) = (5, lit< tt, refl)
 is_content (NoMeaning fault) = (5, lit< tt, refl)
 is_content (NoDraws fault) = (5, lit< tt, refl)
 is_content (NoProgram fault) = (6, lit< tt, refl)
-is_content (NoTranslation fault) = is_translation fault
+is_content (NoTranslation fault) = (7, lit< tt, refl)
 
 pub is_known : (refusal : Refusal) → Contains statuses (status_of refusal)
 is_known no_request = (1, lit< tt, refl)
@@ -60,9 +53,12 @@ first x = (0, lit< tt, refl)
 
 -- a status is that of a task, or that of a content that is refused; or memory ran out, or the
 -- console or the shelf failed
-pub data Tells (ShelfFailed ConsoleFailed : Type 0) (expected : Result Task Unfit) (status : ℕ) : Type 0 where
-  of_task : (task : Task) → expected ≡ Ok task → Contains (task_statuses task) status → Tells ShelfFailed ConsoleFailed expected status
-  of_fault : (u : Unfit) → expected ≡ Err u → status ≡ content_status u.fault → Tells ShelfFailed ConsoleFailed expected status
+pub data Tells (ShelfFailed ConsoleFailed : Type 0) (expected : Result Task Unfit)
+    (status : ℕ) : Type 0 where
+  of_task : (task : Task) → expected ≡ Ok task → Contains (task_statuses task) status
+      → Tells ShelfFailed ConsoleFailed expected status
+  of_fault : (u : Unfit) → expected ≡ Err u → status ≡ content_status u.fault
+      → Tells ShelfFailed ConsoleFailed expected status
   of_memory : status ≡ 9 → Tells ShelfFailed ConsoleFailed expected status
   of_console : status ≡ 3 → ConsoleFailed → Tells ShelfFailed ConsoleFailed expected status
   of_shelf : status ≡ 2 → ShelfFailed → Tells ShelfFailed ConsoleFailed expected status
@@ -84,7 +80,8 @@ task_end (playing style db draws) status h = inl (sym (only 0 status h))
 task_end (translating name style width db) status h = inl (sym (only 0 status h))
 task_end (running width p draws steps) status h = run_end status h.0 h.1 h.2
 
-pub not_end : (status n : ℕ) → IsEnd status → (n ≡ 0 → ⊥) → (n ≡ 8 → ⊥) → (n ≡ 10 → ⊥) → status ≡ n → ⊥
+pub not_end : (status n : ℕ) → IsEnd status → (n ≡ 0 → ⊥) → (n ≡ 8 → ⊥) → (n ≡ 10 → ⊥) → status ≡ n
+    → ⊥
 not_end status n (inl e) not_0 not_8 not_10 f = not_0 (sym f ∙ e)
 not_end status n (inr (inl e)) not_0 not_8 not_10 f = not_8 (sym f ∙ e)
 not_end status n (inr (inr e)) not_0 not_8 not_10 f = not_10 (sym f ∙ e)
@@ -100,11 +97,13 @@ is_end status (inl e) = subst (Contains statuses) (sym e) is_0
 is_end status (inr (inl e)) = subst (Contains statuses) (sym e) (8, lit< tt, refl)
 is_end status (inr (inr e)) = subst (Contains statuses) (sym e) (10, lit< tt, refl)
 
-by_expected : (S F : Type 0) (expected : Result Task Unfit) (status : ℕ) → Contains (statuses_of (refusing expected)) status → Tells S F expected status
+by_expected : (S F : Type 0) (expected : Result Task Unfit) (status : ℕ) → Contains
+    (statuses_of (refusing expected)) status → Tells S F expected status
 by_expected S F (Ok task) status h = of_task task refl h
 by_expected S F (Err u) status h = of_fault u refl (sym (only (content_status u.fault) status h))
 
-pub tells : (S F : Type 0) (expected : Result Task Unfit) (status : ℕ) → Stands S F (statuses_of (refusing expected)) status → Tells S F expected status
+pub tells : (S F : Type 0) (expected : Result Task Unfit) (status : ℕ) → Stands S F
+    (statuses_of (refusing expected)) status → Tells S F expected status
 tells S F expected status (inl h) = by_expected S F expected status h
 tells S F expected status (inr (inl e)) = of_memory e
 tells S F expected status (inr (inr (inl h))) = of_console h.0 h.1

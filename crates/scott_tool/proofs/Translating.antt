@@ -13,12 +13,17 @@ use Rattle.scott_tool.specs.Work.{Task, translating}
 use Rattle.scott_tool.specs.Obeying.{Gives, MakesFile}
 use Rattle.scott_tool.proofs.Declining.{declined-first}
 
-module _ (program : List ℕ) (style : Style) (width : Width) (db : Database) (fit : Result Database Unfit) where
+module _ (program : List ℕ) (style : Style) (width : Width) (db : Database)
+    (fit : Result Database Unfit) where
   abbrev translation : Database → Result Task Unfit
   translation d = Ok (translating program style width d)
 
   -- a text that is faithful to a database that can be translated
-  pub made_translation : {A : Type 0} (result : Result (Vec ℕ A) HeldRefusal) → Gives (λ (text : Vec ℕ A). db) result fit
-      → IfOk result (λ text. Faithful style width db None text.items) → MakesFile program result (fit >>= translation)
-  made_translation (Ok text) given faithful = (translating program style width db, ap (λ r. r >>= translation) given, λ lines. (text.items, faithful, refl))
-  made_translation (Err refusal) given faithful = declined-first fit translation (refusal_of refusal) given
+  pub made_translation : {A : Type 0} (result : Result (Vec ℕ A) HeldRefusal) → Gives
+      (λ (text : Vec ℕ A). db) result fit
+      → IfOk result (λ text. Faithful style width db None text.items) → MakesFile program result
+      (fit >>= translation)
+  made_translation (Ok text) given faithful = (translating program style width db, ap
+      (λ r. r >>= translation) given, λ lines. (text.items, faithful, refl))
+  made_translation (Err refusal) given faithful = declined-first fit translation
+      (refusal_of refusal) given

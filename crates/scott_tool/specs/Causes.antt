@@ -11,7 +11,6 @@ use Rattle.scott_requests.specs.Settings.{DrawSource}
 use Rattle.scott_requests.specs.Request.{Request, check, compile, decompile, play, translate, run}
 use Rattle.scott_types.specs.Database.{Database}
 use Rattle.trans_rows.specs.Wide.{Placed, wide_at}
-use Rattle.translator.specs.Refusals.{first_line}
 use Rattle.adv_compiler.specs.Meaning.{meant}
 use Rattle.source_reader.specs.Text.{SourceText}
 use Rattle.source_reader.specs.declared.tree.Source.{Source}
@@ -58,19 +57,11 @@ HasNoProgram files (Some (run name source steps width)) =
     × IsFaulty width bytes fault
 HasNoProgram files _ = ⊥
 
--- the database that the request translates has a line that isn't all zeros
-abbrev pub HasLine : Files → Option Request → Type 0
-HasLine files (Some (translate game program style width)) =
-    (bytes : List ℕ) × (db : Database) × (k : ℕ) × (get files game ≡ Some bytes) × DatText bytes db
-    × (first_line db ≡ Some k)
-HasLine files _ = ⊥
-
--- it has no such line, and a number that is no word of the request's width
+-- the database that the request translates has a number that is no word of the request's width
 abbrev pub HasWideNumber : Files → Option Request → Type 0
 HasWideNumber files (Some (translate game program style width)) =
     (bytes : List ℕ) × (db : Database) × (placed : Placed) × (get files game ≡ Some bytes)
-    × DatText bytes db
-    × (first_line db ≡ None) × (wide_at width db ≡ Some placed)
+    × DatText bytes db × (wide_at width db ≡ Some placed)
 HasWideNumber files _ = ⊥
 
 -- the run of the request, with these lines, ends with this status
@@ -101,8 +92,7 @@ pub record HasCause (shelf shelf' : ShelfView) (console console' : ConsoleView)
       ⊎ OneLoaded asked (λ load. Lacks shelf.files load.name)
   pub unsaid : status ≡ 3 → Rose console.faults console'.faults
   pub no_database : status ≡ 4 → IfSome shelf.files
-      (λ files. GameHas files asked (λ bytes. (fault : Fault) × DatFault bytes fault)
-      ⊎ HasLine files asked)
+      (λ files. GameHas files asked (λ bytes. (fault : Fault) × DatFault bytes fault))
   pub no_source_or_draws : status ≡ 5 → IfSome shelf.files
       (λ files. SourceHas files asked IsNoSource
       ⊎ DrawsHave files asked (λ bytes. (at : ℕ) × (listed_draws bytes ≡ Err at)))
@@ -126,12 +116,11 @@ IsGame files name =
     (bytes : List ℕ) × (db : Database) × IsLoadable files (database_load name) bytes
     × DatText bytes db
 
--- a text of a database without lines, whose numbers are words of this width
+-- a text of a database whose numbers are words of this width
 abbrev pub IsTranslatable : Files → List ℕ → Width → Type 0
 IsTranslatable files name width =
     (bytes : List ℕ) × (db : Database) × IsLoadable files (database_load name) bytes
-    × DatText bytes db
-    × (first_line db ≡ None) × (wide_at width db ≡ None)
+    × DatText bytes db × (wide_at width db ≡ None)
 
 -- a text of a source that means a database
 abbrev pub IsSource : Files → List ℕ → Type 0

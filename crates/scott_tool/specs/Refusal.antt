@@ -6,8 +6,6 @@ use Rattle.adv_draws.specs.Texts as draws
 use Rattle.scott_format.specs.FaultTexts as format
 use Rattle.inform_reader.specs.FaultTexts as program
 use Rattle.source_reader.specs.FaultTexts as source
-use Rattle.translator.specs.declared.faults.TransFault.{TransFault}
-use Rattle.translator.specs.declared.faults.TransFault.TheVariants.{NotBuilt, Wide, Memory}
 use Rattle.translator.specs.FaultTexts as translator
 use Rattle.scott_tool.specs.declared.refusals.ContentFault.{ContentFault}
 use Rattle.scott_tool.specs.declared.refusals.ContentFault.TheVariants.{NoDatabase, NoSource, NoMeaning, NoDraws, NoProgram, NoTranslation}
@@ -33,20 +31,13 @@ refusing (Err u) = Err (unfit u)
 
 -- ---- statuses
 
--- a line can't be translated yet; a number is too wide for the words of a program; want of memory
--- is no fault of a database
-abbrev pub translation_status : TransFault → ℕ
-translation_status (NotBuilt k) = 4
-translation_status (Wide place value) = 7
-translation_status Memory = 7
-
 abbrev pub content_status : ContentFault → ℕ
 content_status (NoDatabase fault) = 4
 content_status (NoSource fault) = 5
 content_status (NoMeaning fault) = 5
 content_status (NoDraws fault) = 5
 content_status (NoProgram fault) = 6
-content_status (NoTranslation fault) = translation_status fault
+content_status (NoTranslation fault) = 7
 
 abbrev pub status_of : Refusal → ℕ
 status_of no_request = 1

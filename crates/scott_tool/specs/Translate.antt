@@ -6,24 +6,21 @@ use Rattle.inform_tree.specs.declared.widths.Width.{Width}
 use Rattle.scott_format.specs.File.{DatText}
 use Rattle.scott_types.specs.declared.styles.Style.{Style}
 use Rattle.scott_types.specs.Database.{Database}
-use Rattle.translator.specs.declared.faults.TransFault.TheVariants.{NotBuilt, Wide}
+use Rattle.trans_rows.specs.Wide.{Placed, wide_at}
+use Rattle.translator.specs.declared.faults.TransFault.TheVariants.{Wide}
 use Rattle.translator.specs.Faithful.{Faithful}
-use Rattle.translator.specs.Refusals as translator
 use Rattle.scott_tool.specs.Refusal.{Unfit}
 use Rattle.scott_tool.specs.declared.refusals.ContentFault.TheVariants.{NoTranslation}
 
 -- a database that can be translated, or why the file that has it is refused
-abbrev pub translatable_or_unfit : List ℕ → Database → Option translator.Refusal
-    → Result Database Unfit
+abbrev pub translatable_or_unfit : List ℕ → Database → Option Placed → Result Database Unfit
 translatable_or_unfit name db None = Ok db
-translatable_or_unfit name db (Some (translator.LineNotBuilt k)) =
-    Err (record { name = name; fault = NoTranslation (NotBuilt k) })
-translatable_or_unfit name db (Some (translator.TooWide placed)) =
+translatable_or_unfit name db (Some placed) =
     Err (record { name = name; fault = NoTranslation (Wide placed.0 placed.1) })
 
--- a line that isn't all zeros is refused first, and a number that is too wide then
+-- a number that is too wide for words of this width is refused
 abbrev pub translatable : List ℕ → Width → Database → Result Database Unfit
-translatable name width db = translatable_or_unfit name db (translator.refusal width db)
+translatable name width db = translatable_or_unfit name db (wide_at width db)
 
 -- What status 0 means: the file is a text of a database, and the text of a program that is faithful
 -- to it was stored, in this style and for words of this width.

@@ -3,7 +3,7 @@ ghost use Rattle.std.specs.Prelude.{◌≡◌, ◌≤◌, [], ◌∷◌, ◌++�
 ghost use Rattle.adv_io.specs.History.{says};
 ghost use Rattle.adv_io.specs.Console.{Speaks};
 ghost use Rattle.scott_tool.specs.declared.refusals.ContentFault.TheVariants.{NoDatabase, NoSource, NoMeaning, NoDraws, NoProgram, NoTranslation};
-ghost use Rattle.scott_tool.specs.Refusal.{no_request, unread, too_long, unfit, unwritten, translation_status, content_status, whole, after_name, line_end, line_of};
+ghost use Rattle.scott_tool.specs.Refusal.{no_request, unread, too_long, unfit, unwritten, content_status, whole, after_name, line_end, line_of};
 
 use crate::refusal_texts::{
     after_name, bytes_end, cannot_read, cannot_write, line_end, longer_than, usage,
@@ -227,17 +227,6 @@ fn say_no_translation<C: Console>(
     )
 }
 
-// The status of a database that isn't translated.
-fn translation_status(fault: TransFault) -> u8
-    ensures { result ≡ translation_status fault }
-{
-    match fault {
-        TransFault::NotBuilt(_) => 4,
-        TransFault::Wide(_, _) => 7,
-        TransFault::Memory => 7,
-    }
-}
-
 /// The status after something that was said: this one, or 3 where the console failed.
 pub fn concluded(said: Result<(), ConsoleFault>, status: u8) -> u8
     ensures { MatchResult said (λ _. result ≡ status) (λ _. result ≡ 3) }
@@ -261,7 +250,7 @@ impl ContentFault {
             ContentFault::NoMeaning(_) => 5,
             ContentFault::NoDraws(_) => 5,
             ContentFault::NoProgram(_) => 6,
-            ContentFault::NoTranslation(fault) => translation_status(*fault),
+            ContentFault::NoTranslation(_) => 7,
         }
     }
 

@@ -3,7 +3,7 @@ use crate::games::T;
 use crate::plays::{self, WALK};
 use crate::refusals::{self, USAGE};
 use crate::trying::{
-    Case, File, NOTHING, Translated, answer_of, console_of, expect, expect_translated,
+    Case, File, NOTHING, Translated, answer_of, console_of, expect, expect_translated, steps_needed,
 };
 use crate::{expect, runs, sources, translations};
 use adv_io::{MemoryConsole, MemoryShelf};
@@ -55,6 +55,42 @@ fn expect_all_translated<R: Abort + AllocGlobal>(rt: &R, cases: &[Translated<'_>
     for case in cases {
         expect_translated(rt, case);
     }
+}
+
+// A play whose game is translated as it is.
+fn plain_of<'a>(play: &Case<'a>) -> Translated<'a> {
+    let run = match play.draws {
+        Some(_) => "run g.inf draws=d.txt",
+        None => "run g.inf",
+    };
+    Translated {
+        translate: "translate t.dat g.inf",
+        run,
+        play: *play,
+    }
+}
+
+#[test]
+fn lines_are_translated(rt: HostRuntime) {
+    for cases in translations::PLAIN {
+        for case in cases.iter() {
+            expect_translated(&rt, &plain_of(case));
+        }
+    }
+}
+
+#[test]
+fn wide_lines_are_translated(rt: HostRuntime) {
+    expect_all_translated(&rt, translations::WIDE_LINES);
+}
+
+// The groups of a verb are found at once, however many others there are.
+#[test]
+fn verbs_are_found_at_once(rt: HostRuntime) {
+    let [one, many] = &translations::OF_A_VERB;
+    let few = steps_needed(&rt, one);
+    let more = steps_needed(&rt, many);
+    expect!(rt; few.abs_diff(more) < 400);
 }
 
 #[test]

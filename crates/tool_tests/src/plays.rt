@@ -10,7 +10,8 @@ pub const ASK: &str = "\nTell me what to do ? ";
 
 const MOVED: &str = "O.K.\n";
 
-const NO: &str = "I don't understand your command. ";
+/// No head is for the command.
+pub const NO: &str = "I don't understand your command. ";
 
 const OUT: &str = "Your light has run out. ";
 
@@ -67,6 +68,47 @@ pub const BLANK_LINE: Case<'static> = Case {
     ..WALK
 };
 
+// ---- lines of the game
+
+/// A get that is refused leaves its parameter, so that the drop after it takes the rug.
+pub const REFUSED_GET: Case<'static> = Case {
+    game: File::Of(Game {
+        carry: 1,
+        actions: &["450 0 20 0 0 0 7853 0"],
+        items: &["\"Rug\" 1", "\"Pin\" 255"],
+        ..T
+    }),
+    lines: &[b"look"],
+    said: &[HALL, ASK, "I've too much to carry! ", HALL, ASK],
+    ..WALK
+};
+
+// A counter is set to 32,767, and one more is added to it.
+const COUNTED: Case<'static> = Case {
+    game: File::Of(Game {
+        actions: &["450 655340 20 0 0 0 11932 11786"],
+        ..T
+    }),
+    lines: &[b"look"],
+    said: &[HALL, ASK, "32767\n", ASK],
+    ..WALK
+};
+
+// A message of characters that Inform writes otherwise.
+const ODD_MESSAGE: Case<'static> = Case {
+    game: File::Of(Game {
+        actions: &["450 0 0 0 0 0 150 0"],
+        messages: &["\"\"", "\"@5 ~ ^ \\\""],
+        ..T
+    }),
+    lines: &[b"look"],
+    said: &[HALL, ASK, "@5 ~ ^ \\\n", ASK],
+    ..WALK
+};
+
+/// Lines that a command finds.
+pub const LINES: [Case<'static>; 3] = [REFUSED_GET, COUNTED, ODD_MESSAGE];
+
 // Draws that choose among automatic groups.
 const CHOOSING: Game<'static> = Game {
     actions: &[
@@ -88,7 +130,8 @@ const CHOSEN: Case<'static> = Case {
     ..NOTHING
 };
 
-const DRAWS: [Case<'static>; 3] = [
+/// Automatic groups, with draws for all of them and for some.
+pub const DRAWS: [Case<'static>; 3] = [
     CHOSEN,
     Case {
         draws: Some(b"1 100 100"),
@@ -117,7 +160,8 @@ const LOOK: Case<'static> = Case {
     ..WALK
 };
 
-const ENDINGS: [Case<'static>; 3] = [
+/// Scores, and a line whose opcode has a parameter left.
+pub const ENDINGS: [Case<'static>; 3] = [
     Case {
         game: File::Of(SCORING),
         said: &[
@@ -176,7 +220,8 @@ pub const RUN_OUT: Case<'static> = Case {
     ..LOOK
 };
 
-const LIGHTS: [Case<'static>; 3] = [
+/// Lights that go out and grow dim, and moves in the dark.
+pub const LIGHTS: [Case<'static>; 3] = [
     RUN_OUT,
     Case {
         game: File::Of(Game { light: 21, ..LIT }),
@@ -202,8 +247,8 @@ const LIGHTS: [Case<'static>; 3] = [
     },
 ];
 
-// All is taken until the game ends.
-const GET_ALL: Case<'static> = Case {
+/// All is taken until the game ends.
+pub const GET_ALL: Case<'static> = Case {
     game: File::Of(Game {
         actions: &["1511 0 0 0 0 0 9450 0"],
         more_words: &[
@@ -286,8 +331,9 @@ const REPORTS: [Case<'static>; 2] = [
 ];
 
 /// Plays and reports.
-pub const ALL: [&[Case<'static>]; 7] = [
+pub const ALL: [&[Case<'static>]; 8] = [
     &SEEDED,
+    &LINES,
     &DRAWS,
     &ENDINGS,
     &LIGHTS,

@@ -1,7 +1,10 @@
 //! Games that are translated and run, and databases that aren't translated, with what is said of
 //! them.
 use crate::games::{Game, T};
-use crate::plays::{ALL_STYLES, ASK, BLANK_LINE, RUN_OUT, SPOKEN_TO, VANISHED, WALK};
+use crate::plays::{
+    ALL_STYLES, ASK, BLANK_LINE, DRAWS, ENDINGS, GET_ALL, HALL, LIGHTS, LINES,
+    NO as NOT_UNDERSTOOD, REFUSED_GET, SPOKEN_TO, VANISHED, WALK,
+};
 use crate::refusals::USAGE;
 use crate::trying::{Case, File, NOTHING, Translated};
 
@@ -31,7 +34,7 @@ const MANY_TREASURES: Game<'static> = Game {
 
 const FAR_HOME: Game<'static> = Game { home: 70_000, ..T };
 
-const WIDE_NUMBERS: [Case<'static>; 5] = [
+const WIDE_NUMBERS: [Case<'static>; 8] = [
     TOO_WIDE,
     Case {
         command: "translate t.dat t.inf words=16 style=yc",
@@ -53,35 +56,38 @@ const WIDE_NUMBERS: [Case<'static>; 5] = [
         after: &[("t.inf", File::Absent), ("t.dat", File::Of(FAR_HOME))],
         ..TOO_WIDE
     },
-];
-
-// A line comes before a number that is too wide, at either width.
-const WITH_A_LINE: Game<'static> = Game {
-    actions: &["0 0 0 0 0 0 0 0", "450 0 0 0 0 0 9750 0"],
-    ..LONG_LIGHT
-};
-
-const NOT_BUILT: Case<'static> = Case {
-    game: File::Of(WITH_A_LINE),
-    status: 4,
-    said: &["t.dat: not built yet\n"],
-    after: &[("t.inf", File::Absent), ("t.dat", File::Of(WITH_A_LINE))],
-    ..REFUSED
-};
-
-const LINES: [Case<'static>; 3] = [
-    NOT_BUILT,
     Case {
-        command: "translate t.dat t.inf words=32",
-        ..NOT_BUILT
+        game: File::Of(FAR_VERB),
+        said: &["t.dat: line 0 verb is 32770, outside 16 bits\n"],
+        after: &[("t.inf", File::Absent)],
+        ..TOO_WIDE
     },
-    // The database is overwritten only where there is a program.
     Case {
-        command: "translate t.dat t.dat",
-        after: &[("t.dat", File::Of(WITH_A_LINE))],
-        ..NOT_BUILT
+        game: File::Of(Game {
+            actions: &["0 0 0 0 0 0 0 0", "450 0 655360 0 0 0 0 0"],
+            ..T
+        }),
+        said: &["t.dat: line 1 condition 2 is 32768, outside 16 bits\n"],
+        after: &[("t.inf", File::Absent)],
+        ..TOO_WIDE
+    },
+    Case {
+        game: File::Of(Game {
+            actions: &["450 0 0 0 0 0 0 4915350"],
+            ..T
+        }),
+        said: &["t.dat: line 0 opcode 3 is 32769, outside 16 bits\n"],
+        after: &[("t.inf", File::Absent)],
+        ..TOO_WIDE
     },
 ];
+
+// The database is overwritten only where there is a program.
+const OVERWRITTEN: [Case<'static>; 1] = [Case {
+    command: "translate t.dat t.dat",
+    after: &[("t.dat", File::Of(LONG_LIGHT))],
+    ..TOO_WIDE
+}];
 
 const NO_GAMES: [Case<'static>; 3] = [
     // The database is stored by the first call of the shelf, and loaded by the second one.
@@ -198,10 +204,71 @@ pub const PLAYED: &[Translated<'static>] = &[
         ..STORED
     },
     Translated {
-        play: RUN_OUT,
+        play: GET_ALL,
         ..STORED
     },
 ];
+
+/// Plays whose games are translated as they are, in the plain style for words of 16 bits, and run
+/// with the draws of the play, if there are any.
+pub const PLAIN: [&[Case<'static>]; 4] = [&LINES, &DRAWS, &ENDINGS, &LIGHTS];
+
+// A width that is wide enough for each number of a line.
+const FAR_VERB: Game<'static> = Game {
+    actions: &[
+        "4915500 20000000 0 0 0 0 9000 0",
+        "450 655340 700000 0 0 0 11932 11786",
+    ],
+    ..T
+};
+
+/// Games with numbers of lines that are no words of 16 bits, at 32 bits.
+pub const WIDE_LINES: &[Translated<'static>] = &[Translated {
+    translate: "translate t.dat g.inf words=32",
+    run: "run g.inf words=32",
+    play: Case {
+        game: File::Of(FAR_VERB),
+        lines: &[b"look"],
+        said: &[HALL, ASK, "32767\n", ASK],
+        ..WALK
+    },
+}];
+
+const LOOKED: Case<'static> = Case {
+    lines: &[b"look"],
+    said: &[HALL, ASK, NOT_UNDERSTOOD, ASK],
+    ..WALK
+};
+
+/// A game with one line of a verb, and one with 400: a look in both.
+pub const OF_A_VERB: [Translated<'static>; 2] = [
+    Translated {
+        play: Case {
+            game: File::Of(Game {
+                actions: &["750 0 0 0 0 0 0 0"],
+                ..T
+            }),
+            ..LOOKED
+        },
+        ..STORED
+    },
+    Translated {
+        play: Case {
+            game: File::Of(Game {
+                actions: &["750 0 0 0 0 0 0 0"; 400],
+                ..T
+            }),
+            ..LOOKED
+        },
+        ..STORED
+    },
+];
+
+/// A get that something follows: what follows stands in two branches.
+pub const BRANCHES: Translated<'static> = Translated {
+    play: REFUSED_GET,
+    ..STORED
+};
 
 /// A game with one entry in each list.
 pub const CELL: Translated<'static> = Translated {
@@ -223,4 +290,4 @@ pub const CELL: Translated<'static> = Translated {
 };
 
 /// Cases of `translate` that are refused.
-pub const ALL: [&[Case<'static>]; 4] = [&WIDE_NUMBERS, &LINES, &NO_GAMES, &NO_REQUESTS];
+pub const ALL: [&[Case<'static>]; 4] = [&WIDE_NUMBERS, &OVERWRITTEN, &NO_GAMES, &NO_REQUESTS];

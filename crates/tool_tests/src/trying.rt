@@ -3,6 +3,7 @@ use crate::expect;
 use crate::games::Game;
 use adv_io::{Line, MemoryConsole, MemoryShelf, Shelf};
 use scott_tool::scott;
+use std::fmt::Write;
 use std::process::Abort;
 
 /// A file: none, these bytes, these pieces, or the text of a game.
@@ -166,6 +167,37 @@ pub fn expect_translated<R: Abort + AllocGlobal>(rt: &R, case: &Translated<'_>) 
     expect_given(rt, case.translate, &NOTHING, &mut shelf, b"");
     expect_given(rt, case.run, &case.play, &mut shelf, played.said());
     shelf
+}
+
+// Whether the run of a stored program comes to the end of its lines with so many steps.
+fn is_enough<R: Abort + AllocGlobal>(
+    rt: &R,
+    case: &Case<'_>,
+    shelf: &mut MemoryShelf,
+    steps: u32,
+) -> bool {
+    let mut command = String::from_str(rt.alloc(), "run g.inf steps=").expect(rt, "memory");
+    write!(command, "{steps}").expect(rt, "memory");
+    let (status, _) = given(rt, &command, case, shelf);
+    status == 0
+}
+
+// The steps that are tried, each half of the one before it.
+const HALVES: [u32; 16] = [
+    32_768, 16_384, 8_192, 4_096, 2_048, 1_024, 512, 256, 128, 64, 32, 16, 8, 4, 2, 1,
+];
+
+/// The most steps, below 65,536, that the run of a translation needs more than.
+pub fn steps_needed<R: Abort + AllocGlobal>(rt: &R, case: &Translated<'_>) -> u32 {
+    let mut shelf = expect_translated(rt, case);
+    let mut few: u32 = 0;
+    for half in HALVES.iter().copied() {
+        let more = few.saturating_add(half);
+        if !is_enough(rt, &case.play, &mut shelf, more) {
+            few = more;
+        }
+    }
+    few
 }
 
 /// Gives a command, and expects its status, what is said, and the files after it.

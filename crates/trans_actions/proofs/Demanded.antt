@@ -1,5 +1,5 @@
 -- What the routines of lines demand passes, where numbers and calls do.
-use Rattle.std.proofs.Common.{◌≡◌, ◌∙◌, arith, ℕ, zero, suc, ◌+◌, ◌/◌, ◌%◌, ◌<◌, ◌==◌, pos, nat_lt, nat_eq, Bool, true, false, not, ◌&&◌, ◌||◌, if◌then◌else◌, cond, List, [], ◌∷◌, ◌++◌, map, filter, drop, length, Some, refl, sym, ap}
+use Rattle.std.proofs.Common.{◌≡◌, ◌∙◌, arith, ℕ, zero, suc, ◌<◌, ◌==◌, pos, nat_lt, Bool, true, false, not, ◌&&◌, ◌||◌, if◌then◌else◌, cond, List, [], ◌∷◌, ◌++◌, map, filter, drop, length, Some, refl, ap}
 use Rattle.std.specs.Prelude.{slice_index}
 use Rattle.std.specs.List.{AllByRecursion, list_any}
 use Rattle.std.proofs.lemmas.Bool.{and_parts}
@@ -11,7 +11,7 @@ use Rattle.inform_tree.specs.Conditions as c
 use Rattle.inform_tree.specs.Statements as s
 use Rattle.inform_tree.specs.Statements.{Statement, statements}
 use Rattle.inform_names.specs.Demands as q
-use Rattle.inform_names.specs.Demands.{Demand, argument_count, arguments_demands, statement_demands, statements_demands, no_loop}
+use Rattle.inform_names.specs.Demands.{Demand, Demands, argument_count, arguments_demands, statement_demands, statements_demands, no_loop}
 use Rattle.scott_types.specs.declared.parts.Action.{Action}
 use Rattle.scott_types.specs.declared.opcodes.Opcode.{Opcode}
 use Rattle.scott_types.specs.declared.opcodes.Opcode.TheVariants.{Nothing, Say, Get, Items, Rooms, Flags, Counters, Talk, Refill, Score, Die, Finish, Screen, Picture, More}
@@ -21,17 +21,37 @@ use Rattle.scott_types.specs.Opcode.{opcode_of, uses as parameter_count}
 use Rattle.scott_rules.specs.Actions.{goes_on_after}
 use Rattle.trans_rows.specs.Wide.{is_word_of}
 use Rattle.trans_rows.specs.Names.{message_name, condition_name, opcode_name}
-use Rattle.trans_rows.specs.Lines.{number_arguments, next_parameters, call_value, call_statement, condition_test, is_test, opcode_call, message_call, get_number, get_statements, opcode_statements, all_statements, line_value, line_body}
-use Rattle.trans_rows.specs.Laws.{HasWords, LinesHaveWords}
+use Rattle.trans_rows.specs.Lines.{number_arguments, next_parameters, call_value, call_statement, condition_test, is_test, opcode_call, message_call, get_number, get_statements, opcode_statements, all_statements, line_body}
+use Rattle.trans_rows.specs.Laws.{HasWords}
 use Rattle.trans_actions.specs.declared.table.Kind.TheVariants as kinds
 use Rattle.trans_actions.specs.Helpers.{has_condition, has_opcode, uses}
-use Rattle.trans_actions.specs.Demands.{all_pass, has_routine, PassesCalls, LinesDemand}
+use Rattle.trans_actions.proofs.Effects.{is_called}
 use Rattle.trans_actions.proofs.FineLists.{both}
 use Rattle.trans_actions.proofs.LineRuns.{of_filtered}
 
+-- ---- what passes
+
+-- each demand passes
+abbrev pub all_pass : (Demand → Bool) → Demands → Bool
+all_pass test q.Nothing = true
+all_pass test (q.One demand) = test demand
+all_pass test (q.Both first rest) = all_pass test first && all_pass test rest
+
+-- The numbers that are words pass, and so does a call of each message, and of each condition and
+-- opcode that a line uses, with as many arguments as it has.
+pub record PassesCalls (width : Width) (db : Database) (test : Demand → Bool) : Type 0 where
+  pub numbers : (n : ℕ) → is_word_of width (pos n) ≡ true → test (q.Number n) ≡ true
+  pub conditions : (code : ℕ) → code < 20 → uses kinds.Condition db code ≡ true
+      → (code == 0) ≡ false → test (q.Call (condition_name code) 1) ≡ true
+  pub opcodes : (n : ℕ) → uses kinds.Opcode db n ≡ true → is_called (opcode_of n) ≡ true
+      → test (q.Call (opcode_name n) (parameter_count (opcode_of n))) ≡ true
+  pub gets : (n : ℕ) → uses kinds.Opcode db n ≡ true → opcode_of n ≡ Get
+      → test (q.Call (opcode_name get_number) 1) ≡ true
+  pub messages : (m : ℕ) → m < length db.messages → test (q.Call (message_name m) 0) ≡ true
+
 -- ---- one of a list
 
-at_first : {X : Type 0} (test : X → Bool) (x : X) (xs : List X) → test x ≡ true
+pub at_first : {X : Type 0} (test : X → Bool) (x : X) (xs : List X) → test x ≡ true
     → list_any test (x ∷ xs) ≡ true
 at_first test x xs h = rw h refl
 
@@ -114,7 +134,7 @@ module _ (width : Width) (db : Database) (test : Demand → Bool) (passes : Pass
         → UsesCode (condition_code packed) → (condition_code packed == 0) ≡ false
         → Passes (condition_test packed ∷ [])
     test_passes packed word used is = rw (
-      passes.conditions (condition_code packed) used is,
+      passes.conditions (condition_code packed) (omega arith) used is,
       passes.numbers (argument_of packed) word,
     ) refl
 
@@ -153,7 +173,7 @@ module _ (width : Width) (db : Database) (test : Demand → Bool) (passes : Pass
     module _ (n : ℕ) (ns : List ℕ) (used : UsesNumber n)
         (others : (params : List ℕ) → Words params → Passes (all_statements db ns params))
       where
-        called : (params : List ℕ) (taken : ℕ) → Words params → has_routine (opcode_of n) ≡ true
+        called : (params : List ℕ) (taken : ℕ) → Words params → is_called (opcode_of n) ≡ true
             → Passes (opcode_call n params ∷ all_statements db ns (drop taken params))
         called params taken words is = both (passes_one (opcode_call n params))
             (pass_all (all_statements db ns (drop taken params)))
@@ -194,27 +214,27 @@ module _ (width : Width) (db : Database) (test : Demand → Bool) (passes : Pass
             (all_statements db ns params) words is
             (others (drop 1 params) (dropped 1 params words)) (others params words)
         opcode_passes (Items op) is params words =
-            called params (parameter_count (Items op)) words (ap has_routine is)
+            called params (parameter_count (Items op)) words (ap is_called is)
         opcode_passes (Rooms op) is params words =
-            called params (parameter_count (Rooms op)) words (ap has_routine is)
+            called params (parameter_count (Rooms op)) words (ap is_called is)
         opcode_passes (Flags op) is params words =
-            called params (parameter_count (Flags op)) words (ap has_routine is)
+            called params (parameter_count (Flags op)) words (ap is_called is)
         opcode_passes (Counters op) is params words =
-            called params (parameter_count (Counters op)) words (ap has_routine is)
+            called params (parameter_count (Counters op)) words (ap is_called is)
         opcode_passes (Talk op) is params words =
-            called params (parameter_count (Talk op)) words (ap has_routine is)
+            called params (parameter_count (Talk op)) words (ap is_called is)
         opcode_passes Refill is params words =
-            called params (parameter_count Refill) words (ap has_routine is)
+            called params (parameter_count Refill) words (ap is_called is)
         opcode_passes Score is params words =
-            called params (parameter_count Score) words (ap has_routine is)
+            called params (parameter_count Score) words (ap is_called is)
         opcode_passes Die is params words =
-            called params (parameter_count Die) words (ap has_routine is)
+            called params (parameter_count Die) words (ap is_called is)
         opcode_passes Finish is params words =
-            called params (parameter_count Finish) words (ap has_routine is)
+            called params (parameter_count Finish) words (ap is_called is)
         opcode_passes Screen is params words =
-            called params (parameter_count Screen) words (ap has_routine is)
+            called params (parameter_count Screen) words (ap is_called is)
         opcode_passes Picture is params words =
-            called params (parameter_count Picture) words (ap has_routine is)
+            called params (parameter_count Picture) words (ap is_called is)
 
     opcodes_pass : (ns : List ℕ) → ((n : ℕ) → list_any (λ m. m == n) ns ≡ true → UsesNumber n)
         → (params : List ℕ) → Words params → Passes (all_statements db ns params)
@@ -255,6 +275,10 @@ module _ (width : Width) (db : Database) (test : Demand → Bool) (passes : Pass
           (λ n h. numbers n (further_on (has_opcode n) a actions h)),
     )
 
-pub lines_demand : LinesHaveWords → LinesDemand
-lines_demand have_words width db test translates passes = lines_pass width db test passes db.actions
-    (have_words width db translates.none_wide) (λ code h. h) (λ n h. h)
+-- where the numbers of a database are words, all that its lines demand passes
+pub lines_demand : (width : Width) (db : Database) (test : Demand → Bool)
+    → AllByRecursion (HasWords width) db.actions → PassesCalls width db test
+    → AllByRecursion (λ a. all_pass test
+    (statements_demands no_loop (statements (line_body db a))) ≡ true) db.actions
+lines_demand width db test words passes =
+    lines_pass width db test passes db.actions words (λ code h. h) (λ n h. h)

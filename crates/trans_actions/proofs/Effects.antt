@@ -1,12 +1,9 @@
 -- What a routine leaves that changes the state, and what the routine of an opcode owes.
-use Rattle.std.proofs.Common.{◌≡◌, ◌∙◌, arith, ℕ, zero, suc, ◌≤◌, ◌+◌, ◌*◌, ℤ, pos, Bool, true, false, ◌||◌, List, [], ◌∷◌, ◌++◌, map, take, slice_get, Option, Some, None, refl, sym, ap, true≢false}
-use Rattle.std.specs.Prelude.{slice_index}
+use Rattle.std.proofs.Common.{◌≡◌, ◌∙◌, ℕ, zero, suc, ◌≤◌, ◌+◌, ℤ, pos, Bool, true, false, ◌||◌, List, [], ◌∷◌, ◌++◌, map, take, slice_get, Some, refl, sym, ap, true≢false}
 use Rattle.std.specs.List.{list_any}
 use Rattle.adv_io.specs.Steps.{Step, said_steps}
 use Rattle.inform_meaning.specs.Worlds.{Program}
 use Rattle.inform_logic.specs.Stages.{Stage}
-use Rattle.inform_logic.specs.Leading.{Does}
-use Rattle.inform_logic.proofs.Routines.{does_within}
 use Rattle.scott_types.specs.declared.states.State.{State}
 use Rattle.scott_types.specs.declared.styles.Style.{Style}
 use Rattle.scott_types.specs.declared.opcodes.Opcode.{Opcode}
@@ -23,7 +20,7 @@ use Rattle.trans_rows.specs.Standing.{StandsFor}
 use Rattle.trans_rows.specs.Calls.{StageLeft}
 use Rattle.trans_rows.proofs.Room.{one_less}
 use Rattle.trans_rows.proofs.Kept.{Kept}
-use Rattle.trans_rows.proofs.Acts.{CallActs, returns_acts}
+use Rattle.trans_rows.proofs.Acts.{CallActs}
 use Rattle.trans_actions.specs.declared.table.Kind.TheVariants as kinds
 use Rattle.trans_actions.specs.Helpers.{uses}
 use Rattle.trans_actions.proofs.Tests.{helper_room}

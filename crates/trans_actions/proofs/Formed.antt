@@ -1,8 +1,8 @@
 -- The routines of lines have a text.
-use Rattle.std.proofs.Common.{◌≡◌, ◌∙◌, arith, ℕ, zero, suc, ℤ, pos, negsuc, ◌+◌, ◌*◌, ◌<◌, ◌≤◌, ◌^◌, ◌/◌, ◌%◌, ◌==◌, nat_lt, nat_le, nat_eq, Bool, true, false, not, ◌&&◌, if◌then◌else◌, cond, List, [], ◌∷◌, ◌++◌, map, filter, drop, length, refl, Some}
+use Rattle.std.proofs.Common.{◌≡◌, ◌∙◌, arith, ℕ, zero, suc, ℤ, pos, negsuc, ◌+◌, ◌*◌, ◌<◌, ◌≤◌, ◌^◌, ◌/◌, ◌%◌, ◌==◌, nat_lt, Bool, true, false, ◌&&◌, if◌then◌else◌, cond, List, [], ◌∷◌, ◌++◌, map, filter, drop, length, refl, Some}
 use Rattle.std.specs.Prelude.{flat_map}
 use Rattle.std.proofs.lemmas.Int.{ints}
-use Rattle.std.specs.List.{AllByRecursion, list_all, list_any}
+use Rattle.std.specs.List.{list_all, list_any}
 use Rattle.std.proofs.lemmas.Bool.{and_parts}
 use Rattle.std.proofs.lemmas.List.Folds.{list_all-append}
 use Rattle.inform_tree.specs.Values as v
@@ -12,8 +12,8 @@ use Rattle.inform_tree.specs.Programs.{DirectiveTree}
 use Rattle.inform_tree.specs.Statements as s
 use Rattle.inform_tree.specs.Statements.{Statement, statements}
 use Rattle.inform_tree.specs.Words.{is_name, is_number}
-use Rattle.inform_tree.specs.Depths.{arguments_depth, statement_depth, statements_depth, routine_depth}
-use Rattle.inform_tree.specs.Formed.{are_formed_arguments, is_formed_statement, are_formed_statements, is_formed_directive, is_well_formed}
+use Rattle.inform_tree.specs.Depths.{arguments_depth}
+use Rattle.inform_tree.specs.Formed.{are_formed_arguments, is_formed_directive, is_well_formed}
 use Rattle.inform_codes.specs.Grown.{body_of}
 use Rattle.inform_codes.specs.Routines.{Row, row_routine, rows_directives}
 use Rattle.scott_types.specs.declared.opcodes.Opcode.{Opcode}
@@ -29,12 +29,12 @@ use Rattle.scott_types.specs.Opcode.{opcode_of, uses as uses_of}
 use Rattle.scott_rules.specs.Actions.{goes_on_after}
 use Rattle.scott_rules.specs.Opcodes.{last_room}
 use Rattle.trans_actions.specs.declared.table.Kind.TheVariants as kind
-use Rattle.trans_rows.specs.Names.{message_name, opcode_name, line_name}
+use Rattle.trans_rows.specs.Names.{message_name, opcode_name}
 use Rattle.trans_rows.specs.Lines.{number_arguments, next_parameters, call_value, call_statement, get_number, condition_test, is_test, opcode_call, message_call, get_statements, opcode_statements, all_statements, line_value, line_body}
 use Rattle.trans_rows.proofs.Lengths.{few}
 use Rattle.trans_actions.specs.Names.{action_names, numbers, light_number}
-use Rattle.trans_actions.specs.Helpers.{Helper, conditions, opcodes, refill, uses, used_rows, helper_rows, helper_directives}
-use Rattle.trans_actions.specs.Directives.{routine_of_line, lines_from, line_directives, action_directives}
+use Rattle.trans_actions.specs.Helpers.{Helper, conditions, opcodes, refill, uses, used_rows, helper_directives}
+use Rattle.trans_actions.specs.Directives.{routine_of_line, lines_from, line_directives}
 use Rattle.trans_actions.specs.Laws.{ActionsFormed}
 use Rattle.trans_actions.proofs.FineLists.{both, message_named, condition_named, opcode_named, line_named, Fine, AllFine, joined, raised, all_formed, all_shallow}
 
@@ -246,7 +246,7 @@ value_fine true = record { formed = refl; shallow = omega arith }
 value_fine false = record { formed = refl; shallow = omega arith }
 
 -- what the limits say of a line
-record Natural (a : Action) : Type 0 where
+pub record Natural (a : Action) : Type 0 where
   pub conds : list_all is_natural a.conds ≡ true
   pub two : length a.pairs ≡ 2
   pub pairs : list_all is_natural a.pairs ≡ true
@@ -257,7 +257,7 @@ pairs_are a = length a.pairs == 2 && list_all is_natural a.pairs
 abbrev lists_are : Action → Bool
 lists_are a = list_all is_natural a.conds && pairs_are a
 
-natural_line : (a : Action) → is_action a ≡ true → Natural a
+pub natural_line : (a : Action) → is_action a ≡ true → Natural a
 natural_line a h = record { conds = three.0; two = is_two four.0; pairs = four.1 } where
   one : (length a.conds == 5) && lists_are a ≡ true
   one = (and_parts (is_natural a.vocab) ((length a.conds == 5) && lists_are a) h).1
@@ -272,7 +272,8 @@ natural_line a h = record { conds = three.0; two = is_two four.0; pairs = four.1
   is_two : (length a.pairs == 2) ≡ true → length a.pairs ≡ 2
   is_two h = grind (arith, h)
 
-body_fine : (db : Database) (a : Action) → KeepsLimits db → Natural a → AllFine 8 (line_body db a)
+pub body_fine : (db : Database) (a : Action) → KeepsLimits db → Natural a → AllFine 8
+    (line_body db a)
 body_fine db a limits h = joined 8 (map condition_test (filter is_test a.conds)) _
     (raised 5 8 (map condition_test (filter is_test a.conds)) (omega arith)
     (tests_fine a.conds h.conds))

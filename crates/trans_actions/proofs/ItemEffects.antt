@@ -1,6 +1,6 @@
 -- Opcodes that move items do what they owe.
-use Rattle.std.proofs.Common.{◌≡◌, ◌∙◌, arith, ℕ, zero, suc, ◌<◌, ◌≤◌, ◌+◌, ◌*◌, ◌%◌, ℤ, pos, negsuc, ◌≤ℤ◌, int_le, int_lt, nat_eq, nat_lt, Bool, true, false, not, ◌&&◌, ◌||◌, if◌then◌else◌, List, [], ◌∷◌, ◌++◌, length, map, codes, Option, Some, None, is_some, refl, sym, ap, subst, append-nil}
-use Rattle.std.specs.Prelude.{set, slice_get, slice_index}
+use Rattle.std.proofs.Common.{◌≡◌, ◌∙◌, arith, ℕ, zero, suc, ◌<◌, ◌≤◌, ◌%◌, ℤ, pos, negsuc, ◌≤ℤ◌, nat_eq, nat_lt, Bool, true, false, not, ◌&&◌, ◌||◌, if◌then◌else◌, List, [], ◌∷◌, ◌++◌, length, map, codes, Some, None, is_some, refl, sym, ap, subst, append-nil}
+use Rattle.std.specs.Prelude.{set, slice_get}
 use Rattle.std.specs.List.{list_any, AllByRecursion}
 use Rattle.std.specs.Fmt.{digits}
 use Rattle.std.proofs.lemmas.List.{length-set}
@@ -10,7 +10,7 @@ use Rattle.inform_meaning.specs.Worlds.{Program}
 use Rattle.inform_logic.specs.Stages.{Stage, with_global, with_array, said}
 use Rattle.inform_logic.specs.Leading.{Does, at_end, by_return}
 use Rattle.inform_logic.proofs.Words.{small_number, small_remainder, negation_is, negative_word}
-use Rattle.inform_logic.proofs.Values.{within, valued, number, local, global, entry, call, argument, called, negation, product_of_two}
+use Rattle.inform_logic.proofs.Values.{valued, number, local, global, entry, call, argument, called, negation, product_of_two}
 use Rattle.inform_logic.proofs.Conditions.{compare, nonzero, all_of, all_hold, one_holds, one_fails}
 use Rattle.inform_logic.proofs.Changes.{set_variable, set_entry}
 use Rattle.inform_logic.proofs.Printing.{print_nothing, print_text}
@@ -19,7 +19,7 @@ use Rattle.inform_logic.proofs.Routines.{does_within, routine}
 use Rattle.inform_codes.specs.Grown.{body_of}
 use Rattle.scott_types.specs.declared.states.State.{State}
 use Rattle.scott_types.specs.declared.styles.Style.{Style}
-use Rattle.scott_types.specs.declared.opcodes.Opcode.TheVariants.{Get, Items, Rooms, Flags, Counters, Refill}
+use Rattle.scott_types.specs.declared.opcodes.Opcode.TheVariants.{Get, Items, Refill}
 use Rattle.scott_types.specs.declared.opcodes.ItemOp.TheVariants.{Drop, Remove, Put, Swap, Take, Join}
 use Rattle.scott_types.specs.Database.{Database}
 use Rattle.scott_types.specs.State.{Fits, has_item, is_here, place_of, with_place, with_flag}
@@ -27,9 +27,8 @@ use Rattle.scott_types.specs.declared.phrases.Phrase.TheVariants.{TooMuch}
 use Rattle.scott_types.specs.Phrase.{text_in}
 use Rattle.scott_rules.specs.Opcodes.{moved, redrawn, swapped, is_full, refilled, changed}
 use Rattle.trans_rows.specs.Tables.{bit}
-use Rattle.trans_rows.specs.Views.{naturals, Shows}
+use Rattle.trans_rows.specs.Views.{naturals}
 use Rattle.trans_rows.specs.Wide.{is_word_of}
-use Rattle.trans_rows.specs.Steps.{text_steps, share}
 use Rattle.trans_rows.specs.Names.{opcode_name}
 use Rattle.trans_rows.specs.Standing.{StandsFor}
 use Rattle.trans_rows.specs.Calls.{StageLeft, CallLeaves}

@@ -1,12 +1,11 @@
 -- What is known of a program that has the routines of lines.
-use Rattle.std.proofs.Common.{◌≡◌, ◌∙◌, ℕ, zero, suc, Bool, true, false, cond, List, [], ◌∷◌, ◌++◌, map, filter, codes, Option, Some, None, refl, sym, subst, true≢false}
+use Rattle.std.proofs.Common.{◌≡◌, ◌∙◌, ℕ, zero, suc, Bool, true, false, cond, List, [], ◌∷◌, map, filter, codes, Option, Some, None, refl, sym, true≢false}
 use Rattle.std.specs.Prelude.{⊤, is_none}
 use Rattle.std.specs.List.{AllByRecursion, list_all, list_any}
 use Rattle.std.proofs.lemmas.Bool.{and_parts}
 use Rattle.inform_meaning.specs.Worlds.{Program}
-use Rattle.inform_tree.specs.declared.widths.Width.{Width}
 use Rattle.inform_logic.specs.Holding.{Holds, Has}
-use Rattle.inform_logic.proofs.Holding.{has, holds_first, holds_rest}
+use Rattle.inform_logic.proofs.Holding.{has}
 use Rattle.inform_codes.specs.Codes.{name_in}
 use Rattle.inform_codes.specs.Routines.{Row, row_routine, rows_directives}
 use Rattle.scott_types.specs.declared.styles.Style.{Style}
@@ -16,7 +15,6 @@ use Rattle.scott_types.specs.Style.{in_style}
 use Rattle.scott_rules.specs.Laws.{OpcodeFits}
 use Rattle.trans_rows.specs.Wide.{is_word_of}
 use Rattle.trans_rows.specs.Names.{line_number}
-use Rattle.trans_rows.specs.Programs.{Serves}
 use Rattle.trans_rows.specs.Writes.{GlobalsWritten, EntriesWritten}
 use Rattle.trans_rows.specs.Laws.{NumbersAreTheirWords, LinesHaveWords}
 use Rattle.trans_rows.specs.DataRows.{DataRows}
@@ -24,7 +22,6 @@ use Rattle.trans_rows.specs.HelperRows.{HelperRows}
 use Rattle.trans_actions.specs.declared.table.Kind.TheVariants.{Condition, Opcode}
 use Rattle.trans_actions.specs.Names.{action_names, numbers, helper_names}
 use Rattle.trans_actions.specs.Helpers.{uses, Helper, conditions, opcodes, refill, used_rows}
-use Rattle.trans_actions.specs.Directives.{action_directives, line_directives}
 use Rattle.trans_actions.specs.Laws.{HasMessages}
 
 -- the laws on which the proofs stand
@@ -59,7 +56,7 @@ AtPlace P [] n = ⊤
 AtPlace P (x ∷ xs) zero = P x
 AtPlace P (x ∷ xs) (suc n) = AtPlace P xs n
 
-at_place : {X : Type 0} (P : X → Type 0) (xs : List X) (n : ℕ) → AllByRecursion P xs
+pub at_place : {X : Type 0} (P : X → Type 0) (xs : List X) (n : ℕ) → AllByRecursion P xs
     → AtPlace P xs n
 at_place P [] n h = tt
 at_place P (x ∷ xs) zero h = h.0

@@ -19,3 +19,9 @@ pub mod Owed
 pub mod FineLists
 pub mod Formed
 pub mod Demanded
+pub mod LinesIn
+pub mod UsedRows
+pub mod PartsNamed
+pub mod CallsNone
+pub mod CallsKnown
+pub mod Faultless

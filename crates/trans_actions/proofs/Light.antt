@@ -1,5 +1,5 @@
 -- The light of the header is a word where no number is too wide.
-use Rattle.std.proofs.Common.{◌≡◌, Bool, true, false, not, cond, List, [], ◌∷◌, find, Some, None, refl}
+use Rattle.std.proofs.Common.{◌≡◌, Bool, true, false, not, cond, List, ◌∷◌, find, Some, None, refl}
 use Rattle.inform_tree.specs.declared.widths.Width.{Width}
 use Rattle.scott_types.specs.Database.{Database}
 use Rattle.trans_rows.specs.declared.places.Place.TheVariants.{Carry, Treasures, Light, Home}

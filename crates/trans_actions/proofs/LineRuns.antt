@@ -1,49 +1,47 @@
 -- A line's routine does what the line owes.
-use Rattle.std.proofs.Common.{◌≡◌, ◌∙◌, arith, ℕ, zero, suc, ◌+◌, ◌*◌, ◌-◌, ◌/◌, ◌%◌, ◌<◌, ◌≤◌, ◌^◌, ℤ, pos, nat_lt, nat_eq, ◌==◌, Bool, true, false, not, cond, ◌&&◌, ◌||◌, if◌then◌else◌, List, [], ◌∷◌, ◌++◌, map, filter, length, codes, Option, Some, None, refl, sym, ap, subst, append_assoc, true≢false}
-use Rattle.std.specs.Prelude.{slice_index_or, flat_map, IsTrue}
+use Rattle.std.proofs.Common.{◌≡◌, ◌∙◌, arith, ℕ, zero, suc, ◌+◌, ◌*◌, ◌-◌, ◌/◌, ◌%◌, ◌<◌, ◌≤◌, ◌^◌, pos, nat_eq, ◌==◌, Bool, true, false, not, cond, ◌&&◌, ◌||◌, if◌then◌else◌, List, [], ◌∷◌, ◌++◌, map, filter, length, Option, Some, None, refl, sym, ap, subst, append_assoc, true≢false}
+use Rattle.std.specs.Prelude.{slice_index_or, flat_map}
 use Rattle.std.specs.List.{AllByRecursion, list_all, list_any}
 use Rattle.std.proofs.lemmas.Bool.{and_parts}
-use Rattle.adv_io.specs.Steps.{Step, Noted, Traced, said_steps, after, as_steps, traced}
-use Rattle.inform_tree.specs.declared.widths.Width.{Width}
+use Rattle.adv_io.specs.Steps.{Noted, Traced, said_steps, after, as_steps, traced}
 use Rattle.inform_tree.specs.Values as v
 use Rattle.inform_tree.specs.Statements as t
 use Rattle.inform_tree.specs.Statements.{Statement, Statements, statements}
 use Rattle.inform_tree.specs.Programs.{Routine}
 use Rattle.inform_meaning.specs.Words.{number_word}
 use Rattle.inform_meaning.specs.Worlds.{Program, Scope, scope_of}
-use Rattle.inform_meaning.specs.Frames.{Outcome, Normal, Returns, Quits}
-use Rattle.inform_meaning.specs.Runs.{Halted, noted_body}
+use Rattle.inform_meaning.specs.Frames.{Outcome, Returns}
+use Rattle.inform_meaning.specs.Runs.{noted_body}
 use Rattle.inform_logic.specs.Stages.{Stage, with_past}
-use Rattle.inform_logic.specs.Leading.{Does, Runs, Executes, TheBlock, by_return}
-use Rattle.inform_logic.specs.Stopping.{Stops, CallStops}
+use Rattle.inform_logic.specs.Leading.{Does, Runs, by_return}
 use Rattle.inform_logic.specs.Holding.{routine_at, Holds, Held, Notes}
-use Rattle.inform_logic.proofs.Holding.{notes, holds_first, holds_rest}
+use Rattle.inform_logic.proofs.Holding.{notes}
 use Rattle.inform_logic.proofs.Values.{within, valued, number, call, argument, called}
 use Rattle.inform_logic.proofs.Conditions.{nonzero, negated}
 use Rattle.inform_logic.proofs.Statements.{end, next, returns, return, return_false, if_true, if_false}
 use Rattle.inform_logic.proofs.Routines.{does_within, noted_routine}
 use Rattle.inform_logic.proofs.Stops.{later, noted_routine_stops}
+use Rattle.inform_signature.proofs.Elements.{one_in}
 use Rattle.scott_types.specs.declared.parts.Action.{Action}
 use Rattle.scott_types.specs.declared.states.State.{State}
 use Rattle.scott_types.specs.declared.styles.Style.{Style}
-use Rattle.scott_types.specs.declared.endings.Ran.TheVariants.{Not, Passed, Over}
 use Rattle.scott_types.specs.Database.{Database, action_at}
 use Rattle.scott_types.specs.Style.{in_style}
 use Rattle.scott_types.specs.Condition.{condition_of}
 use Rattle.scott_types.specs.Opcode.{opcode_of}
 use Rattle.scott_types.specs.Limits.{KeepsLimits, is_action, is_natural}
-use Rattle.scott_types.specs.Action.{argument_of, condition_code, parameters, opcode_numbers, is_zero_action}
+use Rattle.scott_types.specs.Action.{argument_of, condition_code, parameters, opcode_numbers}
 use Rattle.scott_rules.specs.Conditions.{holds}
 use Rattle.scott_rules.specs.Outcomes.{Outcome as Result}
 use Rattle.scott_rules.specs.Opcodes.{run_opcodes}
 use Rattle.scott_rules.specs.Actions.{condition_holds, passes, goes_on_after, ran_of, performed, action_result}
 use Rattle.trans_rows.specs.Tables.{bit}
 use Rattle.trans_rows.specs.Wide.{is_word_of}
-use Rattle.trans_rows.specs.Steps.{share, line_steps}
+use Rattle.trans_rows.specs.Steps.{line_steps}
 use Rattle.trans_rows.specs.Names.{line_name, line_number, condition_name}
 use Rattle.trans_rows.specs.Standing.{StandsFor}
-use Rattle.trans_rows.specs.Lines.{condition_test, is_test, condition_tests, all_statements, line_value, line_body, line_routine}
-use Rattle.trans_rows.specs.ActionRows.{HasLineRoutine, line_room, passed_value, LineOutcome, LineDone, LineRow}
+use Rattle.trans_rows.specs.Lines.{condition_test, is_test, condition_tests, all_statements, line_value, line_routine}
+use Rattle.trans_rows.specs.ActionRows.{passed_value, LineOutcome, LineDone, LineRow}
 use Rattle.trans_rows.specs.Calls.{StageLeft, CallLeaves}
 use Rattle.trans_rows.specs.Laws.{HasWords, LinesAreNumbered}
 use Rattle.trans_rows.proofs.Lists.{each_with, each_passes, one_of_all}
@@ -54,12 +52,13 @@ use Rattle.trans_rows.proofs.Acts.{stops_within}
 use Rattle.trans_rows.proofs.Lengths.{few as few_of_list}
 use Rattle.trans_actions.specs.declared.table.Kind.TheVariants as kinds
 use Rattle.trans_actions.specs.Helpers.{has_condition, has_opcode, uses}
-use Rattle.trans_actions.specs.Directives.{routine_of_line, lines_from, line_directives}
+use Rattle.trans_actions.specs.Directives.{line_directives}
 use Rattle.trans_actions.proofs.Known.{Known}
 use Rattle.trans_actions.proofs.ByNumber.{at_number}
+use Rattle.trans_actions.proofs.LinesIn.{line_is_in}
 use Rattle.trans_actions.proofs.Tests.{condition_steps, ConditionRow, condition_rows}
 use Rattle.trans_actions.proofs.Effects.{some_is}
-use Rattle.trans_actions.proofs.ListActs.{ListActs, ListActsBy}
+use Rattle.trans_actions.proofs.ListActs.{ListActsBy}
 use Rattle.trans_actions.proofs.Performed.{IsOwnWord, each_steps, performs}
 
 -- ---- conditions
@@ -417,40 +416,6 @@ module _ {style : Style} {db : Database} {p : Program} (known : Known style db p
 many : {db : Database} → KeepsLimits db → length db.actions ≤ 5000
 many {db} limits = few_of_list 5000 db.actions limits.sizes.actions
 
-lines_held : (db : Database) (p : Program) (j : ℕ) (actions : List Action)
-    → Holds p (lines_from db j actions) → (i : ℕ) → i < length actions
-    → is_zero_action (slice_index_or actions i (record { vocab = 0; conds = []; pairs = [] })) ≡
-    false
-    → Held p (Routine (routine_of_line db (j + i)
-    (slice_index_or actions i (record { vocab = 0; conds = []; pairs = [] }))))
-lines_held db p j [] holds i less other = absurd (omega (arith, less))
-lines_held db p j (a ∷ actions) holds i less other =
-    by (is_zero_action a) refl holds i less other (lines_held db p (j + 1) actions) where
-      by : (zero_line : Bool) → is_zero_action a ≡ zero_line
-          → Holds p (if zero_line then lines_from db (j + 1) actions
-          else Routine (routine_of_line db j a) ∷ lines_from db (j + 1) actions)
-          → (i : ℕ) → i < suc (length actions)
-          → is_zero_action (slice_index_or (a ∷ actions) i
-          (record { vocab = 0; conds = []; pairs = [] }))
-          ≡ false
-          → (Holds p (lines_from db (j + 1) actions) → (i : ℕ) → i < length actions
-          → is_zero_action (slice_index_or actions i (record { vocab = 0; conds = []; pairs = [] }))
-          ≡ false → Held p (Routine (routine_of_line db (j + 1 + i)
-          (slice_index_or actions i (record { vocab = 0; conds = []; pairs = [] })))))
-          → Held p (Routine (routine_of_line db (j + i)
-          (slice_index_or (a ∷ actions) i (record { vocab = 0; conds = []; pairs = [] }))))
-      by true is holds zero less other more = absurd (true≢false (sym is ∙ other))
-      by false is holds zero less other more = let at : j ≡ j + 0 = omega arith in
-          subst (λ n. Held p (Routine (routine_of_line db n a))) at holds.0
-      by true is holds (suc i) less other more = let at : j + 1 + i ≡ j + suc i = omega arith in
-          subst (λ n. Held p (Routine (routine_of_line db n
-          (slice_index_or actions i (record { vocab = 0; conds = []; pairs = [] }))))) at
-          (more holds i (omega (arith, less)) other)
-      by false is holds (suc i) less other more = let at : j + 1 + i ≡ j + suc i = omega arith in
-          subst (λ n. Held p (Routine (routine_of_line db n
-          (slice_index_or actions i (record { vocab = 0; conds = []; pairs = [] }))))) at
-          (more holds.1 i (omega (arith, less)) other)
-
 pub line_row : {style : Style} {db : Database} {p : Program} → Known style db p
     → AllByRecursion (HasWords p.width) db.actions
     → ((name : List ℕ) (at : ℕ) → p.notes name at ≡ line_number name) → LinesAreNumbered
@@ -467,9 +432,8 @@ line_row {style} {db} {p} known none_wide notes_lines numbered holds k s noun w 
       small = omega (arith, has.there, many known.limits)
 
       at : Held p (Routine (line_routine db k))
-      at = let is : 0 + k ≡ k = omega arith in
-          subst (λ n. Held p (Routine (routine_of_line db n (action_at db k)))) is
-          (lines_held db p 0 db.actions holds k has.there has.not_zero)
+      at = let is_in = line_is_in db k has in
+          one_in (Held p) (line_directives db) is_in.0 holds is_in.1
 
       held : Notes p (line_routine db k) k
       held = notes p at (notes_lines (line_name k) at.0 ∙ numbered k small)

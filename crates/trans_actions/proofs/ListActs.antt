@@ -1,10 +1,10 @@
 -- Statements one after the other, before any others: what they lead to, or that they end the game.
-use Rattle.std.proofs.Common.{◌≡◌, ◌∙◌, arith, ℕ, suc, ◌+◌, ◌≤◌, ℤ, pos, Bool, true, false, if◌then◌else◌, List, [], ◌∷◌, ◌++◌, codes, Option, Some, None, refl, sym, ap, subst, append_assoc, append-nil}
+use Rattle.std.proofs.Common.{◌≡◌, ◌∙◌, arith, ℕ, ◌+◌, ◌≤◌, ℤ, pos, Bool, true, false, if◌then◌else◌, List, [], ◌∷◌, ◌++◌, codes, Option, Some, None, sym, ap, subst, append_assoc, append-nil}
 use Rattle.std.proofs.lemmas.List.{map-append}
 use Rattle.adv_io.specs.Steps.{Said, Step, Traced, said_steps, traced}
 use Rattle.inform_tree.specs.Values.{Arguments, NoArguments}
 use Rattle.inform_tree.specs.Conditions.{Condition}
-use Rattle.inform_tree.specs.Statements.{Statement, Statements, NoStatements, Call, If, statements}
+use Rattle.inform_tree.specs.Statements.{Statement, Call, If, statements}
 use Rattle.inform_meaning.specs.Worlds.{Program, Scope}
 use Rattle.inform_meaning.specs.Frames.{Outcome, Normal, Quits}
 use Rattle.inform_meaning.specs.Runs.{Halted}
@@ -21,7 +21,7 @@ use Rattle.trans_rows.specs.Views.{Shows}
 use Rattle.trans_rows.specs.Standing.{StandsFor}
 use Rattle.trans_rows.specs.Calls.{StageLeft}
 use Rattle.trans_rows.proofs.Left.{nothing_left, left_then}
-use Rattle.trans_rows.proofs.Acts.{CallActs, CallActsBy}
+use Rattle.trans_rows.proofs.Acts.{CallActs}
 
 -- they are done, and what comes after them goes on from the stage that they leave
 pub record ListDone (db : Database) (p : Program) (d : ℕ) (xs : List Statement) (scope : Scope)

@@ -1,5 +1,5 @@
 -- An item goes to a place.
-use Rattle.std.proofs.Common.{◌≡◌, ◌∙◌, arith, ℕ, suc, ◌<◌, ◌≤◌, ◌+◌, ℤ, pos, nat_eq, nat_lt, Bool, true, false, ◌||◌, if◌then◌else◌, List, [], ◌∷◌, ◌++◌, length, codes, Some, None, is_some, refl, sym, ap, subst, append-nil}
+use Rattle.std.proofs.Common.{◌≡◌, ◌∙◌, arith, ℕ, suc, ◌<◌, ℤ, pos, nat_eq, nat_lt, Bool, true, false, ◌||◌, if◌then◌else◌, List, [], ◌∷◌, ◌++◌, length, codes, Some, None, is_some, refl, sym, ap, subst, append-nil}
 use Rattle.std.specs.Prelude.{set}
 use Rattle.std.specs.List.{list_any}
 use Rattle.inform_tree.specs.declared.conditions.Relation.TheVariants.{Eq}
@@ -9,9 +9,8 @@ use Rattle.inform_tree.specs.Conditions.{Condition}
 use Rattle.inform_meaning.specs.Worlds.{Program, Scope}
 use Rattle.inform_logic.specs.Stages.{Stage, with_global, with_array}
 use Rattle.inform_logic.specs.Leading.{Does, Tests, at_end}
-use Rattle.inform_logic.specs.Holding.{Has}
 use Rattle.inform_logic.proofs.Words.{eq_is, small_number}
-use Rattle.inform_logic.proofs.Values.{within, valued, number, local, global, entry}
+use Rattle.inform_logic.proofs.Values.{valued, number, local, global, entry}
 use Rattle.inform_logic.proofs.Conditions.{compare, any_of, none_holds, this_holds, this_fails}
 use Rattle.inform_logic.proofs.Changes.{set_variable, set_entry}
 use Rattle.inform_logic.proofs.Statements.{end, next, assign, if_true, if_false}

@@ -1,5 +1,5 @@
 -- The noun is said as it was typed, byte by byte.
-use Rattle.std.proofs.Common.{◌≡◌, ◌∙◌, arith, ℕ, zero, suc, ◌+◌, ◌*◌, ◌<◌, ◌≤◌, ℤ, pos, nat_lt, true, false, List, [], ◌∷◌, ◌++◌, map, take, drop, length, slice_get, codes, Option, Some, unwrap_or, refl, sym, ap, subst}
+use Rattle.std.proofs.Common.{◌≡◌, ◌∙◌, arith, ℕ, zero, suc, ◌+◌, ◌*◌, ◌<◌, ◌≤◌, ℤ, pos, nat_lt, true, false, List, [], ◌∷◌, take, drop, length, slice_get, codes, Option, Some, unwrap_or, refl, sym, ap, subst}
 use Rattle.std.specs.List.{AllByRecursion, list_any}
 use Rattle.std.specs.Fmt.{digits}
 use Rattle.std.proofs.lemmas.List.{length-map, length-take, length-drop}

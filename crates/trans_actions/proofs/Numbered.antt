@@ -1,5 +1,5 @@
 -- The opcodes by their numbers.
-use Rattle.std.proofs.Common.{◌≡◌, arith, ℕ, zero, suc, ◌+◌, ◌-◌, ◌<◌, ◌≤◌, nat_lt, nat_eq, Bool, true, false, if◌then◌else◌, refl, ap, subst}
+use Rattle.std.proofs.Common.{◌≡◌, arith, ℕ, ◌+◌, ◌-◌, ◌≤◌, nat_lt, nat_eq, Bool, true, false, if◌then◌else◌, refl, ap, subst}
 use Rattle.std.specs.Prelude.{slice_index_or}
 use Rattle.inform_meaning.specs.Worlds.{Program}
 use Rattle.scott_types.specs.declared.styles.Style.{Style}
@@ -36,6 +36,22 @@ above n few h = by (nat_eq n 52) refl where
         no_get : is_called (slice_index_or named (52 - 52) Nothing) ≡ true → ⊥
         no_get h = cc
   by false is = larger n few is
+
+-- an opcode that is called has a number from 53 to 89
+pub called_from : (n : ℕ) → is_called (opcode_of n) ≡ true → (53 ≤ n) × (n ≤ 89)
+called_from n h = by (nat_eq n 0) (nat_lt n 52) (nat_lt n 90) (nat_lt n 102) refl refl refl refl h
+  where
+    by : (z small mid high : Bool) → nat_eq n 0 ≡ z → nat_lt n 52 ≡ small → nat_lt n 90 ≡ mid
+        → nat_lt n 102 ≡ high
+        → is_called (if z then Nothing else if small then Say n else if mid
+        then slice_index_or named (n - 52) Nothing else if high then Nothing else Say (n - 50)) ≡
+        true
+        → (53 ≤ n) × (n ≤ 89)
+    by true small mid high a b c d h = cc
+    by false true mid high a b c d h = cc
+    by false false true high a b c d h = (above n (not_under n b) h, most n c)
+    by false false false true a b c d h = cc
+    by false false false false a b c d h = cc
 
 module _ {style : Style} {db : Database} {p : Program} (known : Known style db p) where
   -- 73 is no call
@@ -111,7 +127,9 @@ module _ {style : Style} {db : Database} {p : Program} (known : Known style db p
                                                                     opcode_85 known,
                                                                     (
                                                                       opcode_86 known,
-                                                                      (opcode_87 known, (opcode_88 known, (opcode_89 known, tt))),
+                                                                      (opcode_87 known, (opcode_88
+                                                                      known, (opcode_89 known,
+                                                                      tt))),
                                                                     ),
                                                                   ),
                                                                 ),
@@ -146,22 +164,6 @@ module _ {style : Style} {db : Database} {p : Program} (known : Known style db p
       ),
     ),
   )
-
-  -- an opcode that is called has a number from 53 to 89
-  called_from : (n : ℕ) → is_called (opcode_of n) ≡ true → (53 ≤ n) × (n ≤ 89)
-  called_from n h = by (nat_eq n 0) (nat_lt n 52) (nat_lt n 90) (nat_lt n 102) refl refl refl refl h
-    where
-      by : (z small mid high : Bool) → nat_eq n 0 ≡ z → nat_lt n 52 ≡ small → nat_lt n 90 ≡ mid
-          → nat_lt n 102 ≡ high
-          → is_called (if z then Nothing else if small then Say n else if mid
-          then slice_index_or named (n - 52) Nothing else if high then Nothing else Say (n - 50)) ≡
-          true
-          → (53 ≤ n) × (n ≤ 89)
-      by true small mid high a b c d h = cc
-      by false true mid high a b c d h = cc
-      by false false true high a b c d h = (above n (not_under n b) h, most n c)
-      by false false false true a b c d h = cc
-      by false false false false a b c d h = cc
 
   pub opcode_rows : (n : ℕ) → is_called (opcode_of n) ≡ true → OpcodeRow style db p n
   opcode_rows n h = let from : (53 ≤ n) × (n ≤ 89) = called_from n h in

@@ -1,10 +1,10 @@
 -- The opcodes of a line, one after the other, do what the rules do.
-use Rattle.std.proofs.Common.{◌≡◌, ◌∙◌, arith, ℕ, zero, suc, ◌+◌, ◌*◌, ◌-◌, ◌<◌, ◌≤◌, ℤ, pos, nat_lt, nat_eq, Bool, true, false, not, if◌then◌else◌, List, [], ◌∷◌, ◌++◌, map, take, drop, length, Option, Some, None, refl, sym, ap, subst}
+use Rattle.std.proofs.Common.{◌≡◌, ◌∙◌, arith, ℕ, zero, suc, ◌+◌, ◌*◌, ◌<◌, ◌≤◌, pos, nat_lt, Bool, true, false, not, if◌then◌else◌, List, [], ◌∷◌, ◌++◌, map, take, drop, length, Option, None, refl, sym, ap, subst}
 use Rattle.std.specs.Prelude.{slice_index, slice_index_or}
 use Rattle.std.specs.List.{AllByRecursion}
 use Rattle.adv_io.specs.Steps.{said_steps, Traced, traced}
-use Rattle.inform_tree.specs.Values.{Arguments, NoArguments}
-use Rattle.inform_tree.specs.Statements.{Statement, Statements}
+use Rattle.inform_tree.specs.Values.{NoArguments}
+use Rattle.inform_tree.specs.Statements.{Statement}
 use Rattle.inform_meaning.specs.Words.{number_word}
 use Rattle.inform_meaning.specs.Worlds.{Program, Scope}
 use Rattle.inform_meaning.specs.Frames.{Outcome}
@@ -13,7 +13,6 @@ use Rattle.inform_logic.specs.Leading.{Leads, TheCall, Does}
 use Rattle.inform_logic.proofs.Values.{within, valued, number, call, argument, called}
 use Rattle.inform_logic.proofs.Conditions.{nonzero}
 use Rattle.inform_logic.proofs.Statements.{call_alone}
-use Rattle.inform_logic.proofs.Routines.{does_within}
 use Rattle.scott_types.specs.declared.states.State.{State}
 use Rattle.scott_types.specs.declared.styles.Style.{Style}
 use Rattle.scott_types.specs.declared.opcodes.Opcode.{Opcode}
@@ -28,13 +27,13 @@ use Rattle.scott_types.specs.Phrase.{text_of, text_in}
 use Rattle.scott_types.specs.Database.{Database}
 use Rattle.scott_types.specs.Opcode.{opcode_of, uses as parameter_count}
 use Rattle.scott_types.specs.Style.{in_style}
-use Rattle.scott_rules.specs.Outcomes.{Outcome as Result, goes_on, and_then}
-use Rattle.scott_rules.specs.Opcodes.{said_message, is_full, moved, changed, opcode_effect, takes, op, run_opcodes}
+use Rattle.scott_rules.specs.Outcomes.{Outcome as Result, and_then}
+use Rattle.scott_rules.specs.Opcodes.{said_message, is_full, moved, opcode_effect, takes, run_opcodes}
 use Rattle.trans_rows.specs.Tables.{bit}
-use Rattle.trans_rows.specs.Steps.{text_steps, share}
+use Rattle.trans_rows.specs.Steps.{text_steps}
 use Rattle.trans_rows.specs.Names.{message_name, opcode_name}
 use Rattle.trans_rows.specs.Standing.{StandsFor}
-use Rattle.trans_rows.specs.Lines.{number_arguments, call_statement, next_parameters, opcode_call, message_call, get_number, get_statements, opcode_statements, all_statements}
+use Rattle.trans_rows.specs.Lines.{number_arguments, call_statement, next_parameters, opcode_call, get_statements, opcode_statements, all_statements}
 use Rattle.trans_rows.specs.Calls.{StageLeft, CallLeaves, CallSays}
 use Rattle.trans_rows.proofs.Entries.{bit_tells}
 use Rattle.trans_rows.proofs.Left.{said_left}
@@ -43,7 +42,7 @@ use Rattle.trans_actions.specs.declared.table.Kind.TheVariants as kinds
 use Rattle.trans_actions.specs.Helpers.{uses}
 use Rattle.trans_actions.proofs.Known.{Known}
 use Rattle.trans_actions.proofs.Stored.{is_less}
-use Rattle.trans_actions.proofs.Effects.{opcode_steps, is_called, OpcodeRow}
+use Rattle.trans_actions.proofs.Effects.{opcode_steps, is_called}
 use Rattle.trans_actions.proofs.ItemEffects.{get_row}
 use Rattle.trans_actions.proofs.Numbered.{opcode_rows, get_is}
 use Rattle.trans_actions.proofs.ListActs.{ListActs, list_within, list_end, list_next, list_branch, list_call}

@@ -1,19 +1,18 @@
 -- Opcodes that change the room or a flag do what they owe.
-use Rattle.std.proofs.Common.{◌≡◌, ◌∙◌, arith, ℕ, zero, suc, ◌<◌, ◌≤◌, ◌+◌, ◌*◌, ◌%◌, ℤ, pos, negsuc, int_le, int_lt, nat_eq, nat_lt, Bool, true, false, not, ◌&&◌, ◌||◌, if◌then◌else◌, List, [], ◌∷◌, ◌++◌, length, map, codes, Option, Some, None, is_some, refl, sym, ap, subst, append-nil}
+use Rattle.std.proofs.Common.{◌≡◌, arith, ℕ, suc, ◌<◌, pos, nat_lt, Bool, true, false, if◌then◌else◌, List, [], ◌∷◌, ◌++◌, length, map, codes, Some, None, is_some, refl, sym, ap, subst, append-nil}
 use Rattle.std.specs.Prelude.{set, slice_get, slice_index, slice_set}
 use Rattle.std.proofs.lemmas.List.{map-append}
-use Rattle.std.specs.List.{list_any}
 use Rattle.std.specs.Fmt.{digits}
 use Rattle.adv_io.specs.Steps.{Said, said_steps}
 use Rattle.inform_meaning.specs.Worlds.{Program}
 use Rattle.inform_logic.specs.Stages.{Stage, with_global, with_array, said}
-use Rattle.inform_logic.specs.Leading.{Does, at_end, by_return}
-use Rattle.inform_logic.proofs.Words.{eq_is, lt_is, small_number, small_remainder}
-use Rattle.inform_logic.proofs.Values.{within, valued, number, local, global, entry, call, argument, called, negation, product_of_two}
-use Rattle.inform_logic.proofs.Conditions.{compare, nonzero, all_of, all_hold, one_holds, one_fails}
+use Rattle.inform_logic.specs.Leading.{at_end}
+use Rattle.inform_logic.proofs.Words.{small_number}
+use Rattle.inform_logic.proofs.Values.{valued, number, local, global, entry, called}
+use Rattle.inform_logic.proofs.Conditions.{compare}
 use Rattle.inform_logic.proofs.Changes.{set_variable, set_entry}
 use Rattle.inform_logic.proofs.Printing.{print_nothing, print_text}
-use Rattle.inform_logic.proofs.Statements.{end, next, returns, assign, print, call_alone, if_true, if_false, return_true, return_false}
+use Rattle.inform_logic.proofs.Statements.{end, next, assign, print, call_alone, if_true, if_false}
 use Rattle.inform_logic.proofs.Routines.{does_within, routine}
 use Rattle.inform_codes.specs.Grown.{body_of}
 use Rattle.scott_types.specs.declared.states.State.{State}
@@ -29,24 +28,20 @@ use Rattle.scott_types.specs.State.{Fits, with_flag}
 use Rattle.scott_rules.specs.Opcodes.{last_room, dead}
 use Rattle.scott_rules.specs.Looking.{looked}
 use Rattle.trans_rows.specs.Tables.{bit}
-use Rattle.trans_rows.specs.Views.{naturals, Shows}
-use Rattle.trans_rows.specs.Steps.{text_steps, share}
+use Rattle.trans_rows.specs.Views.{naturals}
+use Rattle.trans_rows.specs.Steps.{text_steps}
 use Rattle.trans_rows.specs.Names.{opcode_name}
 use Rattle.trans_rows.specs.Standing.{StandsFor}
 use Rattle.trans_rows.specs.Calls.{StageLeft, CallSays}
-use Rattle.trans_rows.proofs.Entries.{bit_tells, place_at}
 use Rattle.trans_rows.proofs.Lengths.{few}
 use Rattle.trans_rows.proofs.Kept.{kept_then, kept_said, kept_here, kept_saved, kept_redraw, kept_flag, kept_rsave}
 use Rattle.trans_rows.proofs.Left.{nothing_left, said_left, left_then}
 use Rattle.trans_rows.proofs.Acts.{CallActs, returns_acts}
-use Rattle.trans_actions.specs.declared.table.Kind.TheVariants as kinds
-use Rattle.trans_actions.specs.Names.{action_names, light_number}
-use Rattle.trans_actions.specs.Helpers.{uses, refill}
-use Rattle.trans_actions.proofs.Known.{Known, Own, opcode_there}
+use Rattle.trans_actions.specs.Names.{action_names}
+use Rattle.trans_actions.proofs.Known.{Known, opcode_there}
 use Rattle.trans_rows.proofs.Room.{one_less}
 use Rattle.trans_actions.proofs.Stored.{is_less, flag_at, natural_at}
-use Rattle.trans_actions.proofs.Tests.{helper_room}
-use Rattle.trans_actions.proofs.Effects.{left_by, opcode_steps, OpcodeRow, two_less, alone}
+use Rattle.trans_actions.proofs.Effects.{left_by, opcode_steps, OpcodeRow, alone}
 
 module _ {style : Style} {db : Database} {p : Program} (known : Known style db p) where
   few_rooms : length db.rooms < 32768

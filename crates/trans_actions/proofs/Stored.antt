@@ -1,14 +1,13 @@
 -- What entries and numbers a test compares.
-use Rattle.std.proofs.Common.{◌≡◌, ◌∙◌, arith, ℕ, zero, suc, ◌<◌, ◌≤◌, ◌+◌, ℤ, pos, negsuc, ◌≤ℤ◌, nat_eq, nat_lt, int_le, int_lt, Bool, true, false, not, List, [], ◌∷◌, ◌++◌, map, length, slice_get, Some, None, refl, sym, ap}
+use Rattle.std.proofs.Common.{◌≡◌, ◌∙◌, arith, ℕ, zero, suc, ◌<◌, ◌≤◌, ℤ, pos, negsuc, ◌≤ℤ◌, nat_lt, int_le, Bool, true, false, not, List, [], ◌∷◌, map, length, slice_get, Some, refl, ap}
 use Rattle.std.specs.Prelude.{slice_index, slice_index_or}
-use Rattle.std.specs.Ordering.{int_eq}
 use Rattle.std.proofs.lemmas.Int.{ints}
 use Rattle.std.proofs.lemmas.List.{map-append, length-map}
 use Rattle.inform_tree.specs.declared.conditions.Relation.TheVariants.{Le}
 use Rattle.inform_meaning.specs.Words.{compares}
 use Rattle.scott_types.specs.Database.{Database, place_of_item}
 use Rattle.scott_types.specs.Limits.{KeepsLimits}
-use Rattle.trans_rows.specs.Tables.{bit, guarded, start_places}
+use Rattle.trans_rows.specs.Tables.{bit, start_places}
 use Rattle.trans_rows.specs.Views.{naturals}
 use Rattle.trans_rows.proofs.Entries.{place_at}
 use Rattle.trans_rows.proofs.Lengths.{few}

@@ -1,48 +1,39 @@
 -- Opcodes that say something, or end the game, do what they owe.
-use Rattle.std.proofs.Common.{◌≡◌, ◌∙◌, arith, ℕ, zero, suc, ◌<◌, ◌≤◌, ◌+◌, ◌*◌, ◌%◌, ℤ, pos, negsuc, int_le, int_lt, nat_eq, nat_lt, Bool, true, false, not, ◌&&◌, ◌||◌, if◌then◌else◌, List, [], ◌∷◌, ◌++◌, length, map, codes, Option, Some, None, is_some, refl, sym, ap, subst, append-nil}
-use Rattle.std.specs.Prelude.{set, slice_get, slice_index, slice_set}
+use Rattle.std.proofs.Common.{◌≡◌, ◌∙◌, arith, ℕ, suc, ◌≤◌, pos, Bool, true, false, if◌then◌else◌, [], ◌∷◌, ◌++◌, codes, Some, None, refl, sym, subst}
+use Rattle.std.specs.Prelude.{slice_get}
 use Rattle.std.proofs.lemmas.List.{map-append}
 use Rattle.std.specs.List.{list_any}
 use Rattle.std.specs.Fmt.{digits, signed_decimal}
 use Rattle.adv_io.specs.Steps.{Said, said_steps}
 use Rattle.inform_meaning.specs.Worlds.{Program}
-use Rattle.inform_logic.specs.Stages.{Stage, with_global, with_array, said}
-use Rattle.inform_logic.specs.Leading.{Does, at_end, by_return}
-use Rattle.inform_logic.proofs.Values.{within, number, local, global, entry, call, called}
-use Rattle.inform_logic.proofs.Conditions.{compare, nonzero, all_of, all_hold, one_holds, one_fails}
-use Rattle.inform_logic.proofs.Changes.{set_variable, set_entry}
+use Rattle.inform_logic.specs.Stages.{with_global, said}
+use Rattle.inform_logic.specs.Leading.{at_end}
+use Rattle.inform_logic.proofs.Values.{number, global, call, called}
+use Rattle.inform_logic.proofs.Conditions.{nonzero}
+use Rattle.inform_logic.proofs.Changes.{set_variable}
 use Rattle.inform_logic.proofs.Printing.{print_nothing, print_text, print_number}
-use Rattle.inform_logic.proofs.Statements.{end, next, returns, assign, print, new_line, call_alone, if_true, if_false, return_true, return_false}
+use Rattle.inform_logic.proofs.Statements.{end, next, assign, print, new_line, call_alone, if_true, if_false}
 use Rattle.inform_logic.proofs.Routines.{does_within, routine}
 use Rattle.inform_logic.specs.Stopping.{in_block}
 use Rattle.inform_logic.proofs.Stops.{later, handed_up, quit, routine_stops}
 use Rattle.inform_codes.specs.Grown.{body_of}
-use Rattle.scott_types.specs.declared.states.State.{State}
 use Rattle.scott_types.specs.declared.styles.Style.{Style}
-use Rattle.scott_types.specs.declared.opcodes.Opcode.TheVariants.{Score}
 use Rattle.scott_types.specs.declared.phrases.Phrase.TheVariants.{NoSaving, GameOver}
 use Rattle.scott_types.specs.Phrase.{text_of}
 use Rattle.scott_types.specs.Style.{in_style}
 use Rattle.scott_types.specs.Database.{Database}
-use Rattle.scott_types.specs.State.{Fits}
 use Rattle.scott_rules.specs.Looking.{looked, inventory, scored, all_stored}
 use Rattle.scott_rules.specs.Opcodes.{by_opcode, by_score}
-use Rattle.trans_rows.specs.Tables.{bit}
-use Rattle.trans_rows.specs.Views.{naturals, Shows}
-use Rattle.trans_rows.specs.Steps.{text_steps, share}
 use Rattle.trans_rows.specs.Names.{opcode_name}
-use Rattle.trans_rows.specs.Standing.{StandsFor}
-use Rattle.trans_rows.specs.Calls.{StageLeft, CallSays}
 use Rattle.trans_rows.proofs.Entries.{bit_tells}
 use Rattle.trans_rows.proofs.Left.{nothing_left, said_left, left_then}
 use Rattle.trans_rows.proofs.Acts.{CallActs, returns_acts, stops_within}
 use Rattle.trans_actions.specs.declared.table.Kind.TheVariants as kinds
-use Rattle.trans_actions.specs.Names.{action_names, light_number}
-use Rattle.trans_actions.specs.Helpers.{uses, refill}
-use Rattle.trans_actions.proofs.Known.{Known, Own, opcode_there}
+use Rattle.trans_actions.specs.Names.{action_names}
+use Rattle.trans_actions.specs.Helpers.{uses}
+use Rattle.trans_actions.proofs.Known.{Known, opcode_there}
 use Rattle.trans_rows.proofs.Room.{one_less}
 use Rattle.trans_actions.proofs.NounSaid.{noun_is_said, few_bytes, more_bytes}
-use Rattle.trans_actions.proofs.Tests.{helper_room}
 use Rattle.trans_actions.proofs.Effects.{opcode_steps, OpcodeRow, some_is, two_less, alone}
 
 module _ {style : Style} {db : Database} {p : Program} (known : Known style db p) where

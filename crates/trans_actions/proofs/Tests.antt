@@ -1,10 +1,7 @@
 -- The routines of conditions do what they owe.
-use Rattle.std.proofs.Common.{◌≡◌, ◌∙◌, arith, ℕ, suc, ◌<◌, ◌≤◌, ◌+◌, ◌*◌, ℤ, pos, nat_eq, nat_lt, int_le, int_lt, Bool, true, false, not, ◌&&◌, ◌||◌, List, [], ◌∷◌, length, codes, Option, Some, None, refl, sym, ap, ap₂, subst}
-use Rattle.std.specs.Prelude.{slice_index, slice_index_or}
+use Rattle.std.proofs.Common.{◌≡◌, ◌∙◌, arith, ℕ, ◌<◌, ◌≤◌, ◌+◌, ◌*◌, pos, nat_eq, nat_lt, Bool, true, false, not, List, [], ◌∷◌, length, codes, Some, refl, sym, ap₂, subst}
 use Rattle.std.specs.Fmt.{digits}
 use Rattle.std.specs.List.{list_any}
-use Rattle.std.specs.Ordering.{int_eq}
-use Rattle.std.proofs.lemmas.Int.{ints}
 use Rattle.inform_tree.specs.declared.conditions.Relation.TheVariants.{Eq, Lt, Ge}
 use Rattle.inform_tree.specs.Values as v
 use Rattle.inform_tree.specs.Conditions as c
@@ -14,8 +11,8 @@ use Rattle.inform_meaning.specs.Tables.{found}
 use Rattle.inform_meaning.specs.Worlds.{Program, Scope}
 use Rattle.inform_meaning.specs.Frames.{Returns}
 use Rattle.inform_logic.specs.Stages.{Stage}
-use Rattle.inform_logic.specs.Leading.{Does, Evaluates, Tests, Runs, by_return}
-use Rattle.inform_logic.proofs.Words.{eq_is, ne_is, lt_is, ge_is}
+use Rattle.inform_logic.specs.Leading.{Does, Tests, Runs, by_return}
+use Rattle.inform_logic.proofs.Words.{eq_is, ne_is, ge_is}
 use Rattle.inform_logic.proofs.Values.{within, valued, number, local, global, entry, call, argument, called}
 use Rattle.inform_logic.proofs.Words.{small_number}
 use Rattle.inform_logic.proofs.Conditions.{compare, nonzero, negated, all_of, all_hold, one_holds, one_fails, any_of, none_holds, this_holds, this_fails}
@@ -26,7 +23,7 @@ use Rattle.scott_types.specs.declared.states.State.{State}
 use Rattle.scott_types.specs.declared.styles.Style.{Style}
 use Rattle.scott_types.specs.Database.{Database}
 use Rattle.scott_types.specs.Condition.{condition_of}
-use Rattle.scott_types.specs.State.{place_of, is_carried, is_here, is_near, flag_of, carried_count}
+use Rattle.scott_types.specs.State.{place_of, is_near, flag_of, carried_count}
 use Rattle.scott_rules.specs.Conditions.{start_place, holds}
 use Rattle.trans_rows.specs.Tables.{bit}
 use Rattle.trans_rows.specs.Steps.{share}

@@ -1,6 +1,5 @@
 -- All routines of the lines of a game: those that lines call, and the lines.
 use Rattle.std.specs.Prelude.{ℕ, ◌+◌, List, [], ◌∷◌, ◌++◌, if◌then◌else◌}
-use Rattle.inform_tree.specs.Statements as s
 use Rattle.inform_tree.specs.Statements.{statements}
 use Rattle.inform_tree.specs.Programs.{RoutineTree, DirectiveTree, Routine}
 use Rattle.scott_types.specs.declared.parts.Action.{Action}

@@ -2,4 +2,5 @@ pub mod Names
 pub mod Helpers
 pub mod Directives
 pub mod Laws
-pub mod Demands
+pub mod Needed
+pub mod Parts

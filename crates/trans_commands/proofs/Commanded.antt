@@ -98,7 +98,8 @@ module _ {style : Style} {db : Database} {p : Program} (known : Known style db p
         (suc (suc (suc (suc (suc (suc d)))))) (codes "obey") (pos v ∷ pos noun ∷ []) w typed
         (by_actions (in_style style db) typed go_verb (Some noun) s).value.state
         (by_actions (in_style style db) typed go_verb (Some noun) s).events (obey_steps db))
-        (is_going is) (obey_acts known s typed w stands go_verb (Some noun) going_some there d room)))))
+        (is_going is) (obey_acts known s typed w stands go_verb
+        (Some noun) going_some there d room)))))
 
   command_acts : (noun : Option ℕ) → w.globals (codes "nnum") ≡ Some (pos (or_zero noun))
       → IsNoun db noun → Commands (command_result (in_style style db) typed verb noun s)

@@ -1,5 +1,4 @@
 pub mod Spent
-pub mod Searched
 pub mod WellFormed
 pub mod Known
 pub mod Tabled

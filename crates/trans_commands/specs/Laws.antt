@@ -1,5 +1,5 @@
 -- What the routines of commands owe.
-use Rattle.std.specs.Prelude.{◌≡◌, true, [], codes}
+use Rattle.std.specs.Prelude.{◌≡◌, true, codes}
 use Rattle.inform_tree.specs.declared.widths.Width.{Width}
 use Rattle.inform_tree.specs.Formed.{is_well_formed}
 use Rattle.inform_meaning.specs.Worlds.{Program}
@@ -7,13 +7,12 @@ use Rattle.scott_types.specs.declared.styles.Style.{Style}
 use Rattle.scott_types.specs.Database.{Database}
 use Rattle.scott_types.specs.Limits.{KeepsLimits}
 use Rattle.scott_types.specs.Style.{in_style}
-use Rattle.scott_rules.specs.Groups.{groups}
 use Rattle.trans_rows.specs.Programs.{Serves}
 use Rattle.trans_rows.specs.HelperRows.{HelperRows}
 use Rattle.trans_rows.specs.CommandRows.{SearchRow, CommandRow}
 use Rattle.trans_rows.specs.Owed.{Translates}
 use Rattle.trans_commands.specs.Names.{helper_names}
-use Rattle.trans_commands.specs.Directives.{command_directives, search_directives}
+use Rattle.trans_commands.specs.Directives.{command_directives}
 
 -- Where a program has the routines of commands, and its helpers and its search do what they owe, a
 -- command does what it owes.
@@ -24,16 +23,7 @@ CommandsOwe = (style : Style) (width : Width) (db : Database) (p : Program) → 
     → SearchRow (in_style style db) p (codes "search")
     → CommandRow (in_style style db) p (codes "command")
 
--- Where no line is a head, the search without heads does what a search owes.
-abbrev pub SearchOwes : Type 0
-SearchOwes = (style : Style) (width : Width) (db : Database) (p : Program) → groups db ≡ []
-    → Serves width search_directives p → SearchRow (in_style style db) p (codes "search")
-
 -- The routines of commands are well formed for a database that keeps its limits.
 abbrev pub CommandsFormed : Type 0
 CommandsFormed = (style : Style) (db : Database) → KeepsLimits db
     → is_well_formed (command_directives style db) ≡ true
-
--- So is the search.
-abbrev pub SearchFormed : Type 0
-SearchFormed = is_well_formed search_directives ≡ true

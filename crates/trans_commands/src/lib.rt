@@ -10,12 +10,8 @@ mod items;
 mod transfers;
 mod walking;
 
-// The routine that searches the lines for a command, in a game without such lines.
-mod searching;
-
 // All of them as directives, and what they owe.
 pub mod laws;
 mod table;
 
-pub use searching::search;
 pub use table::commands;

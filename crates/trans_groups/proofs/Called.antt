@@ -9,10 +9,9 @@ use Rattle.scott_types.specs.Action.{verb_of, noun_of}
 use Rattle.scott_rules.specs.Groups.{Group}
 use Rattle.trans_rows.specs.Tables.{bit}
 use Rattle.trans_rows.specs.Names.{group_name, line_name}
-use Rattle.trans_rows.specs.Shaped.{demands_calls}
-use Rattle.trans_groups.specs.Automatic.{chance, chances}
-use Rattle.trans_groups.specs.Search.{group_tries, for_noun, verb_tries, has_verb, verb_cases}
-use Rattle.trans_groups.specs.Laws.{LinesAreNotCalled}
+use Rattle.trans_rows.specs.Shaped.{demands_calls, routine_calls}
+use Rattle.trans_groups.specs.Automatic.{chance, chances, automatic_routine}
+use Rattle.trans_groups.specs.Search.{group_tries, for_noun, verb_tries, has_verb, verb_cases, search_routine}
 
 -- ---- by the verbs of groups
 
@@ -126,11 +125,14 @@ no_line k verb (g ∷ gs) = by (verb_of g.vocab == verb) (no_line k verb gs) whe
   by true more = omega (arith, more)
   by false more = omega (arith, more)
 
-pub lines_are_not_called : LinesAreNotCalled
-lines_are_not_called gs k = (
-  omega (
-    arith,
-    cases_none (line_name k) (switch_in no_loop) gs (λ verb some. no_line k verb gs) gs,
-  ),
-  omega (arith, chances_calls (line_name k) no_loop gs, no_line k 0 gs),
+-- neither the search nor the automatic step calls one
+pub search_calls_none : (gs : List Group) (k : ℕ)
+    → routine_calls (line_name k) (search_routine gs) ≡ 0
+search_calls_none gs k = omega (
+  arith,
+  cases_none (line_name k) (switch_in no_loop) gs (λ verb some. no_line k verb gs) gs,
 )
+
+pub step_calls_none : (gs : List Group) (k : ℕ)
+    → routine_calls (line_name k) (automatic_routine gs) ≡ 0
+step_calls_none gs k = omega (arith, chances_calls (line_name k) no_loop gs, no_line k 0 gs)

@@ -19,7 +19,7 @@ use Rattle.trans_rows.proofs.Lengths.{few}
 use Rattle.trans_groups.specs.Automatic.{chances}
 use Rattle.trans_groups.specs.Search.{has_verb}
 use Rattle.trans_groups.specs.Trying.{trying_directives}
-use Rattle.trans_groups.specs.Laws.{GroupsAreCalledOnce}
+use Rattle.trans_groups.specs.Parts.{GroupsAreCalledOnce}
 use Rattle.trans_groups.proofs.Called.{at_verb, chances_calls, cases_none, cases_one}
 
 -- ---- groups call lines alone

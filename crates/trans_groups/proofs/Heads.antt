@@ -1,8 +1,8 @@
 -- Groups and their lines, as they stand in a database.
-use Rattle.std.proofs.Common.{◌≡◌, ◌∙◌, arith, ℕ, zero, suc, ◌+◌, ◌<◌, ◌==◌, ◌&&◌, Bool, true, false, not, cond, if◌then◌else◌, List, [], ◌∷◌, map, filter, drop, length, refl, sym, ap, ap₂}
-use Rattle.std.specs.Prelude.{slice_index_or}
+use Rattle.std.proofs.Common.{◌≡◌, ◌∙◌, ℕ, ◌+◌, ◌<◌, ◌==◌, ◌&&◌, Bool, true, false, not, cond, if◌then◌else◌, List, [], ◌∷◌, map, filter, drop, length, refl, sym, ap, ap₂}
 use Rattle.std.specs.List.{AllByRecursion, list_all}
 use Rattle.inform_tree.specs.Programs.{Routine}
+use Rattle.inform_signature.proofs.Elements.{element_at}
 use Rattle.scott_types.specs.declared.parts.Action.{Action}
 use Rattle.scott_types.specs.Database.{Database, action_at}
 use Rattle.scott_types.specs.Action.{is_zero, is_zero_action}
@@ -13,21 +13,6 @@ use Rattle.trans_groups.specs.Directives.{group_directives, tried_from, routine_
 
 abbrev none : Action
 none = record { vocab = 0; conds = []; pairs = [] }
-
--- the line of a number, and those after it
-pub here : (xs : List Action) (k : ℕ) (x : Action) (rest : List Action) → drop k xs ≡ x ∷ rest
-    → (k < length xs) × (slice_index_or xs k none ≡ x) × (drop (k + 1) xs ≡ rest)
-here [] zero x rest is = cc
-here [] (suc k) x rest is = cc
-here (y ∷ ys) zero x rest is = from is where
-  from : y ∷ ys ≡ x ∷ rest → (0 < length (y ∷ ys)) × (y ≡ x) × (ys ≡ rest)
-  from is = (omega arith, cc, cc)
-here (y ∷ ys) (suc k) x rest is = let more = here ys k x rest is in
-    let next : suc k + 1 ≡ suc (k + 1) = omega arith in (
-      omega (arith, more.0),
-      more.1,
-      ap (λ n. drop n (y ∷ ys)) next ∙ more.2,
-    )
 
 module _ (db : Database) where
   -- the lines of a tail that aren't all zeros
@@ -40,7 +25,7 @@ module _ (db : Database) where
   tried_are k (a ∷ actions) is =
       by (a.vocab == 0) (is_zero_action a) refl (tried_are (k + 1) actions at.2) where
         at : (k < length db.actions) × (action_at db k ≡ a) × (drop (k + 1) db.actions ≡ actions)
-        at = here db.actions k a actions is
+        at = element_at none db.actions k a actions is
 
         by : (plain zeros : Bool) → is_zero_action a ≡ zeros
             → tried_from (k + 1) actions ≡ tried_of (tail_of (k + 1) actions)
@@ -62,7 +47,7 @@ module _ (db : Database) where
   heads_are k (a ∷ actions) is =
       by (a.vocab == 0) (heads_are (k + 1) actions at.2) where
         at : (k < length db.actions) × (action_at db k ≡ a) × (drop (k + 1) db.actions ≡ actions)
-        at = here db.actions k a actions is
+        at = element_at none db.actions k a actions is
 
         routine : routine_of_head k a (tried_from (k + 1) actions) ≡ group_routine db
             (record { head = k; vocab = a.vocab; tail = tail_of (k + 1) actions })
@@ -100,7 +85,7 @@ module _ (db : Database) where
   tail_stands k [] is = tt
   tail_stands k (a ∷ actions) is = by (a.vocab == 0) (tail_stands (k + 1) actions at.2) where
     at : (k < length db.actions) × (action_at db k ≡ a) × (drop (k + 1) db.actions ≡ actions)
-    at = here db.actions k a actions is
+    at = element_at none db.actions k a actions is
 
     by : (plain : Bool)
         → AllByRecursion (λ k. k < length db.actions) (tail_of (k + 1) actions)
@@ -115,7 +100,7 @@ module _ (db : Database) where
   groups_stand k (a ∷ actions) is =
       by (a.vocab == 0) refl (groups_stand (k + 1) actions at.2) where
         at : (k < length db.actions) × (action_at db k ≡ a) × (drop (k + 1) db.actions ≡ actions)
-        at = here db.actions k a actions is
+        at = element_at none db.actions k a actions is
 
         by : (plain : Bool) → (a.vocab == 0) ≡ plain
             → AllByRecursion (GroupStands db) (groups_of (k + 1) actions)

@@ -12,3 +12,5 @@ pub mod Called
 pub mod CalledOnce
 pub mod Formed
 pub mod Owed
+pub mod GroupsIn
+pub mod Faultless

@@ -1,5 +1,5 @@
 -- What the routines of groups, the automatic step and the search owe.
-use Rattle.std.specs.Prelude.{◌≡◌, ℕ, true, List, codes}
+use Rattle.std.specs.Prelude.{◌≡◌, true, codes}
 use Rattle.std.specs.List.{AllByRecursion}
 use Rattle.inform_tree.specs.declared.widths.Width.{Width}
 use Rattle.inform_tree.specs.Formed.{is_well_formed}
@@ -8,17 +8,15 @@ use Rattle.scott_types.specs.declared.styles.Style.{Style}
 use Rattle.scott_types.specs.Database.{Database}
 use Rattle.scott_types.specs.Limits.{KeepsLimits}
 use Rattle.scott_types.specs.Style.{Game, in_style}
-use Rattle.scott_rules.specs.Groups.{Group, groups}
-use Rattle.trans_rows.specs.Names.{group_name, line_name}
+use Rattle.scott_rules.specs.Groups.{groups}
 use Rattle.trans_rows.specs.Programs.{Serves}
-use Rattle.trans_rows.specs.Shaped.{IsIn, routine_calls, program_calls}
 use Rattle.trans_rows.specs.ActionRows.{LineRow}
 use Rattle.trans_rows.specs.CommandRows.{SearchRow}
 use Rattle.trans_rows.specs.AutomaticRows.{AutomaticRow}
 use Rattle.trans_rows.specs.Owed.{Translates}
 use Rattle.trans_groups.specs.Directives.{group_directives}
-use Rattle.trans_groups.specs.Automatic.{automatic_routine, automatic_directives}
-use Rattle.trans_groups.specs.Search.{search_routine, search_directives}
+use Rattle.trans_groups.specs.Automatic.{automatic_directives}
+use Rattle.trans_groups.specs.Search.{search_directives}
 use Rattle.trans_groups.specs.Trying.{trying_directives}
 use Rattle.trans_groups.specs.Rows.{GroupRow}
 
@@ -53,17 +51,6 @@ abbrev pub TryingOwes : Type 0
 TryingOwes = (style : Style) (width : Width) (db : Database) (p : Program) → Translates width db
     → Serves width (trying_directives db) p → LineRow (in_style style db) p
     → TryingRows (in_style style db) p
-
--- Neither the search nor the automatic step calls a line.
-abbrev pub LinesAreNotCalled : Type 0
-LinesAreNotCalled = (gs : List Group) (k : ℕ)
-    → (routine_calls (line_name k) (search_routine gs) ≡ 0)
-    × (routine_calls (line_name k) (automatic_routine gs) ≡ 0)
-
--- Each group is called at one place of the search, the automatic step and the groups.
-abbrev pub GroupsAreCalledOnce : Type 0
-GroupsAreCalledOnce = (db : Database) → KeepsLimits db → (g : Group) → IsIn g (groups db)
-    → program_calls (group_name g.head) (trying_directives db) ≡ 1
 
 -- All of these routines are well formed.
 abbrev pub TryingFormed : Type 0

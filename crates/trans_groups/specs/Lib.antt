@@ -4,3 +4,4 @@ pub mod Search
 pub mod Trying
 pub mod Rows
 pub mod Laws
+pub mod Parts

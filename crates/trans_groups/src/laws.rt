@@ -1,5 +1,7 @@
-//! What the routines owe. Each law is the contract of a function that does nothing else.
-ghost use Rattle.trans_groups.specs.Laws.{GroupsOwe, AutomaticOwes, SearchOwes, TryingOwes, LinesAreNotCalled, GroupsAreCalledOnce, TryingFormed};
+//! What the routines owe, and what a program needs to know of them. Each law is the contract of a
+//! function that does nothing else.
+ghost use Rattle.trans_groups.specs.Laws.{GroupsOwe, AutomaticOwes, SearchOwes, TryingOwes, TryingFormed};
+ghost use Rattle.trans_groups.specs.Parts.{GroupsAreDistinct, GroupsAreThere, GroupsAlone, GroupsAreCalledOnce, GroupsCallLines, TryingIsFaultless};
 
 use trans_rows::laws::{lines_have_words, numbers_are_their_words};
 
@@ -30,9 +32,24 @@ pub fn trying_owes()
     search_owes();
 }
 
-/// Neither the search nor the automatic step calls a line.
-pub fn lines_are_not_called()
-    ensures { LinesAreNotCalled }
+/// All of these routines are well formed.
+pub fn trying_is_formed()
+    ensures { TryingFormed }
+{}
+
+/// No two routines of groups have one name.
+pub fn groups_are_distinct()
+    ensures { GroupsAreDistinct }
+{}
+
+/// Each group has its routine.
+pub fn groups_are_there()
+    ensures { GroupsAreThere }
+{}
+
+/// A routine that has the name of a group is the routine of a group.
+pub fn groups_alone()
+    ensures { GroupsAlone }
 {}
 
 /// Each group is called at one place: in the automatic step, or in the case of its verb.
@@ -40,7 +57,14 @@ pub fn groups_are_called_once()
     ensures { GroupsAreCalledOnce }
 {}
 
-/// All of these routines are well formed.
-pub fn trying_is_formed()
-    ensures { TryingFormed }
+/// Groups alone call lines.
+pub fn groups_call_lines()
+    ensures { GroupsCallLines }
 {}
+
+/// Where the names that they take for granted are known, none of these routines has a fault.
+pub fn trying_is_faultless()
+    ensures { TryingIsFaultless }
+{
+    lines_have_words();
+}

@@ -1,11 +1,11 @@
 mod Joined
-mod NoLines
 mod Parts
 mod Numbers
 pub mod Tables
-pub mod FormedTexts
+pub mod Routines
 pub mod Formed
 pub mod Sound
 pub mod Accepted
+pub mod Called
 pub mod Shaped
 pub mod Distinct

@@ -1,5 +1,4 @@
--- The routines of the program meet what is demanded of them, by the names of all directives but the
--- messages.
+-- The routines of fixed names meet what is demanded of them, by those names.
 use Rattle.std.proofs.Common.{◌≡◌, ◌∙◌, arith, ℕ, ◌+◌, ◌≤◌, pos, nat_lt, not, Bool, true, false, List, [], ◌∷◌, ◌++◌, length, codes, Option, Some, None, refl}
 use Rattle.std.specs.Prelude.{int_lt}
 use Rattle.std.specs.List.{list_all}
@@ -8,7 +7,7 @@ use Rattle.std.proofs.lemmas.List.Folds.{list_all-append}
 use Rattle.inform_tree.specs.declared.widths.Width.{Width}
 use Rattle.inform_tree.specs.Programs as d
 use Rattle.inform_tree.specs.Programs.{DirectiveTree}
-use Rattle.inform_tree.specs.Depths.{routine_depth}
+use Rattle.inform_tree.specs.Depths.{cases_depth, routine_depth}
 use Rattle.inform_names.specs.declared.limits.TheConstants.{DEEPEST}
 use Rattle.inform_names.specs.Demands.{cases_demands, switch_in, no_loop}
 use Rattle.inform_names.specs.Acceptance.{is_main}
@@ -35,12 +34,11 @@ use Rattle.trans_data.specs.Texts.{message_directives, text_cases, text_routine,
 use Rattle.trans_words.specs.Directives.{line_directives, column_names, column_rows, column_directives, word_directives}
 use Rattle.trans_words.proofs.Tables.{few_words}
 use Rattle.trans_words.proofs.First.{named_small}
-use Rattle.trans_commands.specs.Directives.{command_directives, search_directives}
-use Rattle.trans_turn.specs.Routines.{rounds_asking, no_group_directives, round_directives, turn_directives}
-use Rattle.trans_programs.specs.Programs.{game_routines}
+use Rattle.trans_commands.specs.Directives.{command_directives}
+use Rattle.trans_turn.specs.Routines.{rounds_asking, round_directives}
 use Rattle.trans_programs.proofs.Numbers.{is_small, less_small, items_small, byte_small, goal_small, divisor_small}
-use Rattle.trans_programs.proofs.FormedTexts.{both, cases_shallow}
-use Rattle.trans_programs.proofs.Parts.{named, chosen_by}
+use Rattle.trans_programs.proofs.Formed.{both}
+use Rattle.trans_programs.proofs.Parts.{after_groups, named, chosen_by}
 
 abbrev pub is_sound : Width → List Sign → DirectiveTree → Bool
 is_sound width signs (d.Constant name value) = false
@@ -103,16 +101,6 @@ module _ (width : Width) where
   unfolding body_of routine_names table_rows rounds_asking
   commands_sound style db s begin h = rw h refl
 
-  search_sound : (style : Style) (db : Database) (s : State) (begin : Position)
-      → are_sound width (signature (named style db s begin)) search_directives ≡ true
-  unfolding body_of routine_names table_rows rounds_asking
-  search_sound style db s begin = refl
-
-  step_sound : (style : Style) (db : Database) (s : State) (begin : Position)
-      → are_sound width (signature (named style db s begin)) no_group_directives ≡ true
-  unfolding body_of routine_names table_rows rounds_asking
-  step_sound style db s begin = refl
-
   rounds_sound : (style : Style) (db : Database) (s : State) (from : Option State)
       → are_sound width (signature (named style db s (opening_position from)))
       (round_directives (opening_position from)) ≡ true
@@ -121,6 +109,10 @@ module _ (width : Width) where
   rounds_sound style db s (Some other) = refl
 
   -- ---- texts by their numbers, and messages
+
+  cases_shallow : (n : ℕ) (texts : List (List ℕ)) → cases_depth (text_cases n texts) ≤ 1
+  cases_shallow n [] = omega arith
+  cases_shallow n (text ∷ texts) = omega (arith, cases_shallow (n + 1) texts)
 
   cases_met : (signs : List Sign) (locals : List (List ℕ)) (n : ℕ) (texts : List (List ℕ))
       → n + length texts ≤ 32768
@@ -152,15 +144,18 @@ module _ (width : Width) where
       ∙ both (are_sound width signs xs) (are_sound width signs ys) h k
 
   module _ (db : Database) (limits : KeepsLimits db) where
-    named_entry : (column : Column) (word : List ℕ) → is_small (or_zero (which db column word)) ≡ true
+    named_entry : (column : Column) (word : List ℕ) → is_small (or_zero (which db column word))
+        ≡ true
     named_entry column word = less_small (or_zero (which db column word))
         (omega (arith, named_small db column limits word))
 
     module _ (style : Style) (s : State) (begin : Position) where
-      texts_sound : are_sound width (signature (named style db s begin)) (text_directives style db) ≡ true
+      pub texts_sound : are_sound width (signature (named style db s begin))
+          (text_directives style db) ≡ true
       unfolding numbers
       texts_sound = let signs = signature (named style db s begin) in
-          sound_both signs (fixed_directives style db) (spoken_directives style db) (sound_both signs
+          sound_both signs (fixed_directives style db) (spoken_directives style db)
+          (sound_both signs
           (rows_directives (routine_names style) (numbers db) table_rows)
           (rows_directives (routine_names style) (numbers db) (chosen_rows style db))
           (rows_sound style db s begin (length db.items) (byte_or_more db.header.carry)
@@ -182,13 +177,15 @@ module _ (width : Width) where
             few 255 db.rooms limits.sizes.rooms,
           ))) (messages_sound signs 0 db.messages)))
 
-      words_sound : are_sound width (signature (named style db s begin)) (word_directives db) ≡ true
+      pub words_sound : are_sound width (signature (named style db s begin)) (word_directives db)
+          ≡ true
       words_sound = sound_both (signature (named style db s begin)) line_directives
           (column_directives db Verbs ++ column_directives db Nouns) (line_sound style db s begin)
           (sound_both (signature (named style db s begin)) (column_directives db Verbs)
           (column_directives db Nouns) (of_column Verbs) (of_column Nouns)) where
             of_column : (column : Column)
-                → are_sound width (signature (named style db s begin)) (column_directives db column) ≡ true
+                → are_sound width (signature (named style db s begin)) (column_directives db column)
+                ≡ true
             of_column column = column_sound style db s begin column _ _ _ _ _ _ _ _ _
                 (less_small db.header.length (omega (arith, limits.header.length_range.1)))
                 (less_small (length db.words) (omega (arith, few_words db limits)))
@@ -197,18 +194,10 @@ module _ (width : Width) where
                 (named_entry column (codes "up")) (named_entry column (codes "down"))
                 (named_entry column (codes "inventory"))
 
-    pub routines_sound : (style : Style) (s : State) (from : Option State)
-        → are_sound width (signature (named style db s (opening_position from)))
-        (game_routines style db from) ≡ true
-    routines_sound style s from = let begin = opening_position from in
-        let signs = signature (named style db s begin) in
-        let stepping = no_group_directives ++ round_directives begin in
-        sound_both signs (text_directives style db)
-        (word_directives db ++ turn_directives style db begin) (texts_sound style s begin)
-        (sound_both signs (word_directives db) (turn_directives style db begin)
-        (words_sound style s begin)
-        (sound_both signs search_directives (command_directives style db ++ stepping)
-        (search_sound style db s begin) (sound_both signs (command_directives style db) stepping
-        (commands_sound style db s begin (items_small db limits))
-        (sound_both signs no_group_directives (round_directives begin)
-        (step_sound style db s begin) (rounds_sound style db s from)))))
+      pub turns_sound : (from : Option State) → are_sound width
+          (signature (named style db s (opening_position from)))
+          (after_groups style db (opening_position from)) ≡ true
+      turns_sound from = let begin = opening_position from in
+          sound_both (signature (named style db s begin)) (command_directives style db)
+          (round_directives begin) (commands_sound style db s begin (items_small db limits))
+          (rounds_sound style db s from)

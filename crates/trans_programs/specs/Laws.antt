@@ -1,7 +1,6 @@
 -- The laws of the program of a translated game: it has a text, is accepted, and has the shape of
 -- the game.
 use Rattle.std.specs.Prelude.{◌≡◌, true, Option, None}
-use Rattle.std.specs.List.{AllByRecursion}
 use Rattle.inform_tree.specs.declared.widths.Width.{Width}
 use Rattle.inform_tree.specs.Formed.{is_well_formed}
 use Rattle.inform_names.specs.Acceptance.{name_fault}
@@ -11,15 +10,10 @@ use Rattle.scott_types.specs.declared.styles.Style.{Style}
 use Rattle.scott_types.specs.Database.{Database}
 use Rattle.scott_types.specs.Limits.{KeepsLimits}
 use Rattle.scott_types.specs.State.{Fits}
-use Rattle.scott_types.specs.Action.{is_zero_action}
 use Rattle.trans_rows.specs.Owed.{Translates}
 use Rattle.trans_rows.specs.Faithful.{opening_state}
 use Rattle.trans_rows.specs.Shaped.{Shaped}
 use Rattle.trans_programs.specs.Programs.{game_program}
-
--- a game without lines: each is all zeros
-abbrev pub HasNoLines : Database → Type 0
-HasNoLines db = AllByRecursion (λ a. is_zero_action a ≡ true) db.actions
 
 -- no two of its directives have one name
 abbrev pub ProgramsAreDistinct : Type 0
@@ -40,5 +34,5 @@ ProgramsAreAccepted = (style : Style) (width : Width) (db : Database) (from : Op
 
 -- it has the shape of the game
 abbrev pub ProgramsAreShaped : Type 0
-ProgramsAreShaped = (style : Style) (db : Database) (from : Option State) → HasNoLines db
+ProgramsAreShaped = (style : Style) (db : Database) (from : Option State) → KeepsLimits db
     → Shaped db (opening_state db from) (game_program style db from)

@@ -7,6 +7,7 @@ ghost use Rattle.trans_rows.specs.Faithful.{opening_state};
 ghost use Rattle.trans_rows.specs.Wide.{wide_at};
 ghost use Rattle.trans_data.specs.Texts.{text_directives};
 ghost use Rattle.trans_words.specs.Directives.{word_directives};
+ghost use Rattle.trans_actions.specs.Directives.{action_directives};
 ghost use Rattle.trans_turn.specs.Routines.{turn_directives};
 ghost use Rattle.trans_programs.specs.Programs.{game_program};
 
@@ -15,6 +16,7 @@ use inform_codes::joined;
 use inform_tree::{Directive, Program, Width};
 use scott_types::{Db, Position, State, Style};
 use std::alloc::Global;
+use trans_actions::actions;
 use trans_data::tables;
 use trans_turn::turn;
 use trans_words::words;
@@ -32,12 +34,16 @@ fn directives(
     requires narrow { wide_at width db.now ≡ None }
     ensures { IfOk result (λ directives. map directive_of directives.items
         ≡ data_directives db.now state.now ++ (text_directives style db.now
-        ++ (word_directives db.now ++ turn_directives style db.now begin))) }
+        ++ (word_directives db.now ++ (action_directives style db.now
+        ++ turn_directives style db.now begin)))) }
 {
     let data = tables(alloc, db, style, width, state)?;
     let reading = words(alloc, db)?;
-    let playing = joined(reading, turn(alloc, db, style, width, begin)?)?;
-    let all = joined(data, playing)?;
+    let acting = actions(alloc, db, style)?;
+    let turning = turn(alloc, db, style, width, begin)?;
+    let playing = joined(acting, turning)?;
+    let speaking = joined(reading, playing)?;
+    let all = joined(data, speaking)?;
     Ok(all)
 }
 

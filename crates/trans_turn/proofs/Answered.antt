@@ -150,7 +150,8 @@ module _ (game : Game) (p : Program) (asked : ℕ) (has : HasRound p asked)
     unfolding body_of
     unknown_line vnum wa na = let
         entries : List ℤ = read.line_stays.stands.all in
-        let says : Does p d (codes "say_word") [] (said (text_of UnknownOpening) reads.after) (pos 1)
+        let says : Does p d (codes "say_word") [] (said (text_of UnknownOpening) reads.after)
+        (pos 1)
         (said word (said (text_of UnknownOpening) reads.after)) 242 =
         one_less (λ d. Does p d (codes "say_word") [] (said (text_of UnknownOpening) reads.after)
         (pos 1) (said word (said (text_of UnknownOpening) reads.after)) 242) 129 d room
@@ -227,7 +228,8 @@ module _ (game : Game) (p : Program) (asked : ℕ) (has : HasRound p asked)
       over_is = over.over_is;
     }
 
-    by_command : (over : Option ℕ) → CommandEnds over game p d (codes "command") reads.after noun_text
+    by_command : (over : Option ℕ) → CommandEnds over game p d
+        (codes "command") reads.after noun_text
         obeyed → AnswerOutcome (ended over).value.position p (suc d) w game.db (ended over)
     by_command None x = goes_on x
     by_command (Some ending) x = ends ending x

@@ -40,7 +40,8 @@ module _ (game : Game) (p : Program) (asked : ℕ) (looks : LookRow game p (code
         (text_steps game.db + 4)
     by true mark = let look = looks s noun w d room stands in
         does_within (omega arith) (routine has (next (if_true (nonzero (global refl mark) refl)
-        (next (call_alone (called look.does)) end)) (next (assign (set_variable number (ap is_some mark))) end))
+        (next (call_alone (called look.does)) end)) (next
+        (assign (set_variable number (ap is_some mark))) end))
         at_end)
     by false mark =
         subst (λ w'. Does p (suc d) (codes "describe") [] w (pos 1)

@@ -9,9 +9,9 @@ use Rattle.inform_logic.specs.Holding.{Has}
 use Rattle.inform_logic.proofs.Holding.{has}
 use Rattle.scott_types.specs.declared.endings.Position.{Position}
 use Rattle.trans_rows.specs.Programs.{Serves}
-use Rattle.trans_turn.specs.declared.names.TheConstants.{MAIN, ROUND, ADVANCE, DESCRIBE, AUTOMATIC, ASK, ANSWER, SAY_WORD, ASKED, I}
-use Rattle.trans_turn.specs.declared.codes.TheConstants.{DESCRIBING, ADVANCING, ASKING, SAYING_WORD, ANSWERING, ROUNDING, PLAYING, BEFORE_GROUPS}
-use Rattle.trans_turn.specs.Routines.{turn_names, first_asked, rounds_asking, round_directives, no_group_directives}
+use Rattle.trans_turn.specs.declared.names.TheConstants.{MAIN, ROUND, ADVANCE, DESCRIBE, ASK, ANSWER, SAY_WORD, ASKED, I}
+use Rattle.trans_turn.specs.declared.codes.TheConstants.{DESCRIBING, ADVANCING, ASKING, SAYING_WORD, ANSWERING, ROUNDING, PLAYING}
+use Rattle.trans_turn.specs.Routines.{turn_names, first_asked, rounds_asking, round_directives}
 
 -- a routine by the places of its name and its locals, where this number is handed in
 abbrev pub written : ℕ → ℕ → List ℕ → List Code → RoutineTree
@@ -39,8 +39,3 @@ has_round begin {p = p} serves = let all = serves.holds in record {
   round = has p all.1.1.1.1.1.0 (serves.notes_lines (codes "round") _);
   main = has p all.1.1.1.1.1.1.0 (serves.notes_lines (codes "main") _);
 }
-
-pub has_automatic : {width : Width} {p : Program} → Serves width no_group_directives p
-    → Has p (written 0 AUTOMATIC [] BEFORE_GROUPS)
-has_automatic {p = p} serves =
-    has p serves.holds.0 (serves.notes_lines (codes "automatic") _)

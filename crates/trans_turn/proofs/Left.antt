@@ -33,7 +33,8 @@ module _ (game : Game) where
   -- after an answer
   pub answer_left : (p : Position) (s : State) (lines : List (List ℕ)) (ds : List ℕ)
       → LinesLeft lines (round game p s lines ds).value.lines
-      → LinesLeft lines (round_goes_on p (round_done p s lines ds) (round game p s lines ds)).value.lines
+      → LinesLeft lines (round_goes_on p (round_done p s lines ds)
+      (round game p s lines ds)).value.lines
   answer_left Fresh s lines ds h = all_left
   answer_left (Draw head) s lines ds h = h
   answer_left Line s lines ds h = h

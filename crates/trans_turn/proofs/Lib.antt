@@ -12,5 +12,4 @@ pub mod Left
 pub mod RoundRuns
 pub mod RoundRows
 pub mod MainRuns
-pub mod NoGroups
 pub mod TurnRows

@@ -61,7 +61,8 @@ all_steps db lines = lines * (200 * share db) + (lines + 1) * (500 * turn_share 
 
 -- a round, and all that follow it; x is what a line takes, and r a round without its lines
 round_and_more : (x r spent left n : ℕ) → 1 ≤ spent
-    → n ≤ spent * x + r + (left * x + (left + 1) * r) → n ≤ (spent + left) * x + (spent + left + 1) * r
+    → n ≤ spent * x + r + (left * x + (left + 1) * r) → n ≤ (spent + left) * x +
+    (spent + left + 1) * r
 round_and_more x r zero left n some few = absurd (omega (arith, some))
 round_and_more x r (suc spent) left n some few = omega (arith, few)
 
@@ -123,7 +124,8 @@ hands_up rule x = record {
 
 module _ (game : Game) (p : Program) (part : Part) (scope : Scope) (w : Stage) (values : List ℤ)
     (over : w.globals (codes "over") ≡ Some (pos 0)) (t : Traced Step PlayEnd) (n m : ℕ)
-    (stopped : (stop : Stop) (w' : Stage) → CallStops p CALL_LIMIT (codes "round") values w stop w' n
+    (stopped : (stop : Stop) (w' : Stage) → CallStops p CALL_LIMIT
+    (codes "round") values w stop w' n
     → Stops p CALL_LIMIT part scope w stop w' m)
     (done : t.value.position ≡ Fresh → RoundDone p CALL_LIMIT (codes "round") values w game.db t n
     → PartPlays p part scope w
@@ -226,7 +228,8 @@ module _ (spends : PlaySpends) (stops : PlayStops) (rounds : PlaysAreRounds) (ga
         pub followed : (part : Part) (m : ℕ)
             → ((stop : Stop) (w' : Stage)
             → Stops p CALL_LIMIT (TheTurns play_loop) scope x.after stop w'
-            (all_steps game.db (length one.value.lines)) → Stops p CALL_LIMIT part scope w stop w' m)
+            (all_steps game.db (length one.value.lines))
+            → Stops p CALL_LIMIT part scope w stop w' m)
             → PartPlays p part scope w
             (after one.events (go game Fresh one.value.state one.value.lines one.value.draws)) m
         followed part m rule = record {
@@ -235,13 +238,15 @@ module _ (spends : PlaySpends) (stops : PlayStops) (rounds : PlaysAreRounds) (ga
           stops = rule others.stop others.last others.stops;
           shows = others.shows;
           past_is = happened_then w.past one.events
-              (go game Fresh one.value.state one.value.lines one.value.draws).events x.leaves.past_is
+              (go game Fresh one.value.state one.value.lines one.value.draws).events
+              x.leaves.past_is
               others.past_is;
           ends = others.ends;
         }
 
       -- what a round with these steps and all others take
-      within_all : (n : ℕ) → n ≤ round_steps game.db spent + 10 → n ≤ all_steps game.db (length w.lines)
+      within_all : (n : ℕ) → n ≤ round_steps game.db spent + 10 → n ≤ all_steps game.db
+          (length w.lines)
       within_all n few = let
           all : length w.lines ≡ spent + length one.value.lines = omega (arith, left.few) in
           subst (λ k. n ≤ all_steps game.db k) (sym all)
@@ -264,7 +269,8 @@ module _ (spends : PlaySpends) (stops : PlayStops) (rounds : PlaysAreRounds) (ga
     body_stops : {w w' : Stage} {stop : Stop} {n : ℕ}
         → CallStops p CALL_LIMIT (codes "round") round_calls.whole w stop w' n
         → Stops p CALL_LIMIT (TheTurns play_loop) scope w stop w' (n + 3)
-    body_stops x = later (λ e s'. within (omega arith)) (later (λ e s'. turn (compare number number refl))
+    body_stops x = later (λ e s'. within (omega arith)) (later
+        (λ e s'. turn (compare number number refl))
         (handed_up (in_body refl) (handed_up in_block (step_stops (handed_up in_call_alone
         (later (λ e s'. argument number) (called_stops x)))))))
 
@@ -272,9 +278,11 @@ module _ (spends : PlaySpends) (stops : PlayStops) (rounds : PlaysAreRounds) (ga
         → Does p CALL_LIMIT (codes "round") round_calls.whole w v w1 n
         → Stops p CALL_LIMIT (TheTurns play_loop) scope w1 stop w' m
         → Stops p CALL_LIMIT (TheTurns play_loop) scope w stop w' (n + m + 5)
-    body_then does x = later (λ e s'. within (omega arith)) (later (λ e s'. turn (compare number number refl))
+    body_then does x = later (λ e s'. within (omega arith))
+        (later (λ e s'. turn (compare number number refl))
         (later (λ e s'. turn_goes_on refl (λ j. tt)
-        (next (call_alone (argument number (called does))) end)) (later (λ e s'. turn_ends no_change) x)))
+        (next (call_alone (argument number (called does))) end))
+        (later (λ e s'. turn_ends no_change) x)))
 
     module _ (s : State) (noun : List ℕ) (w : Stage) (fair : FairStage w)
         (stands : StandsFor game.db s noun w) (over : w.globals (codes "over") ≡ Some (pos 0)) where
@@ -312,7 +320,8 @@ module _ (spends : PlaySpends) (stops : PlayStops) (rounds : PlaysAreRounds) (ga
       more_turns n few more = one_turn (λ is x. followed Fresh s w round_calls.whole fair over n
           (omega (arith, few, line_is_taken game stops w.lines Fresh s w.draws is)) more x
           (TheTurns play_loop) (all_steps game.db (length w.lines))
-          (λ stop w' y. later (λ e s'. within (within_more Fresh s w round_calls.whole fair over _ is
+          (λ stop w' y. later (λ e s'. within (within_more Fresh s w round_calls.whole fair over _
+          is
           (omega arith))) (body_then x.does y)))
 
     loops : (n : ℕ) → LoopsFrom n
@@ -341,7 +350,8 @@ module _ (spends : PlaySpends) (stops : PlayStops) (rounds : PlaysAreRounds) (ga
       → Stops p CALL_LIMIT body scope w stop w' (n + 3)
   unfolding body_of
   first_stops x = later (λ e s'. within (omega arith)) (handed_up in_block (step_stops
-      (handed_up in_call_alone (later (λ e s'. argument (valued (small_number p.width small) number))
+      (handed_up in_call_alone (later (λ e s'. argument (valued
+      (small_number p.width small) number))
       (called_stops x)))))
 
   first_then : {w w1 w' : Stage} {v : ℤ} {stop : Stop} {n m : ℕ}

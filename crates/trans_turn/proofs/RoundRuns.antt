@@ -110,7 +110,8 @@ module _ (law : WordNamesLeastMatch) (game : Game) (p : Program) (asked : ℕ)
     abbrev TurnsFrom : List (List ℕ) → Type 0
     TurnsFrom lines = (line : List ℕ) (s : State) (w : Stage) → IsTyped line
         → AllByRecursion IsTyped lines → Ready game.db s w → HasLine line w → w.lines ≡ lines
-        → Turns lines w (after_answer game (by_heard (heard game.db line) game line s) lines w.draws)
+        → Turns lines w (after_answer game (by_heard (heard game.db line) game line s) lines
+        w.draws)
 
     module _ (w : Stage) (s : State) (es : List Step) where
       -- a turn was done, so the round is
@@ -138,7 +139,8 @@ module _ (law : WordNamesLeastMatch) (game : Game) (p : Program) (asked : ℕ)
           → AnswerOutcome (Over ending) p (suc d) w game.db
           (traced es (record { position = Over ending; state = s }))
           → Turns lines w
-          (after_answer game (traced es (record { position = Over ending; state = s })) lines w.draws)
+          (after_answer game (traced es (record { position = Over ending; state = s })) lines
+          w.draws)
       unfolding round
       game_ends ending [] a = record {
         last = a.after;
@@ -150,7 +152,8 @@ module _ (law : WordNamesLeastMatch) (game : Game) (p : Program) (asked : ℕ)
       }
       game_ends ending (next ∷ lines) a = record {
         last = a.after;
-        stops = later (λ e s'. within (one_line game.db (length (next ∷ lines) - length (next ∷ lines)) _ (omega arith)))
+        stops = later (λ e s'. within (one_line game.db (length (next ∷ lines) - length
+            (next ∷ lines)) _ (omega arith)))
             (test_stops (handed_up in_comparison (handed_up in_call (called_stops a.stops))));
         shows = a.shows;
         past_is = a.past_is ∙ ap (λ fs. w.past ++ fs) (sym (append-nil es));

@@ -1,5 +1,5 @@
 -- What the routines of a round owe, where the routines that they call do what they owe.
-use Rattle.std.specs.Prelude.{◌≡◌, pos, [], ◌∷◌, ◌++◌, codes}
+use Rattle.std.specs.Prelude.{pos, [], ◌∷◌, ◌++◌, codes}
 use Rattle.inform_tree.specs.declared.widths.Width.{Width}
 use Rattle.inform_meaning.specs.Worlds.{Program}
 use Rattle.scott_types.specs.declared.endings.Position.{Position}
@@ -7,7 +7,6 @@ use Rattle.scott_types.specs.declared.endings.Position.TheVariants.{Fresh, Line}
 use Rattle.scott_types.specs.declared.styles.Style.{Style}
 use Rattle.scott_types.specs.Database.{Database}
 use Rattle.scott_types.specs.Style.{Game, in_style}
-use Rattle.scott_rules.specs.Groups.{groups}
 use Rattle.trans_rows.specs.Programs.{Serves}
 use Rattle.trans_rows.specs.DataRows.{LookRow, LightRow}
 use Rattle.trans_rows.specs.WordRows.{ReaderRow}
@@ -15,7 +14,7 @@ use Rattle.trans_rows.specs.CommandRows.{CommandRow}
 use Rattle.trans_rows.specs.AutomaticRows.{AutomaticRow}
 use Rattle.trans_rows.specs.Owed.{Translates, RoundCalls, TurnRows, TurnOwes}
 use Rattle.trans_data.specs.Texts.{text_directives}
-use Rattle.trans_turn.specs.Routines.{round_directives, no_group_directives, turn_directives}
+use Rattle.trans_turn.specs.Routines.{round_directives, turn_directives}
 
 -- the routines that a round calls do what they owe
 pub record RoundParts (game : Game) (p : Program) : Type 0 where
@@ -41,15 +40,9 @@ RoundsOwe = (width : Width) (game : Game) (begin : Position) (p : Program) → I
     → Translates width game.db → Serves width (round_directives begin) p → RoundParts game p
     → TurnRows game p round_calls begin
 
--- the automatic step of a game without groups
-abbrev pub AutomaticOwes : Type 0
-AutomaticOwes = (width : Width) (game : Game) (p : Program) → groups game.db ≡ []
-    → Serves width no_group_directives p → AutomaticRow game p (codes "automatic")
-
--- All of a turn, in a game without groups, where the program has the texts too.
+-- All of a turn, where the program has the texts too.
 abbrev pub TurnOwesAll : Type 0
 TurnOwesAll = (style : Style) (width : Width) (db : Database) (begin : Position) → IsOpening begin
-    → groups db ≡ []
     → TurnOwes width (in_style style db)
     (text_directives style db ++ turn_directives style db begin)
     (codes "hear") round_calls begin

@@ -8,9 +8,10 @@ use Rattle.scott_types.specs.declared.endings.Position.TheVariants.{Line}
 use Rattle.scott_types.specs.declared.styles.Style.{Style}
 use Rattle.scott_types.specs.Phrase.{text_of}
 use Rattle.scott_types.specs.Database.{Database}
-use Rattle.trans_commands.specs.Directives.{command_directives, search_directives}
+use Rattle.trans_commands.specs.Directives.{command_directives}
+use Rattle.trans_groups.specs.Trying.{trying_directives}
 use Rattle.trans_turn.specs.declared.names.TheConstants.{NAMES}
-use Rattle.trans_turn.specs.declared.codes.TheConstants.{ROUNDS, NO_GROUPS}
+use Rattle.trans_turn.specs.declared.codes.TheConstants.{ROUNDS}
 
 -- the names, and then the texts
 abbrev pub turn_names : List (List ℕ)
@@ -31,13 +32,8 @@ rounds_asking asked = rows_directives turn_names (asked ∷ [])
 abbrev pub round_directives : Position → List DirectiveTree
 round_directives begin = rounds_asking (first_asked begin)
 
--- the automatic step of a game without groups
-abbrev pub no_group_directives : List DirectiveTree
-no_group_directives =
-    rows_directives turn_names (0 ∷ []) (map (λ row. (row.0, row.1.now, row.2.now)) NO_GROUPS)
-
--- ---- all of a turn, in a game without lines
+-- ---- all of a turn
 
 abbrev pub turn_directives : Style → Database → Position → List DirectiveTree
-turn_directives style db begin = search_directives
-    ++ (command_directives style db ++ (no_group_directives ++ round_directives begin))
+turn_directives style db begin =
+    trying_directives db ++ (command_directives style db ++ round_directives begin)

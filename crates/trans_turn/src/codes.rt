@@ -1,7 +1,7 @@
 //! The codes of a round. docs/TURN.md says what is done in which order.
 use crate::names::{
     ADVANCE, ANSWER, ASK, ASKED, AUTOMATIC, BUF, BURN, COMMAND, DESCRIBE, HEAR, I, LOOK, MAIN, NA,
-    NB, NOT_KNOWN, PBUF, PROMPT, REDRAW, ROUND, SAY_WORD, UNKNOWN, VNUM, WA,
+    NOT_KNOWN, PBUF, PROMPT, REDRAW, ROUND, SAY_WORD, UNKNOWN, VNUM, WA,
 };
 use inform_codes::{Code, Row};
 use inform_tree::{Relation, SumOp};
@@ -155,11 +155,3 @@ pub const ROUNDS: [Row<'static>; 7] = [
     (ROUND, &[ASKED], &ROUNDING),
     (MAIN, &[], &PLAYING),
 ];
-
-/// What an automatic step does before its groups: no noun was typed.
-///
-/// `nb = 0;`
-pub const BEFORE_GROUPS: [Code; 3] = [Code::Set(NB), Code::Number(0), Code::End];
-
-/// The automatic step of a game without groups.
-pub const NO_GROUPS: [Row<'static>; 1] = [(AUTOMATIC, &[], &BEFORE_GROUPS)];

@@ -4,16 +4,17 @@ ghost use Rattle.inform_tree.specs.Programs.{directive_of};
 ghost use Rattle.inform_codes.specs.Routines.{rows_directives};
 ghost use Rattle.trans_rows.specs.Wide.{wide_at};
 ghost use Rattle.trans_turn.specs.Routines as s;
-ghost use Rattle.trans_turn.specs.Routines.{turn_names, first_asked, round_directives, no_group_directives, turn_directives};
+ghost use Rattle.trans_turn.specs.Routines.{turn_names, first_asked, round_directives, turn_directives};
 
-use crate::codes::{NO_GROUPS, ROUNDS};
+use crate::codes::ROUNDS;
 use crate::names::NAMES;
 use adv_io::Memory;
 use inform_codes::{Row, joined, routines};
 use inform_tree::{Directive, Width};
 use scott_types::{Db, Phrase, Position, Style};
 use std::alloc::Global;
-use trans_commands::{commands, search};
+use trans_commands::commands;
+use trans_groups::groups_tried;
 
 // A table of routines over the names and these texts.
 fn grown(
@@ -69,17 +70,8 @@ pub fn rounds(alloc: Global, begin: Position) -> Result<Vec<Directive>, Memory>
     rounds_asking(alloc, first_argument(begin))
 }
 
-/// The automatic step of a game without groups.
-pub fn automatic(alloc: Global) -> Result<Vec<Directive>, Memory>
-    ensures { IfOk result (λ directives. map directive_of directives.items ≡ no_group_directives) }
-{
-    let names = all_names(alloc)?;
-    grown(alloc, &names, 0, &NO_GROUPS)
-}
-
-/// All routines of a turn, in a game without lines: the search, the commands, the automatic step
-/// and the rounds, the first of which begins at this position. No number is too wide for words of
-/// the width.
+/// All routines of a turn: those that try groups, the commands, and the rounds, the first of which
+/// begins at this position. No number is too wide for words of the width.
 pub fn turn(
     alloc: Global,
     db: &Db,
@@ -92,9 +84,10 @@ pub fn turn(
         ≡ turn_directives style db.now begin) }
 {
     let _ = width;
-    let searching = search(alloc)?;
+    let trying = groups_tried(alloc, db)?;
     let commanding = commands(alloc, db, style)?;
-    let stepping = automatic(alloc)?;
-    let of_rounds = joined(stepping, rounds(alloc, begin)?)?;
-    joined(searching, joined(commanding, of_rounds)?)
+    let going = rounds(alloc, begin)?;
+    let playing = joined(commanding, going)?;
+    let all = joined(trying, playing)?;
+    Ok(all)
 }

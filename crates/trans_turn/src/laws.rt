@@ -1,9 +1,10 @@
 //! What the routines of a round owe. Each law is the contract of a function that does nothing else.
-ghost use Rattle.trans_turn.specs.Owed.{RoundsOwe, AutomaticOwes, TurnOwesAll};
+ghost use Rattle.trans_turn.specs.Owed.{RoundsOwe, TurnOwesAll};
 
 use scott_rules::laws::{play_spends, play_stops, word_names_least_match};
-use trans_commands::laws::{commands_owe, search_owes};
+use trans_commands::laws::commands_owe;
 use trans_data::laws::{data_owes, helpers_owe, parts_are_served};
+use trans_groups::laws::trying_owes;
 use trans_rows::laws::plays_are_rounds;
 
 /// Where the routines that a round calls do what they owe, so do a round, the rest of one after
@@ -17,20 +18,14 @@ pub fn rounds_owe()
     plays_are_rounds();
 }
 
-/// Where a game has no groups, the automatic step does what it owes.
-pub fn automatic_owes()
-    ensures { AutomaticOwes }
-{}
-
-/// In a game without groups all routines of a turn do what they owe.
+/// All routines of a turn do what they owe.
 pub fn turn_owes()
     ensures { TurnOwesAll }
 {
     rounds_owe();
-    automatic_owes();
+    trying_owes();
     data_owes();
     helpers_owe();
-    search_owes();
     commands_owe();
     parts_are_served();
 }

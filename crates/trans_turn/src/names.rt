@@ -1,15 +1,15 @@
 //! The names that the routines of a round use, each by its place.
 
 /// Routines, locals, arrays and globals. The texts that are said come after them.
-pub const NAMES: [&[u8]; 21] = [
+pub const NAMES: [&[u8]; 20] = [
     b"main",
     b"round",
     b"advance",
     b"describe",
-    b"automatic",
     b"ask",
     b"answer",
     b"say_word",
+    b"automatic",
     b"look",
     b"hear",
     b"command",
@@ -22,7 +22,6 @@ pub const NAMES: [&[u8]; 21] = [
     b"vnum",
     b"wa",
     b"na",
-    b"nb",
 ];
 
 // Routines of this crate.
@@ -34,15 +33,15 @@ pub const ADVANCE: usize = 2;
 
 pub const DESCRIBE: usize = 3;
 
-pub const AUTOMATIC: usize = 4;
+pub const ASK: usize = 4;
 
-pub const ASK: usize = 5;
+pub const ANSWER: usize = 5;
 
-pub const ANSWER: usize = 6;
-
-pub const SAY_WORD: usize = 7;
+pub const SAY_WORD: usize = 6;
 
 // Routines of other crates.
+pub const AUTOMATIC: usize = 7;
+
 pub const LOOK: usize = 8;
 
 pub const HEAR: usize = 9;
@@ -70,11 +69,9 @@ pub const WA: usize = 18;
 
 pub const NA: usize = 19;
 
-pub const NB: usize = 20;
-
 // Texts: the prompt, and what stands before and after a word that isn't known.
-pub const PROMPT: usize = 21;
+pub const PROMPT: usize = 20;
 
-pub const UNKNOWN: usize = 22;
+pub const UNKNOWN: usize = 21;
 
-pub const NOT_KNOWN: usize = 23;
+pub const NOT_KNOWN: usize = 22;

@@ -1,4 +1,3 @@
-pub mod NoLines
 pub mod PlayedAlike
 pub mod FirstWide
 pub mod Translated

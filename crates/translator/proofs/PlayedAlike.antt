@@ -1,39 +1,41 @@
--- The runs of the program of a game without lines are its plays.
-use Rattle.std.proofs.Common.{◌≡◌, ◌∙◌, ℕ, List, [], ◌∷◌, ◌++◌, codes, Option, Some, None, refl, sym, ap, subst}
-use Rattle.std.specs.List.{AllByRecursion}
-use Rattle.adv_io.specs.Steps.{Step, Traced, trace_of}
+-- The runs of the program of a game are its plays.
+use Rattle.std.proofs.Common.{◌≡◌, ◌∙◌, arith, ℕ, zero, suc, ◌+◌, ◌<◌, List, [], ◌∷◌, ◌++◌, length, Option, Some, None, refl, sym, subst}
+use Rattle.adv_io.specs.Steps.{Step, Traced}
 use Rattle.inform_tree.specs.declared.widths.Width.{Width}
 use Rattle.inform_tree.specs.Programs.{DirectiveTree}
 use Rattle.inform_meaning.specs.Worlds.{Program, Config}
 use Rattle.inform_meaning.specs.Frames.{Outcome}
 use Rattle.inform_meaning.specs.Programs.{no_notes, program_in, run_of}
-use Rattle.inform_logic.specs.Holding.{Held, Holds, Distinct}
+use Rattle.inform_logic.specs.Holding.{Holds, Distinct}
 use Rattle.inform_logic.specs.Laws.{ProgramHolds, SameButNotes, NotesCountForNothing}
 use Rattle.inform_logic.proofs.Holding.{holds_first, holds_rest}
 use Rattle.scott_types.specs.declared.states.State.{State}
 use Rattle.scott_types.specs.declared.styles.Style.{Style}
-use Rattle.scott_types.specs.declared.endings.Position.{Position}
 use Rattle.scott_types.specs.Database.{Database}
 use Rattle.scott_types.specs.State.{Fits}
-use Rattle.scott_types.specs.Style.{Game, in_style}
+use Rattle.scott_types.specs.Style.{in_style}
 use Rattle.scott_rules.specs.Play.{PlayEnd, go}
-use Rattle.trans_rows.specs.Names.{line_notes}
+use Rattle.trans_rows.specs.Names.{message_name, line_notes}
 use Rattle.trans_rows.specs.Directives.{data_directives}
-use Rattle.trans_rows.specs.Programs.{Serves}
+use Rattle.trans_rows.specs.Programs.{HasRoutine, Serves}
+use Rattle.trans_rows.specs.ActionRows.{LineRow}
 use Rattle.trans_rows.specs.TurnRows.{MainRow}
 use Rattle.trans_rows.specs.Owed.{Translates}
 use Rattle.trans_rows.specs.Same.{Same}
-use Rattle.trans_rows.specs.Faithful.{opening_state, opening_position, PlaysAlike, AlwaysAlike, FaithfulProgram}
+use Rattle.trans_rows.specs.Faithful.{opening_state, opening_position, AlwaysAlike}
 use Rattle.trans_rows.specs.Wholes.{NotedAlike, MainIsEnough}
-use Rattle.trans_data.specs.Texts.{text_directives}
+use Rattle.trans_data.specs.Routines.{fixed_directives}
+use Rattle.trans_data.specs.Laws.{HelpersOwe, DataOwes}
+use Rattle.trans_data.specs.Texts.{message_directives, spoken_directives, text_directives}
 use Rattle.trans_words.specs.Directives.{word_directives}
 use Rattle.trans_words.specs.Laws.{LinesAreHeard}
+use Rattle.trans_actions.specs.Directives.{action_directives}
+use Rattle.trans_actions.specs.Laws.{HasMessages, LinesOwe}
 use Rattle.trans_turn.specs.Routines.{turn_directives}
 use Rattle.trans_turn.specs.Owed.{IsOpening, TurnOwesAll}
-use Rattle.trans_programs.specs.Programs.{game_routines, game_program}
-use Rattle.trans_programs.specs.Laws.{HasNoLines, ProgramsAreDistinct, ProgramsAreAccepted, ProgramsAreShaped}
+use Rattle.trans_programs.specs.Programs.{playing_routines, game_routines, game_program}
+use Rattle.trans_programs.specs.Laws.{ProgramsAreDistinct, ProgramsAreAccepted, ProgramsAreShaped}
 use Rattle.translator.specs.Laws.{ProgramsAreFaithful}
-use Rattle.translator.proofs.NoLines.{no_groups, no_line_owes}
 
 -- ---- what a program holds, by parts
 
@@ -41,6 +43,16 @@ both_hold : (p : Program) (xs ys : List DirectiveTree) → Holds p xs → Holds 
     → Holds p (xs ++ ys)
 both_hold p [] ys h k = k
 both_hold p (x ∷ xs) ys h k = (h.0, both_hold p xs ys h.1 k)
+
+-- each message has its routine
+message_held : (p : Program) (n : ℕ) (texts : List (List ℕ)) → Holds p (message_directives n texts)
+    → (i : ℕ) → i < length texts → HasRoutine p (message_name (n + i))
+message_held p n [] h i less = absurd (omega (arith, less))
+message_held p n (text ∷ texts) h zero less = let at : n ≡ n + 0 = omega arith in
+    subst (λ n. HasRoutine p (message_name n)) at (_, h.0.1)
+message_held p n (text ∷ texts) h (suc i) less = let at : n + 1 + i ≡ n + suc i = omega arith in
+    subst (λ n. HasRoutine p (message_name n)) at
+    (message_held p (n + 1) texts h.1 i (omega (arith, less)))
 
 -- a game opens where a round begins, or after a prompt
 opens : (from : Option State) → IsOpening (opening_position from)
@@ -72,9 +84,10 @@ without_notes play r r' alike same = subst (Same play) (sym alike.is) (record {
 -- ---- all of it
 
 module _ (holds : ProgramHolds) (notes : NotesCountForNothing) (main : MainIsEnough)
-    (turns : TurnOwesAll) (words : LinesAreHeard) (distinct : ProgramsAreDistinct) (style : Style)
-    (width : Width) (db : Database) (from : Option State) (translates : Translates width db)
-    (fits : Fits db (opening_state db from)) (no_lines : HasNoLines db) where
+    (texts : DataOwes) (helpers : HelpersOwe) (lines_law : LinesOwe) (turns : TurnOwesAll)
+    (words : LinesAreHeard) (distinct : ProgramsAreDistinct) (style : Style) (width : Width)
+    (db : Database) (from : Option State) (translates : Translates width db)
+    (fits : Fits db (opening_state db from)) where
   abbrev ds : List DirectiveTree
   ds = game_program style db from
 
@@ -87,32 +100,49 @@ module _ (holds : ProgramHolds) (notes : NotesCountForNothing) (main : MainIsEno
   serves : (xs : List DirectiveTree) → Holds p xs → Serves width xs p
   serves xs h = record { width_is = refl; holds = h; notes_lines = λ name at. refl }
 
-  abbrev rest : List DirectiveTree
-  rest = word_directives db ++ turn_directives style db (opening_position from)
+  abbrev reading : List DirectiveTree
+  reading = word_directives db ++ playing_routines style db from
+
+  abbrev turning : List DirectiveTree
+  turning = turn_directives style db (opening_position from)
 
   of_routines : Holds p (game_routines style db from)
   of_routines = holds_rest p (data_directives db (opening_state db from))
       (game_routines style db from) (holds width ds line_notes apart)
 
   of_texts : Holds p (text_directives style db)
-  of_texts = holds_first p (text_directives style db) rest of_routines
+  of_texts = holds_first p (text_directives style db) reading of_routines
+
+  of_reading : Holds p reading
+  of_reading = holds_rest p (text_directives style db) reading of_routines
 
   of_words : Holds p (word_directives db)
-  of_words = holds_first p (word_directives db)
-      (turn_directives style db (opening_position from))
-      (holds_rest p (text_directives style db) rest of_routines)
+  of_words = holds_first p (word_directives db) (playing_routines style db from) of_reading
 
-  of_turn : Holds p (turn_directives style db (opening_position from))
-  of_turn = holds_rest p (word_directives db) (turn_directives style db (opening_position from))
-      (holds_rest p (text_directives style db) rest of_routines)
+  of_playing : Holds p (playing_routines style db from)
+  of_playing = holds_rest p (word_directives db) (playing_routines style db from) of_reading
+
+  of_lines : Holds p (action_directives style db)
+  of_lines = holds_first p (action_directives style db) turning of_playing
+
+  of_turn : Holds p turning
+  of_turn = holds_rest p (action_directives style db) turning of_playing
+
+  has_messages : HasMessages db p
+  has_messages m less = let at : 0 + m ≡ m = omega arith in
+      subst (λ n. HasRoutine p (message_name n)) at (message_held p 0 db.messages
+      (holds_rest p (fixed_directives style db) (spoken_directives style db) of_texts).1.1 m less)
+
+  lines_do : LineRow (in_style style db) p
+  lines_do = let said = serves (text_directives style db) of_texts in
+      lines_law style width db p translates (serves (action_directives style db) of_lines)
+      (helpers style width db p translates said) (texts style width db p translates said)
+      has_messages
 
   main_does : MainRow (in_style style db) p (opening_position from)
-  main_does = (turns style width db (opening_position from) (opens from) (no_groups db no_lines) p
-      translates
-      (serves (text_directives style db ++ turn_directives style db (opening_position from))
-      (both_hold p (text_directives style db) (turn_directives style db (opening_position from))
-      of_texts of_turn))
-      (no_line_owes (in_style style db) p no_lines)
+  main_does = (turns style width db (opening_position from) (opens from) p translates
+      (serves (text_directives style db ++ turning)
+      (both_hold p (text_directives style db) turning of_texts of_turn)) lines_do
       (words db p width translates.limits (serves (word_directives db) of_words))).all_rounds
 
   pub always_alike : AlwaysAlike style width db from ds
@@ -130,13 +160,13 @@ module _ (holds : ProgramHolds) (notes : NotesCountForNothing) (main : MainIsEno
         same_lines = noted.same_lines;
       }
 
-pub programs_are_faithful : ProgramHolds → NotesCountForNothing → MainIsEnough → TurnOwesAll
-    → LinesAreHeard → ProgramsAreDistinct → ProgramsAreAccepted → ProgramsAreShaped
-    → ProgramsAreFaithful
-programs_are_faithful holds notes main turns words distinct accepted shaped style width db from
-    translates fits no_lines = record {
+pub programs_are_faithful : ProgramHolds → NotesCountForNothing → MainIsEnough → DataOwes
+    → HelpersOwe → LinesOwe → TurnOwesAll → LinesAreHeard → ProgramsAreDistinct
+    → ProgramsAreAccepted → ProgramsAreShaped → ProgramsAreFaithful
+programs_are_faithful holds notes main texts helpers lines turns words distinct accepted shaped
+    style width db from translates fits = record {
       accepted = accepted style width db from translates fits;
-      shaped = shaped style db from no_lines;
-      alike = always_alike holds notes main turns words distinct style width db from translates fits
-          no_lines;
+      shaped = shaped style db from translates.limits;
+      alike = always_alike holds notes main texts helpers lines turns words distinct style width db
+          from translates fits;
     }

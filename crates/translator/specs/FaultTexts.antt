@@ -1,11 +1,11 @@
--- What is said of a fault, in seven pieces: `light is 40000, outside 16 bits`,
--- `line 3 condition 2 is 32768, outside 16 bits`, `not built yet`.
+-- What is said of a fault, in seven pieces: `light is 40000, outside 16 bits`, or
+-- `line 3 condition 2 is 32768, outside 16 bits`.
 use Rattle.std.specs.Prelude.{ℕ, List, [], ◌∷◌, codes, decimal}
 use Rattle.std.specs.Fmt.{signed_decimal}
 use Rattle.trans_rows.specs.declared.places.Place.{Place}
 use Rattle.trans_rows.specs.declared.places.Place.TheVariants.{Carry, Treasures, Light, Home, Verb, Condition, Opcode}
 use Rattle.translator.specs.declared.faults.TransFault.{TransFault}
-use Rattle.translator.specs.declared.faults.TransFault.TheVariants.{NotBuilt, Wide, Memory}
+use Rattle.translator.specs.declared.faults.TransFault.TheVariants.{Wide, Memory}
 
 -- ---- a place, in four pieces: a name, or a line by its number, and what of the line
 
@@ -35,7 +35,7 @@ place_number (Condition k j) = decimal j
 place_number (Opcode k j) = decimal j
 place_number _ = []
 
--- ---- a fault: one that is too wide has all seven pieces, and one that isn't built the first alone
+-- ---- a fault
 
 unfoldable pub before_value : List ℕ
 before_value = codes " is "
@@ -43,37 +43,33 @@ before_value = codes " is "
 unfoldable pub too_wide_ending : List ℕ
 too_wide_ending = codes ", outside 16 bits"
 
-unfoldable pub not_built : List ℕ
-not_built = codes "not built yet"
-
 abbrev pub fault_opening : TransFault → List ℕ
-fault_opening (NotBuilt k) = not_built
 fault_opening (Wide place value) = place_opening place
 fault_opening Memory = []
 
 abbrev pub fault_line : TransFault → List ℕ
 fault_line (Wide place value) = place_line place
-fault_line _ = []
+fault_line Memory = []
 
 abbrev pub fault_part : TransFault → List ℕ
 fault_part (Wide place value) = place_part place
-fault_part _ = []
+fault_part Memory = []
 
 abbrev pub fault_number : TransFault → List ℕ
 fault_number (Wide place value) = place_number place
-fault_number _ = []
+fault_number Memory = []
 
 abbrev pub fault_before_value : TransFault → List ℕ
 fault_before_value (Wide place value) = before_value
-fault_before_value _ = []
+fault_before_value Memory = []
 
 abbrev pub fault_value : TransFault → List ℕ
 fault_value (Wide place value) = signed_decimal value
-fault_value _ = []
+fault_value Memory = []
 
 abbrev pub fault_ending : TransFault → List ℕ
 fault_ending (Wide place value) = too_wide_ending
-fault_ending _ = []
+fault_ending Memory = []
 
 -- a place with its number; want of memory has no text
 abbrev pub fault_pieces : TransFault → List (List ℕ)

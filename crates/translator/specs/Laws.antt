@@ -8,11 +8,10 @@ use Rattle.scott_types.specs.State.{Fits}
 use Rattle.trans_rows.specs.Owed.{Translates}
 use Rattle.trans_rows.specs.Faithful.{opening_state, FaithfulProgram}
 use Rattle.trans_programs.specs.Programs.{game_program}
-use Rattle.trans_programs.specs.Laws.{HasNoLines}
 
--- The program of a game without lines is faithful to it: it is accepted, has the shape of the game,
--- and on all typed lines and all draws, with steps that are enough, its run is the play.
+-- The program of a game is faithful to it: it is accepted, has the shape of the game, and on all
+-- typed lines and all draws, with steps that are enough, its run is the play.
 abbrev pub ProgramsAreFaithful : Type 0
 ProgramsAreFaithful = (style : Style) (width : Width) (db : Database) (from : Option State)
-    → Translates width db → Fits db (opening_state db from) → HasNoLines db
+    → Translates width db → Fits db (opening_state db from)
     → FaithfulProgram style width db from (game_program style db from)

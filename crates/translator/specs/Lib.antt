@@ -1,6 +1,5 @@
 pub mod Faithful
 pub mod LineByLine
-pub mod Refusals
 pub mod Answers
 pub mod FaultTexts
 pub mod Laws

@@ -1,6 +1,6 @@
 //! What is said of a fault.
 ghost use Rattle.std.specs.Prelude.{◌≡◌};
-ghost use Rattle.translator.specs.FaultTexts.{place_opening, place_line, place_part, place_number, before_value, too_wide_ending, not_built};
+ghost use Rattle.translator.specs.FaultTexts.{place_opening, place_line, place_part, place_number, before_value, too_wide_ending};
 
 use crate::faults::TransFault;
 use itoa::Buffer;
@@ -80,13 +80,6 @@ fn too_wide_ending<'a>() -> &'a [u8]
     b", outside 16 bits"
 }
 
-#[tactic(auto, unfolding(crate::specs::FaultTexts::not_built))]
-fn not_built<'a>() -> &'a [u8]
-    ensures { result.now ≡ not_built }
-{
-    b"not built yet"
-}
-
 impl TransFault {
     ghost use Rattle.translator.specs.FaultTexts.{fault_opening, fault_line, fault_part, fault_number, fault_before_value, fault_value, fault_ending};
 
@@ -95,7 +88,6 @@ impl TransFault {
         ensures { result.now ≡ fault_opening self }
     {
         match self {
-            TransFault::NotBuilt(_) => not_built(),
             TransFault::Wide(place, _) => place_opening(place),
             TransFault::Memory => b"",
         }
@@ -106,7 +98,6 @@ impl TransFault {
         ensures { result.now ≡ fault_line self }
     {
         match self {
-            TransFault::NotBuilt(_) => b"",
             TransFault::Wide(place, _) => place_line(place, digits),
             TransFault::Memory => b"",
         }
@@ -117,7 +108,6 @@ impl TransFault {
         ensures { result.now ≡ fault_part self }
     {
         match self {
-            TransFault::NotBuilt(_) => b"",
             TransFault::Wide(place, _) => place_part(place),
             TransFault::Memory => b"",
         }
@@ -128,7 +118,6 @@ impl TransFault {
         ensures { result.now ≡ fault_number self }
     {
         match self {
-            TransFault::NotBuilt(_) => b"",
             TransFault::Wide(place, _) => place_number(place, digits),
             TransFault::Memory => b"",
         }
@@ -139,7 +128,6 @@ impl TransFault {
         ensures { result.now ≡ fault_before_value self }
     {
         match self {
-            TransFault::NotBuilt(_) => b"",
             TransFault::Wide(_, _) => before_value(),
             TransFault::Memory => b"",
         }
@@ -150,7 +138,6 @@ impl TransFault {
         ensures { result.now ≡ fault_value self }
     {
         match self {
-            TransFault::NotBuilt(_) => b"",
             TransFault::Wide(_, value) => digits.format(value).as_bytes(),
             TransFault::Memory => b"",
         }
@@ -161,7 +148,6 @@ impl TransFault {
         ensures { result.now ≡ fault_ending self }
     {
         match self {
-            TransFault::NotBuilt(_) => b"",
             TransFault::Wide(_, _) => too_wide_ending(),
             TransFault::Memory => b"",
         }

@@ -2,7 +2,6 @@
 #![tactic(auto)]
 
 // What is refused.
-mod lines;
 mod wide;
 
 /// Why a database isn't translated.

@@ -4,14 +4,11 @@ ghost use Rattle.scott_types.specs.Limits.{KeepsLimits};
 ghost use Rattle.scott_types.specs.State.{Fits};
 ghost use Rattle.trans_rows.specs.Faithful.{opening_state};
 ghost use Rattle.trans_rows.specs.Wide as w;
-ghost use Rattle.trans_programs.specs.Laws.{HasNoLines};
-ghost use Rattle.translator.specs.Refusals.{refusal};
 ghost use Rattle.translator.specs.Answers.{refused};
 ghost use Rattle.translator.specs.Faithful.{Faithful};
 
 use crate::faults::TransFault;
 use crate::laws::programs_are_faithful;
-use crate::lines::first_line;
 use crate::wide::wide_at;
 use adv_io::Memory;
 use inform_printer::print;
@@ -32,7 +29,6 @@ fn text(
 ) -> Result<Vec<u8>, Memory>
     requires limits { KeepsLimits db.now }
     requires none_wide { w.wide_at width db.now ≡ None }
-    requires no_lines { HasNoLines db.now }
     requires fits { Fits db.now (opening_state db.now (option_map (λ s. s.now) from)) }
     ensures { IfOk result (λ bytes. Faithful style width db.now
         (option_map (λ s. s.now) from.entry) bytes.items) }
@@ -45,11 +41,8 @@ fn text(
 
 // Whether a game can be translated.
 fn test_game(db: &Db, width: Width) -> Result<(), TransFault>
-    ensures { refused result ≡ refusal width db.now }
+    ensures { refused result ≡ w.wide_at width db.now }
 {
-    if let Some(k) = first_line(db) {
-        return Err(TransFault::NotBuilt(k));
-    }
     match wide_at(db, width) {
         Some((place, value)) => Err(TransFault::Wide(place, value)),
         None => Ok(()),
@@ -60,8 +53,7 @@ fn test_game(db: &Db, width: Width) -> Result<(), TransFault>
 /// of this width, which opens with the first round, or after a prompt in the state that is handed
 /// in, which fits the database.
 ///
-/// A game with lines is refused first, and one with a number that is too wide then: docs/INFORM.md.
-/// Both are tested before memory is taken.
+/// A game with a number that is too wide is refused, before memory is taken: docs/INFORM.md.
 pub fn translate(
     alloc: Global,
     db: &Db,
@@ -70,7 +62,7 @@ pub fn translate(
     from: Option<&State>,
 ) -> Result<Vec<u8>, TransFault>
     requires fits { IfSome from (λ s. Fits db.now s.now) }
-    ensures refused { refused result ≡ refusal width db.now }
+    ensures refused { refused result ≡ w.wide_at width db.now }
     ensures faithful { IfOk result (λ bytes. Faithful style width db.now
         (option_map (λ s. s.now) from.entry) bytes.items) }
 {

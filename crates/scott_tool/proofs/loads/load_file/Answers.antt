@@ -7,7 +7,8 @@ pub returns-in-Ok : goal.returns-in-Ok
 returns-in-Ok g c =
     record {
       fetched = record {
-        found = file-found (g.S.Shelf.seen c.args.shelf.now).files (load_of c.args.load) c.in-Ok.bytes.items c.in-Ok.ensures.found c.in-Ok.ensures.within;
+        found = file-found (g.S.Shelf.seen c.args.shelf.now).files
+            (load_of c.args.load) c.in-Ok.bytes.items c.in-Ok.ensures.found c.in-Ok.ensures.within;
         missed = tt;
         files_stay = c.load.ensures.files_stay;
         later = c.load.ensures.later;
@@ -22,7 +23,9 @@ returns-in-Err-Absent g c =
     record {
       fetched = record {
         found = tt;
-        missed = ((load_of c.args.load, refl, refl), inr (lacks.0, file-absent (g.S.Shelf.seen c.args.shelf.now).files (load_of c.args.load) lacks.0));
+        missed = ((load_of c.args.load, refl, refl), inr
+            (lacks.0, file-absent (g.S.Shelf.seen c.args.shelf.now).files
+            (load_of c.args.load) lacks.0));
         files_stay = c.load.ensures.files_stay;
         later = c.load.ensures.later;
         steady = tt;
@@ -34,7 +37,8 @@ pub returns-in-Err-Failed : goal.returns-in-Err-Failed
 returns-in-Err-Failed g c = record {
   fetched = record {
     found = tt;
-    missed = ((load_of c.args.load, refl, refl), inl (rw c.in-Err-Failed.field-0-is at c.in-Err-Failed.ensures.refused));
+    missed = ((load_of c.args.load, refl, refl), inl (rw c.in-Err-Failed.field-0-is at
+        c.in-Err-Failed.ensures.refused));
     files_stay = c.load.ensures.files_stay;
     later = c.load.ensures.later;
     steady = tt;
@@ -48,7 +52,8 @@ returns-in-Err-TooLong g c =
     record {
       fetched = record {
         found = tt;
-        missed = (file-long (load_of c.args.load) _ longer.0 (g.S.Shelf.seen c.args.shelf.now).files longer.1, longer.2);
+        missed = (file-long (load_of c.args.load) _ longer.0
+            (g.S.Shelf.seen c.args.shelf.now).files longer.1, longer.2);
         files_stay = c.load.ensures.files_stay;
         later = c.load.ensures.later;
         steady = tt;

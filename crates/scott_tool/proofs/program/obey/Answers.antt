@@ -12,12 +12,16 @@ returns-in-Ok g c =
     let fetched = c.in-Ok.ensures.fetched in
     let before = g.S.Shelf.seen c.args.shelf.now in
     let loaded = g.S.Shelf.seen c.load_texts.new.shelf in
-    let same : record { files = loaded.files; faults = loaded.faults } ≡ before = λ i. record { files = fetched.files_stay i; faults = fetched.steady i } in
+    let same : record { files = loaded.files; faults = loaded.faults }
+    ≡ before = λ i. record { files = fetched.files_stay i; faults = fetched.steady i } in
     worked (request_of c.args.request) (texts_in c.in-Ok.texts) refl fetched.found
-    (subst (λ (s : ShelfView). Obeys s (g.S.Shelf.seen c.work.new.shelf) (g.C.Console.seen c.args.console.now) (g.C.Console.seen c.work.new.console)
-    (refusing (work (request_of c.args.request) (texts_in c.in-Ok.texts))) c.work.result) same c.work.ensures)
+    (subst (λ (s : ShelfView). Obeys s (g.S.Shelf.seen c.work.new.shelf)
+    (g.C.Console.seen c.args.console.now) (g.C.Console.seen c.work.new.console)
+    (refusing (work (request_of c.args.request) (texts_in c.in-Ok.texts))) c.work.result) same
+    c.work.ensures)
 
 pub returns-in-Err : goal.returns-in-Err
 returns-in-Err g c =
     let fetched = c.in-Err.ensures.fetched in
-    not_loaded (request_of c.args.request) (refusal_of c.in-Err.refusal) refl fetched.missed fetched.files_stay fetched.later c.end.ensures
+    not_loaded (request_of c.args.request) (refusal_of c.in-Err.refusal) refl fetched.missed
+    fetched.files_stay fetched.later c.end.ensures

@@ -1,8 +1,7 @@
-use Rattle.std.proofs.Common.{◌≡◌, ◌∙◌, true, sym, subst, option_map}
+use Rattle.std.proofs.Common.{◌≡◌, true, sym, subst, option_map}
 use Rattle.inform_tree.specs.Formed.{is_well_formed}
 use Rattle.inform_tree.specs.Programs.{program_of}
 use Rattle.inform_texts.specs.Texts.{ProgramText}
-use Rattle.translator.specs.Faithful.{Faithful}
 use Rattle.translator.proofs.Translated.{faithful_text, if_ok_then}
 use Rattle.translator.proofs.translating.text.Goals as goal
 
@@ -20,5 +19,5 @@ returns c = if_ok_then (λ text. ProgramText text.items (program_of c.in_ok-prog
     (λ text. faithful_text c.programs_are_faithful.ensures c.args.style c.args.width c.args.db.now
     (option_map (λ s. s.now) c.args.from)
     (record { limits = c.requires.limits; none_wide = c.requires.none_wide }) c.requires.fits
-    c.requires.no_lines (program_of c.in_ok-program.program) c.in_ok-program.ensures text.items)
+    (program_of c.in_ok-program.program) c.in_ok-program.ensures text.items)
     c.print.ensures.reads_back

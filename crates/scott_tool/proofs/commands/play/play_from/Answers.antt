@@ -1,4 +1,4 @@
-use Rattle.std.proofs.Common.{List, ℕ, Result, Ok, sym, ap, subst}
+use Rattle.std.proofs.Common.{Result, Ok, sym, ap, subst}
 use Rattle.scott_requests.specs.Views.{source_of}
 use Rattle.scott_tool.specs.Refusal.{Unfit, refusing}
 use Rattle.scott_tool.specs.Play.{draws_from}
@@ -11,13 +11,17 @@ use Rattle.scott_tool.proofs.commands.play.play_from.Goals as goal
 
 pub returns-in-Ok : goal.returns-in-Ok
 returns-in-Ok g c = λ shelf.
-    let given = ap (playing_from c.args.style c.args.db.now) (rw c.deref.ensures.value at c.in-Ok.ensures) in
-    subst (λ (r : Result Task Unfit). Obeys shelf shelf (g.C.Console.seen c.args.console.now) (g.C.Console.seen c.play_with.new.console) (refusing r) c.play_with.result)
+    let given = ap (playing_from c.args.style c.args.db.now)
+    (rw c.deref.ensures.value at c.in-Ok.ensures) in
+    subst (λ (r : Result Task Unfit). Obeys shelf shelf (g.C.Console.seen c.args.console.now)
+        (g.C.Console.seen c.play_with.new.console) (refusing r) c.play_with.result)
     (sym given) (c.play_with.ensures shelf)
 
 pub returns-in-Err : goal.returns-in-Err
 returns-in-Err g c = λ shelf.
     let drawn = draws_from (source_of c.args.source) c.args.texts.now.draws.items in
-    obeys-declined (g.C.Console.seen c.args.console.now) (g.C.Console.seen c.end.new.console) c.end.result shelf
+    obeys-declined (g.C.Console.seen c.args.console.now)
+    (g.C.Console.seen c.end.new.console) c.end.result shelf
     (playing_from c.args.style c.args.db.now drawn) (refusal_of c.in-Err.refusal)
-    (declined-first drawn (λ draws. Ok (playing c.args.style c.args.db.now draws)) (refusal_of c.in-Err.refusal) (rw c.deref.ensures.value at c.in-Err.ensures)) c.end.ensures
+    (declined-first drawn (λ draws. Ok (playing c.args.style c.args.db.now draws))
+    (refusal_of c.in-Err.refusal) (rw c.deref.ensures.value at c.in-Err.ensures)) c.end.ensures

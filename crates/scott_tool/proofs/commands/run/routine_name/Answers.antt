@@ -9,28 +9,32 @@ returns-in-Some-Routine c =
     let same = c.deref.ensures.value ∙ ap (λ p. p.directives.items) c.program.ensures in
     let there = c.in-Some-Routine.ensures.lookup in
     let d = c.in-Some-Routine.field-0.now in
-    c.bytes.ensures ∙ ap (λ x. name_in (directive_of x)) (sym c.in-Some-Routine.field-0-is) ∙ name-of_directive c.args.accepted.now c.deref.result.now same c.args.at d there.0 there.1
+    c.bytes.ensures ∙ ap (λ x. name_in (directive_of x)) (sym c.in-Some-Routine.field-0-is)
+    ∙ name-of_directive c.args.accepted.now c.deref.result.now same c.args.at d there.0 there.1
 
 pub returns-in-Some-Constant : goal.returns-in-Some-Constant
 returns-in-Some-Constant c =
     let same = c.deref.ensures.value ∙ ap (λ p. p.directives.items) c.program.ensures in
     let there = c.in-Some-Constant.ensures.lookup in
     let d = c.in-Some-Constant.field-0.now in
-    ap (λ x. name_in (directive_of x)) (sym c.in-Some-Constant.field-0-is) ∙ name-of_directive c.args.accepted.now c.deref.result.now same c.args.at d there.0 there.1
+    ap (λ x. name_in (directive_of x)) (sym c.in-Some-Constant.field-0-is)
+    ∙ name-of_directive c.args.accepted.now c.deref.result.now same c.args.at d there.0 there.1
 
 pub returns-in-Some-Global : goal.returns-in-Some-Global
 returns-in-Some-Global c =
     let same = c.deref.ensures.value ∙ ap (λ p. p.directives.items) c.program.ensures in
     let there = c.in-Some-Global.ensures.lookup in
     let d = c.in-Some-Global.field-0.now in
-    ap (λ x. name_in (directive_of x)) (sym c.in-Some-Global.field-0-is) ∙ name-of_directive c.args.accepted.now c.deref.result.now same c.args.at d there.0 there.1
+    ap (λ x. name_in (directive_of x)) (sym c.in-Some-Global.field-0-is)
+    ∙ name-of_directive c.args.accepted.now c.deref.result.now same c.args.at d there.0 there.1
 
 pub returns-in-Some-Array : goal.returns-in-Some-Array
 returns-in-Some-Array c =
     let same = c.deref.ensures.value ∙ ap (λ p. p.directives.items) c.program.ensures in
     let there = c.in-Some-Array.ensures.lookup in
     let d = c.in-Some-Array.field-0.now in
-    ap (λ x. name_in (directive_of x)) (sym c.in-Some-Array.field-0-is) ∙ name-of_directive c.args.accepted.now c.deref.result.now same c.args.at d there.0 there.1
+    ap (λ x. name_in (directive_of x)) (sym c.in-Some-Array.field-0-is)
+    ∙ name-of_directive c.args.accepted.now c.deref.result.now same c.args.at d there.0 there.1
 
 pub returns-in-None : goal.returns-in-None
 returns-in-None c =

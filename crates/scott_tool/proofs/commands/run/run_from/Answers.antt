@@ -1,4 +1,4 @@
-use Rattle.std.proofs.Common.{List, ℕ, Result, Ok, sym, ap, subst}
+use Rattle.std.proofs.Common.{Result, Ok, sym, ap, subst}
 use Rattle.inform_names.specs.Views.{directives_of}
 use Rattle.scott_requests.specs.Views.{source_of}
 use Rattle.scott_tool.specs.Refusal.{Unfit, refusing}
@@ -13,15 +13,20 @@ use Rattle.scott_tool.proofs.commands.run.run_from.Goals as goal
 pub returns-in-Ok : goal.returns-in-Ok
 returns-in-Ok g c = λ shelf.
     let accepted = c.args.accepted.now in
-    let given = ap (running_from accepted.width (directives_of accepted) c.args.steps) (rw c.deref.ensures.value at c.in-Ok.ensures) in
-    subst (λ (r : Result Task Unfit). Obeys shelf shelf (g.C.Console.seen c.args.console.now) (g.C.Console.seen c.run_with.new.console) (refusing r) c.run_with.result)
+    let given = ap (running_from accepted.width (directives_of accepted) c.args.steps)
+    (rw c.deref.ensures.value at c.in-Ok.ensures) in
+    subst (λ (r : Result Task Unfit). Obeys shelf shelf (g.C.Console.seen c.args.console.now)
+        (g.C.Console.seen c.run_with.new.console) (refusing r) c.run_with.result)
     (sym given) (c.run_with.ensures shelf)
 
 pub returns-in-Err : goal.returns-in-Err
 returns-in-Err g c = λ shelf.
     let accepted = c.args.accepted.now in
     let drawn = draws_from (source_of c.args.source) c.args.texts.now.draws.items in
-    obeys-declined (g.C.Console.seen c.args.console.now) (g.C.Console.seen c.end.new.console) c.end.result shelf
-    (running_from accepted.width (directives_of accepted) c.args.steps drawn) (refusal_of c.in-Err.refusal)
-    (declined-first drawn (λ draws. Ok (running accepted.width (directives_of accepted) draws c.args.steps)) (refusal_of c.in-Err.refusal)
+    obeys-declined (g.C.Console.seen c.args.console.now)
+    (g.C.Console.seen c.end.new.console) c.end.result shelf
+    (running_from accepted.width (directives_of accepted) c.args.steps drawn)
+    (refusal_of c.in-Err.refusal)
+    (declined-first drawn (λ draws. Ok (running accepted.width
+    (directives_of accepted) draws c.args.steps)) (refusal_of c.in-Err.refusal)
     (rw c.deref.ensures.value at c.in-Err.ensures)) c.end.ensures

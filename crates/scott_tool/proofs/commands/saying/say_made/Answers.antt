@@ -10,12 +10,16 @@ returns-in-Ok g c = λ expected makes shelf.
     let new = g.C.Console.seen c.say.new.self in
     let bytes = c.in-Ok.bytes.items in
     let made = rw c.in-Ok.is at makes in
-    obeys-shown old new c.concluded.result shelf made.0 (λ lines. says bytes) made.2 expected c.say.result made.1
-    (known_said old new c.concluded.result shelf made.0 (λ lines. says bytes) made.2 c.say.result (says bytes) (λ lines. refl) (rw c.deref.ensures.value at c.say.ensures.said))
-    (known_part old new c.concluded.result shelf made.0 (λ lines. says bytes) made.2 c.say.result (says bytes) (λ lines. refl) (rw c.deref.ensures.value at c.say.ensures.part))
+    obeys-shown old new c.concluded.result shelf made.0 (λ lines. says bytes) made.2 expected
+    c.say.result made.1
+    (known_said old new c.concluded.result shelf made.0 (λ lines. says bytes) made.2 c.say.result
+    (says bytes) (λ lines. refl) (rw c.deref.ensures.value at c.say.ensures.said))
+    (known_part old new c.concluded.result shelf made.0 (λ lines. says bytes) made.2 c.say.result
+    (says bytes) (λ lines. refl) (rw c.deref.ensures.value at c.say.ensures.part))
     c.say.ensures.cause c.concluded.ensures
 
 pub returns-in-Err : goal.returns-in-Err
 returns-in-Err g c = λ expected makes shelf.
-    obeys-declined (g.C.Console.seen c.args.console.now) (g.C.Console.seen c.end.new.console) c.end.result shelf
+    obeys-declined (g.C.Console.seen c.args.console.now)
+    (g.C.Console.seen c.end.new.console) c.end.result shelf
     expected (refusal_of c.in-Err.refusal) (rw c.in-Err.is at makes) c.end.ensures

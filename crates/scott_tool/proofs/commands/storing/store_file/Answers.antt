@@ -10,7 +10,8 @@ returns-in-Ok g c = record {
 }
 
 pub returns-in-Err-Absent : goal.returns-in-Err-Absent
-returns-in-Err-Absent g c = absurd (rw c.in-Err-Absent.field-0-is at c.in-Err-Absent.ensures.refused)
+returns-in-Err-Absent g c = absurd (rw c.in-Err-Absent.field-0-is at
+    c.in-Err-Absent.ensures.refused)
 
 pub returns-in-Err-Failed : goal.returns-in-Err-Failed
 returns-in-Err-Failed g c = record {
@@ -21,7 +22,8 @@ returns-in-Err-Failed g c = record {
 }
 
 pub returns-in-Err-TooLong : goal.returns-in-Err-TooLong
-returns-in-Err-TooLong g c = absurd (rw c.in-Err-TooLong.field-0-is at c.in-Err-TooLong.ensures.refused)
+returns-in-Err-TooLong g c = absurd (rw c.in-Err-TooLong.field-0-is at
+    c.in-Err-TooLong.ensures.refused)
 
 pub returns-in-Err-Memory : goal.returns-in-Err-Memory
 returns-in-Err-Memory g c = record {

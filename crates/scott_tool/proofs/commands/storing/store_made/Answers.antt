@@ -14,7 +14,8 @@ returns-in-Ok-store_file g c = λ expected makes.
     let made = rw c.in-Ok.is at makes in
     subst (λ (r : Result Task Unfit). Obeys shelf shelf' view view (refusing r) 0) (sym made.1)
     (obeys-stored shelf shelf' view made.0 c.args.name.now c.in-Ok.bytes.items made.2
-    (rw c.deref.ensures.value at c.in-Ok-store_file.ensures.stored) c.in-Ok-store_file.ensures.steady)
+    (rw c.deref.ensures.value at c.in-Ok-store_file.ensures.stored)
+    c.in-Ok-store_file.ensures.steady)
 
 pub returns-in-Ok : goal.returns-in-Ok
 returns-in-Ok g c = λ expected makes.
@@ -25,10 +26,13 @@ returns-in-Ok g c = λ expected makes.
     let status = c.end.result in
     let made = rw c.in-Ok.is at makes in
     subst (λ (r : Result Task Unfit). Obeys shelf shelf' old new (refusing r) status) (sym made.1)
-    (obeys-not_stored old new status shelf shelf' made.0 c.args.name.now c.in-Ok.bytes.items made.2 (refusal_of c.in-Err-store_file.refusal)
+    (obeys-not_stored old new status shelf shelf' made.0 c.args.name.now c.in-Ok.bytes.items made.2
+    (refusal_of c.in-Err-store_file.refusal)
     c.in-Err-store_file.ensures.failed c.store_file.ensures.later c.end.ensures)
 
 pub returns : goal.returns
 returns g c = λ expected makes.
-    obeys-declined (g.C.Console.seen c.args.console.now) (g.C.Console.seen c.end-in-Err.new.console) c.end-in-Err.result
-    (g.S.Shelf.seen c.args.shelf.now) expected (refusal_of c.in-Err.refusal) (rw c.in-Err.is at makes) c.end-in-Err.ensures
+    obeys-declined (g.C.Console.seen c.args.console.now)
+    (g.C.Console.seen c.end-in-Err.new.console) c.end-in-Err.result
+    (g.S.Shelf.seen c.args.shelf.now) expected (refusal_of c.in-Err.refusal)
+    (rw c.in-Err.is at makes) c.end-in-Err.ensures

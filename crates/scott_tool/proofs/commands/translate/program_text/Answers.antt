@@ -15,5 +15,7 @@ returns c =
     let width = c.args.width in
     let db = c.in_ok-db.db in
     subst (λ (r : Result Task Unfit). MakesFile program c.translated.result r)
-    (sym (ap (λ r. r >>= λ d. translatable game width d >>= λ fit. Ok (translating program style width fit)) (rw c.deref.ensures.value at c.in_ok-db.ensures)))
-    (made_translation program style width db (translatable game width db) c.translated.result c.translated.ensures.given c.translated.ensures.faithful)
+    (sym (ap (λ r. r >>= λ d. translatable game width d >>= λ fit. Ok
+    (translating program style width fit)) (rw c.deref.ensures.value at c.in_ok-db.ensures)))
+    (made_translation program style width db (translatable game width db) c.translated.result
+    c.translated.ensures.given c.translated.ensures.faithful)

@@ -1,0 +1,5 @@
+use Rattle.trans_groups.proofs.GroupsIn.{groups_are_there as law}
+use Rattle.trans_groups.proofs.laws.groups_are_there.Goals as goal
+
+pub returns : goal.returns
+returns c = law
