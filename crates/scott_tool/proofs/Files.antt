@@ -113,9 +113,9 @@ long_one files request name limit e =
       | inl m ↦ (let l = long_file files (main_of request) name limit m in (l.0, inl l.1, l.2))
       | inr m ↦
           elim (bind-err (loaded files (draws_of request))
-              (λ draws. Ok (record { main = m.0; draws = draws })) (too_long name limit) m.2) [
+          (λ draws. Ok (record { main = m.0; draws = draws })) (too_long name limit) m.2) [
             | inl d ↦ (let l = long_file files (draws_of request) name limit d in
-            (l.0, inr l.1, l.2))
+                (l.0, inr l.1, l.2))
             | inr d ↦ absurd (let f = d.2 in cc)
           ]
     ]

@@ -139,8 +139,12 @@ pub obeys-stored : (shelf shelf' : ShelfView) (view : ConsoleView) (task : Task)
     → Obeys shelf shelf' view view (Ok task) 0
 obeys-stored shelf shelf' view task name bytes does files faults = record {
   answered = whatever (λ lines. Answers shelf shelf' view view lines (Ok task) 0)
-      (λ lines. inl (keeping name bytes, does lines, whole refl
-      (sym (grown-nil view.history)) files)) view.left;
+      (λ lines. inl (
+        keeping name bytes,
+        does lines,
+        whole refl
+            (sym (grown-nil view.history)) files,
+      )) view.left;
   stands = inl (task_has_0 task);
   silent = λ e. refl;
   lines = inl (inl refl);
@@ -200,8 +204,12 @@ module _ (old new : ConsoleView) (status : ℕ) where
         (Err (unfit u)) status
     obeys-unfit u r = record {
       answered = whatever (λ lines. Answers shelf shelf old new lines (Err (unfit u)) status)
-          (λ lines. inl (refused (unfit u), refl, concluded shelf old new
-          (refused (unfit u)) status refl r.ended)) old.left;
+          (λ lines. inl (
+            refused (unfit u),
+            refl,
+            concluded shelf old new
+                (refused (unfit u)) status refl r.ended,
+          )) old.left;
       stands = refused_stands (Rose shelf.faults shelf.faults) (unfit u) r.ended;
       silent = λ e. absurd (refused_not_9 (unfit u) r.ended e);
       lines = inr r.lines;
@@ -222,7 +230,7 @@ module _ (old new : ConsoleView) (status : ℕ) where
     obeys-declined expected (Some (too_long name limit)) d r = absurd d
     obeys-declined expected (Some (unfit u)) d r =
         subst (λ (x : Result Task Unfit). Obeys shelf shelf old new (refusing x) status) (sym d)
-            (obeys-unfit u r)
+        (obeys-unfit u r)
     obeys-declined expected (Some (unwritten name)) d r = absurd d
 
   -- ---- what is stored
@@ -235,10 +243,17 @@ module _ (old new : ConsoleView) (status : ℕ) where
         → Obeys shelf shelf' old new (Ok task) status
     obeys-unstored loses more r = record {
       answered = whatever (λ lines. Answers shelf shelf' old new lines (Ok task) status)
-          (λ lines. inl (keeping name bytes, does lines, unstored
-          (record { name = name; bytes = bytes }) refl loses r.ended)) old.left;
-      stands = elim r.ended [ inl h ↦ inr (inr (inr (h.0, loses.0))) | inr h ↦ inr
-          (inr (inl (h.0, h.1))) ];
+          (λ lines. inl (
+            keeping name bytes,
+            does lines,
+            unstored
+                (record { name = name; bytes = bytes }) refl loses r.ended,
+          )) old.left;
+      stands = elim r.ended [
+        | inl h ↦ inr (inr (inr (h.0, loses.0)))
+        | inr h ↦ inr
+            (inr (inl (h.0, h.1)))
+      ];
       silent = λ e. absurd (refused_not_9 (unwritten name) r.ended e);
       lines = inr r.lines;
       files = leaves_file shelf shelf' name bytes status task does
@@ -257,7 +272,7 @@ module _ (old new : ConsoleView) (status : ℕ) where
         let same : record { files = shelf'.files; faults = shelf'.faults }
         ≡ shelf = λ i. record { files = files i; faults = faults i } in
         subst (λ (s : ShelfView). Obeys shelf s old new (Ok task) status) (sym same)
-            (obeys-starved shelf (Ok task) r)
+        (obeys-starved shelf (Ok task) r)
 
     -- the file wasn't stored
     pub obeys-not_stored : (refusal : Option Refusal) → FailsToStore shelf shelf' name refusal
@@ -266,7 +281,7 @@ module _ (old new : ConsoleView) (status : ℕ) where
     obeys-not_stored None h more r = obeys-unkept h.0 h.1 r
     obeys-not_stored (Some (unwritten other)) h more r =
         obeys-unstored h.1 more (subst (λ (n : List ℕ). Refuses old new (Some (unwritten n)) status)
-            h.0 r)
+        h.0 r)
     obeys-not_stored (Some no_request) h more r = absurd h
     obeys-not_stored (Some (unread other)) h more r = absurd h
     obeys-not_stored (Some (too_long other limit)) h more r = absurd h
@@ -323,7 +338,7 @@ module _ (old new : ConsoleView) (status : ℕ) where
         (λ _. status ≡ 3) → Obeys shelf shelf old new (refusing expected) status
     obeys-shown expected result e said part cause is =
         subst (λ (x : Result Task Unfit). Obeys shelf shelf old new (refusing x) status) (sym e)
-            (showed result said part cause is)
+        (showed result said part cause is)
 
     -- events that no line changes
     pub known_said : {T E : Type 0} (result : Result T E) (all : List Event) →

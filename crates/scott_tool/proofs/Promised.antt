@@ -147,4 +147,4 @@ module _ (shelf shelf' : ShelfView) (console console' : ConsoleView) (status : �
     by (Some files) h seen = λ ok.
         let task = accepted files laws request console.left ok in
         stand_0 request files task.0 task.1 task.2 (subst
-            (λ (r : Result Task Refusal). Stand (statuses_of r)) task.1 h) seen
+        (λ (r : Result Task Refusal). Stand (statuses_of r)) task.1 h) seen

@@ -83,11 +83,17 @@ compiled_unfit : Laws → (name bytes : List ℕ) (u : Unfit) → compiled_from 
 compiled_unfit laws name bytes u e =
     elim (bind-err (source_or_unfit name (source_in bytes)) (means name) u e) [
       | inl s ↦ (let f = source_unfit name (source_in bytes) u s in
-      (inl (f.0, (laws.source_fault bytes f.0).0 f.1), f.2))
+          (inl (f.0, (laws.source_fault bytes f.0).0 f.1), f.2))
       | inr m ↦
-          (let f = meaning_unfit name (meant m.0) u m.2 in
-          (inr (m.0, f.0, (laws.source bytes m.0).0 (source_fit name (source_in bytes) m.0 m.1),
-          f.1), f.2))
+          (let f = meaning_unfit name (meant m.0) u m.2 in (
+            inr (
+              m.0,
+              f.0,
+              (laws.source bytes m.0).0 (source_fit name (source_in bytes) m.0 m.1),
+              f.1,
+            ),
+            f.2,
+          ))
     ]
 
 program_unfit : (name : List ℕ) (read : Result (List DirectiveTree) reader.Fault) (u : Unfit)
@@ -174,25 +180,25 @@ pub fails : Laws → (request : Request) (texts : Texts) (u : Unfit) → work re
 fails laws (check game) texts u e =
     elim (bind-err (database_of_file game texts.main) report_of u e) [
       | inl d ↦ (let f = database_unfit game (database_in texts.main) u d in bad_database game f.0
-      refl f.1 f.2)
+          refl f.1 f.2)
       | inr d ↦ absurd (let g = d.2 in cc)
     ]
 fails laws (compile source game) texts u e =
     elim (bind-err (compiled_from source texts.main) (store_of game canon) u e) [
       | inl d ↦ (let f = compiled_unfit laws source texts.main u d in bad_source source game refl
-      f.0 f.1)
+          f.0 f.1)
       | inr d ↦ absurd (let g = d.2 in cc)
     ]
 fails laws (decompile game source) texts u e =
     elim (bind-err (database_of_file game texts.main) (store_of source plain) u e) [
       | inl d ↦ (let f = database_unfit game (database_in texts.main) u d in bad_database game f.0
-      refl f.1 f.2)
+          refl f.1 f.2)
       | inr d ↦ absurd (let g = d.2 in cc)
     ]
 fails laws (play game source style) texts u e =
     elim (bind-err (database_of_file game texts.main) (with_draws source texts.draws style) u e) [
       | inl d ↦ (let f = database_unfit game (database_in texts.main) u d in bad_database game f.0
-      refl f.1 f.2)
+          refl f.1 f.2)
       | inr d ↦
           elim (bind-err (draws_from source texts.draws) (play_of style d.0) u d.2) [
             | inl r ↦ (let f = draws_unfit source texts.draws u r in bad_draws f.0 f.1 f.2 f.3 f.4)
@@ -200,10 +206,9 @@ fails laws (play game source style) texts u e =
           ]
     ]
 fails laws (translate game program style width) texts u e =
-    elim (bind-err (database_of_file game texts.main) (translate_with game program style width) u e)
-    [
+    elim (bind-err (database_of_file game texts.main) (translate_with game program style width) u e) [
       | inl d ↦ (let f = database_unfit game (database_in texts.main) u d in bad_database game f.0
-      refl f.1 f.2)
+          refl f.1 f.2)
       | inr d ↦
           elim (bind-err (translatable game width d.0) (translation_of program style width) u d.2) [
             | inl r ↦
@@ -235,13 +240,13 @@ pub run_request : (request : Request) (texts : Texts) (width : Width) (p : List 
     (source : DrawSource) × (request ≡ run name source steps width)
 run_request (check game) texts width p draws steps e =
     absurd (let d = bind-ok (database_of_file game texts.main) report_of
-        (running width p draws steps) e in let f = d.2 in cc)
+    (running width p draws steps) e in let f = d.2 in cc)
 run_request (compile source game) texts width p draws steps e =
     absurd (let d = bind-ok (compiled_from source texts.main) (store_of game canon)
-        (running width p draws steps) e in let f = d.2 in cc)
+    (running width p draws steps) e in let f = d.2 in cc)
 run_request (decompile game source) texts width p draws steps e =
     absurd (let d = bind-ok (database_of_file game texts.main) (store_of source plain)
-        (running width p draws steps) e in let f = d.2 in cc)
+    (running width p draws steps) e in let f = d.2 in cc)
 run_request (play game source style) texts width p draws steps e =
     absurd (
     let d = bind-ok (database_of_file game texts.main) (with_draws source texts.draws style)
@@ -300,8 +305,10 @@ module _ (files : Files) where
   pub main_is : (laws : Laws) (game : List ℕ) (bytes : List ℕ) (db : Database) → loaded files
       (Some (database_load game)) ≡ Ok bytes
       → database_of_file game bytes ≡ Ok db → (get files game ≡ Some bytes) × DatText bytes db
-  main_is laws game bytes db l e = (there-loaded files (database_load game) bytes l,
-      (laws.database bytes db).0 (database_fit game (database_in bytes) db e))
+  main_is laws game bytes db l e = (
+    there-loaded files (database_load game) bytes l,
+    (laws.database bytes db).0 (database_fit game (database_in bytes) db e),
+  )
 
   -- the database that the source of a request means
   pub meant_is : (laws : Laws) (source : List ℕ) (bytes : List ℕ) (db : Database) → loaded files
@@ -311,8 +318,12 @@ module _ (files : Files) where
   meant_is laws source bytes db l e =
       let s = bind-ok (source_or_unfit source (source_in bytes)) (means source) db e in (
         there-loaded files (source_load source) bytes l,
-        (s.0, (laws.source bytes s.0).0 (source_fit source (source_in bytes) s.0 s.1), meaning_fit
-        source (meant s.0) db s.2),
+        (
+          s.0,
+          (laws.source bytes s.0).0 (source_fit source (source_in bytes) s.0 s.1),
+          meaning_fit
+              source (meant s.0) db s.2,
+        ),
       )
 
   -- the program of a request
@@ -320,17 +331,23 @@ module _ (files : Files) where
       → loaded files (Some (program_load name)) ≡ Ok bytes
       → program_of_file width name bytes ≡ Ok p → (get files name ≡ Some bytes)
       × IsProgram width bytes p
-  program_is laws width name bytes p l e =
-      (there-loaded files (program_load name) bytes l, (laws.program width bytes p).0
-      (program_fit name (program_in width bytes) p e))
+  program_is laws width name bytes p l e = (
+    there-loaded files (program_load name) bytes l,
+    (laws.program width bytes p).0
+        (program_fit name (program_in width bytes) p e),
+  )
 
   -- the draws of a request
   pub draws_are : (source : DrawSource) (bytes draws : List ℕ) → loaded files (draws_load source)
       ≡ Ok bytes → draws_from source bytes ≡ Ok draws
       → DrawsAre files source draws
   draws_are (seeded seed) bytes draws l e = cc
-  draws_are (listed name) bytes draws l e = (bytes, there-loaded files _ bytes l, by
-      (listed_draws bytes) refl e)
+  draws_are (listed name) bytes draws l e = (
+    bytes,
+    there-loaded files _ bytes l,
+    by
+        (listed_draws bytes) refl e,
+  )
     where
       by : (read : Result (List ℕ) ℕ) → listed_draws bytes ≡ read → draws_or_unfit name read
           ≡ Ok draws → listed_draws bytes ≡ Ok draws
@@ -394,12 +411,12 @@ module _ (files : Files) where
       (ap (λ r. r >>= report_of) (game_reads laws game h.0 h.1 h.3)) tt
   accepted laws (compile source game) left h =
       comes (compile source game) left (record { main = h.0; draws = [] })
-          (storing game (canon h.2))
+      (storing game (canon h.2))
       (loaded-there files (source_load source) h.0 h.3) refl
       (ap (λ r. r >>= store_of game canon) (source_compiles laws source h.0 h.1 h.2 h.4 h.5)) tt
   accepted laws (decompile game source) left h =
       comes (decompile game source) left (record { main = h.0; draws = [] })
-          (storing source (plain h.1))
+      (storing source (plain h.1))
       (loaded-there files (database_load game) h.0 h.2) refl
       (ap (λ r. r >>= store_of source plain) (game_reads laws game h.0 h.1 h.3)) tt
   accepted laws (play game (seeded seed) style) left h =
@@ -411,20 +428,20 @@ module _ (files : Files) where
       let g = h.0 in
       let d = h.1 in
       comes (play game (listed name) style) left (record { main = g.0; draws = d.0 })
-          (playing style g.1 d.1)
+      (playing style g.1 d.1)
       (loaded-there files (database_load game) g.0 g.2) (loaded-there files _ d.0 d.2)
       (ap (λ r. r >>= with_draws (listed name) d.0 style) (game_reads laws game g.0 g.1 g.3) ∙ ap
       (λ r. draws_or_unfit name r >>= play_of style g.1) d.3) tt
   accepted laws (translate game program style width) left (bytes, db, loads, text, no_wide) =
       comes (translate game program style width) left (record { main = bytes; draws = [] })
-          (translating program style width db)
+      (translating program style width db)
       (loaded-there files (database_load game) bytes loads) refl
       (ap (λ r. r >>= translate_with game program style width) (game_reads laws game bytes db text)
       ∙ ap (λ r. r >>= translation_of program style width) (can_translate game width db no_wide)) tt
   accepted laws (run name (seeded seed) steps width) left
       ((bytes, p, draws, lines, loads, is, from_seed, lines_are, zero), h) =
       comes (run name (seeded seed) steps width) left (record { main = bytes; draws = [] })
-          (running width p draws steps)
+      (running width p draws steps)
       (loaded-there files (program_load name) bytes loads) refl
       (ap (λ r. r >>= run_with (seeded seed) [] width steps)
       (program_reads laws width name bytes p is) ∙ ap (λ d. Ok (running width p d steps))
@@ -433,7 +450,7 @@ module _ (files : Files) where
   accepted laws (run name (listed file) steps width) left
       ((bytes, p, draws, lines, loads, is, (more, there, lists), lines_are, zero), h) =
       comes (run name (listed file) steps width) left (record { main = bytes; draws = h.0 })
-          (running width p draws steps)
+      (running width p draws steps)
       (loaded-there files (program_load name) bytes loads) (loaded-there files _ h.0 h.2)
       (ap (λ r. r >>= run_with (listed file) h.0 width steps)
       (program_reads laws width name bytes p is)

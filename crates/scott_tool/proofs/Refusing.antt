@@ -42,13 +42,16 @@ module _ (shelf shelf' : ShelfView) (console console' : ConsoleView) (status : �
     own n not_3 e = elim ended [ inl h ↦ sym h.0 ∙ e | inr h ↦ absurd (not_3 (sym e ∙ h.0)) ]
 
     broke : status ≡ 3 → Broke
-    broke e = elim ended [ inl h ↦ absurd (refusal_not refusal 3 (inr (inr (inl refl)))
-        (sym h.0 ∙ e)) | inr h ↦ h.1 ]
+    broke e = elim ended [
+      | inl h ↦ absurd (refusal_not refusal 3 (inr (inr (inl refl)))
+          (sym h.0 ∙ e))
+      | inr h ↦ h.1
+    ]
 
     stand_refused : Stand (status_of refusal ∷ [])
     stand_refused = elim ended [
       | inl h ↦ inl (subst (Contains (status_of refusal ∷ [])) (sym h.0)
-      (first (status_of refusal)))
+          (first (status_of refusal)))
       | inr h ↦ inr (inr (inl (h.0, h.1)))
     ]
 
@@ -66,7 +69,7 @@ module _ (shelf shelf' : ShelfView) (console console' : ConsoleView) (status : �
         → Answers shelf shelf' console console' lines (expected files asked) status
     answers_expected same files asked lines e =
         subst (λ (r : Result Task Refusal). Answers shelf shelf' console console' lines r status)
-            (sym e) (inl (refused refusal, refl, refused_ends same))
+        (sym e) (inl (refused refusal, refl, refused_ends same))
 
     -- where the shelf failed, any status stands that says so
     stand_lost : (others : List ℕ) → status_of refusal ≡ 2 → Lost → Stand others
@@ -189,8 +192,13 @@ module _ (shelf shelf' : ShelfView) (console console' : ConsoleView) (status : �
         → Refuses console console' (Some refusal) status → Cause → AllStands → AllSeen → Promised
     refused_promised laws refusal same later stays r cause stands seen = record {
       status_is = record { known = known_refused refusal r.ended; cause = cause; first = stands };
-      seen = record { all = seen; usage = λ e. absurd cc; silent = λ e. absurd
-          (refused_not_9 console console' status refusal r.ended e); lines = inr r.lines };
+      seen = record {
+        all = seen;
+        usage = λ e. absurd cc;
+        silent = λ e. absurd
+            (refused_not_9 console console' status refusal r.ended e);
+        lines = inr r.lines;
+      };
       files = name_keeps shelf shelf' console console' status (stores request) same;
       complete = complete_from shelf shelf' console console' status laws (Some request) stands seen;
       checked = λ zero game e. absurd (refused_not_0 console console' status refusal r.ended zero);
@@ -284,8 +292,13 @@ module _ (shelf shelf' : ShelfView) (console console' : ConsoleView) (status : �
             };
             first = stands;
           };
-          seen = record { all = all; usage = λ e. absurd cc; silent = λ e. r.ended.1; lines = inr
-              r.lines };
+          seen = record {
+            all = all;
+            usage = λ e. absurd cc;
+            silent = λ e. r.ended.1;
+            lines = inr
+                r.lines;
+          };
           files = name_keeps shelf shelf' console console' status (stores request) same;
           complete = complete_from shelf shelf' console console' status laws
               (Some request) stands all;
@@ -296,8 +309,13 @@ module _ (shelf shelf' : ShelfView) (console console' : ConsoleView) (status : �
           translated = λ zero game program style width e. absurd (omega arith);
           ran = λ end name source steps width e. absurd (not_end status 9 end (λ f. omega arith)
               (λ f. omega arith) (λ f. omega arith) nine);
-          counts = record { shelf_later = omega arith; console_later = r.later; shelf_stays = inr
-              (inr steady); console_stays = r.console_stays };
+          counts = record {
+            shelf_later = omega arith;
+            console_later = r.later;
+            shelf_stays = inr
+                (inr steady);
+            console_stays = r.console_stays;
+          };
         }
 
     abbrev Missed : Option Refusal → Type 0
@@ -330,12 +348,23 @@ module _ (shelf shelf' : ShelfView) (console console' : ConsoleView) (status : �
               (for_files shelf.files (λ files. Stand (statuses_of (expected files (Some request))))
               (λ files. stand_lost (unread name) r.ended
               (statuses_of (expected files (Some request))) refl lost))
-              (seen_by (λ files lines. inr (lost, (load, missed.0.1, subst
-              (λ (n : List ℕ). Concludes console console' (refused (unread n)) status)
-              (sym is) r.ended))))
+              (seen_by (λ files lines. inr (
+                lost,
+                (
+                  load,
+                  missed.0.1,
+                  subst
+                      (λ (n : List ℕ). Concludes console console' (refused (unread n)) status)
+                      (sym is) r.ended,
+                ),
+              )))
           | inr lacks ↦
               refused_promised laws (unread name) same later stays r
-              (unread_cause name r.ended (inr (load, missed.0.1, subst
-              (λ (n : List ℕ). Lacks shelf.files n) (sym is) lacks.0)))
+              (unread_cause name r.ended (inr (
+                load,
+                missed.0.1,
+                subst
+                    (λ (n : List ℕ). Lacks shelf.files n) (sym is) lacks.0,
+              )))
               (stands_at (unread name) r.ended lacks.1) (seen_at same (unread name) r.ended lacks.1)
         ]

@@ -54,8 +54,12 @@ module _ (shelf : ShelfView) (old new : ConsoleView) (status : ℕ) (width : Wid
     stands = inl (end_is status end);
     silent = λ e. absurd (not_end status 9 end (λ f. omega arith) (λ f. omega arith)
         (λ f. omega arith) e);
-    lines = inl (elim end [ inl e ↦ inl e | inr (inl e) ↦ inr (inr (inl e)) | inr (inr e) ↦ inr
-        (inr (inr e)) ]);
+    lines = inl (elim end [
+      | inl e ↦ inl e
+      | inr (inl e) ↦ inr (inr (inl e))
+      | inr (inr e) ↦ inr
+          (inr (inr e))
+    ]);
     files = refl;
     shelf_later = omega arith;
     later = omega (arith, same);
@@ -70,8 +74,12 @@ module _ (shelf : ShelfView) (old new : ConsoleView) (status : ℕ) (width : Wid
   obeys-broke three failed later part = record {
     answered = where_known (λ lines. GrewByPrefix old.history new.history (events lines))
         (λ lines. Answers shelf shelf old new lines (Ok (running width p draws steps)) status)
-        (λ lines h. inl (run_outcome p (ran width p steps lines draws), refl, unsaid three failed h
-        refl)) old.left part;
+        (λ lines h. inl (
+          run_outcome p (ran width p steps lines draws),
+          refl,
+          unsaid three failed h
+              refl,
+        )) old.left part;
     stands = inr (inr (inl (three, failed)));
     silent = λ e. absurd (omega arith);
     lines = inl (inr (inl three));
@@ -146,8 +154,14 @@ pub resumed_is : (r : Runner) (a : Accepted) (steps : ℕ) (lines : List (List �
     (routine_named a.width (directives_of a) main)
     → resumed r steps lines draws ≡ ran a.width (directives_of a) steps lines draws
 resumed_is r a steps lines draws program begun world =
-    λ i. resume (program i) (begun i) (record { steps = steps; lines = lines; draws = draws; past =
-    []; world = world i })
+    λ i. resume (program i) (begun i) (record {
+      steps = steps;
+      lines = lines;
+      draws = draws;
+      past =
+          [];
+      world = world i;
+    })
 
 module _ (shelf : ShelfView) (old mid : ConsoleView) (status : ℕ) (a : Accepted) (r after : Runner)
     (before now : Supply) (steps : ℕ)
@@ -184,7 +198,7 @@ module _ (shelf : ShelfView) (old mid : ConsoleView) (status : ℕ) (a : Accepte
       (stop_seen stop ≡ stop_of (of_lines lines).0))
       (λ lines h. (
         h.shows ∙ ap (λ (t : f.Outcome × w.Config). grown old.history (shown (trace_of t.1.past)))
-        (same lines),
+            (same lines),
         h.leaves.stop ∙ ap (λ (t : f.Outcome × w.Config). stop_of t.0) (same lines),
       )) old.left went)
       cause.steady speaks is

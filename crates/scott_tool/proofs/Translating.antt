@@ -23,7 +23,11 @@ module _ (program : List ℕ) (style : Style) (width : Width) (db : Database)
       (λ (text : Vec ℕ A). db) result fit
       → IfOk result (λ text. Faithful style width db None text.items) → MakesFile program result
       (fit >>= translation)
-  made_translation (Ok text) given faithful = (translating program style width db, ap
-      (λ r. r >>= translation) given, λ lines. (text.items, faithful, refl))
+  made_translation (Ok text) given faithful = (
+    translating program style width db,
+    ap
+        (λ r. r >>= translation) given,
+    λ lines. (text.items, faithful, refl),
+  )
   made_translation (Err refusal) given faithful = declined-first fit translation
       (refusal_of refusal) given

@@ -62,8 +62,11 @@ module _ (shelf shelf' : ShelfView) (console console' : ConsoleView) (status : �
   refusal_not_run : (u : Unfit) (o : Outcome) → o ≡ refused (unfit u)
       → Ends shelf shelf' console console' o status → IsEnd status → ⊥
   refusal_not_run u o is (whole same grew files) end = refused_not_end console console' status
-      (unfit u) (inl (same ∙ ap (λ x. x.status) is, grew ∙ ap
-      (λ x. grown console.history x.events) is)) end
+      (unfit u) (inl (
+        same ∙ ap (λ x. x.status) is,
+        grew ∙ ap
+            (λ x. grown console.history x.events) is,
+      )) end
   refusal_not_run u o is (unsaid three failed part files) end = not_end status 3 end
       (λ n. omega arith) (λ n. omega arith) (λ n. omega arith) three
   refusal_not_run u o is (unstored file stored loses said) end = refused_not_end console console'
@@ -77,49 +80,49 @@ module _ (shelf shelf' : ShelfView) (console console' : ConsoleView) (status : �
       → Ran files lines name source steps width console console' status
   ran_by laws name source steps width texts files lines e h end = by
       (work (run name source steps width) texts) refl h where
-    done_by : (task : Task) (o : Outcome) → work (run name source steps width) texts ≡ Ok task
-        → Does task lines o
-        → status ≡ o.status → console'.history ≡ grown console.history o.events
-        → Ran files lines name source steps width console console' status
-    done_by task o w does is grew =
-        let d = bind-ok (program_of_file width name texts.main)
-        (λ p. draws_from source texts.draws >>= λ draws. Ok (running width p draws steps)) task w in
-        let r = bind-ok (draws_from source texts.draws) (λ draws. Ok
-        (running width d.0 draws steps)) task d.2 in
-        let l = texts-loaded files (run name source steps width) texts e in
-        let m = program_is files laws width name texts.main d.0 l.0 d.1 in
-        let same : running width d.0 r.0 steps ≡ task = (let f = r.2 in cc) in
-        let o_is : o ≡ run_outcome d.0 (ran width d.0 steps lines r.0) = subst
-        (λ (t : Task). Does t lines o) (sym same) does in
-        record {
-          bytes = texts.main;
-          program = d.0;
-          draws = r.0;
-          there = m.0;
-          text = m.1;
-          draws_are = draws_are files source texts.draws r.0 l.1 r.1;
-          ends = is ∙ ap (λ x. x.status) o_is;
-          seen = grew ∙ ap (λ x. grown console.history x.events) o_is;
-        }
+        done_by : (task : Task) (o : Outcome) → work (run name source steps width) texts ≡ Ok task
+            → Does task lines o
+            → status ≡ o.status → console'.history ≡ grown console.history o.events
+            → Ran files lines name source steps width console console' status
+        done_by task o w does is grew =
+            let d = bind-ok (program_of_file width name texts.main)
+            (λ p. draws_from source texts.draws >>= λ draws. Ok (running width p draws steps)) task w in
+            let r = bind-ok (draws_from source texts.draws) (λ draws. Ok
+            (running width d.0 draws steps)) task d.2 in
+            let l = texts-loaded files (run name source steps width) texts e in
+            let m = program_is files laws width name texts.main d.0 l.0 d.1 in
+            let same : running width d.0 r.0 steps ≡ task = (let f = r.2 in cc) in
+            let o_is : o ≡ run_outcome d.0 (ran width d.0 steps lines r.0) = subst
+            (λ (t : Task). Does t lines o) (sym same) does in
+            record {
+              bytes = texts.main;
+              program = d.0;
+              draws = r.0;
+              there = m.0;
+              text = m.1;
+              draws_are = draws_are files source texts.draws r.0 l.1 r.1;
+              ends = is ∙ ap (λ x. x.status) o_is;
+              seen = grew ∙ ap (λ x. grown console.history x.events) o_is;
+            }
 
-    ends_by : (task : Task) (o : Outcome) → work (run name source steps width) texts ≡ Ok task
-        → Does task lines o → Ends shelf shelf' console console' o status
-        → Ran files lines name source steps width console console' status
-    ends_by task o w does (whole is grew files) = done_by task o w does is grew
-    ends_by task o w does (unsaid three failed part files) = absurd
-        (not_end status 3 end (λ n. omega arith) (λ n. omega arith) (λ n. omega arith) three)
-    ends_by task o w does (unstored file stored loses said) = absurd
-        (refused_not_end console console' status (unwritten file.name) said end)
+        ends_by : (task : Task) (o : Outcome) → work (run name source steps width) texts ≡ Ok task
+            → Does task lines o → Ends shelf shelf' console console' o status
+            → Ran files lines name source steps width console console' status
+        ends_by task o w does (whole is grew files) = done_by task o w does is grew
+        ends_by task o w does (unsaid three failed part files) = absurd
+            (not_end status 3 end (λ n. omega arith) (λ n. omega arith) (λ n. omega arith) three)
+        ends_by task o w does (unstored file stored loses said) = absurd
+            (refused_not_end console console' status (unwritten file.name) said end)
 
-    by : (due : Result Task Unfit) → work (run name source steps width) texts ≡ due
-        → Answers shelf shelf' console console' lines (refusing due) status
-        → Ran files lines name source steps width console console' status
-    by (Ok task) w (inl (o, does, ends)) = ends_by task o w does ends
-    by (Ok task) w (inr silent) = absurd (not_end status 9 end (λ n. omega arith) (λ n. omega arith)
-        (λ n. omega arith) silent.0)
-    by (Err u) w (inl (o, is, ends)) = absurd (refusal_not_run u o is ends end)
-    by (Err u) w (inr silent) = absurd (not_end status 9 end (λ n. omega arith) (λ n. omega arith)
-        (λ n. omega arith) silent.0)
+        by : (due : Result Task Unfit) → work (run name source steps width) texts ≡ due
+            → Answers shelf shelf' console console' lines (refusing due) status
+            → Ran files lines name source steps width console console' status
+        by (Ok task) w (inl (o, does, ends)) = ends_by task o w does ends
+        by (Ok task) w (inr silent) = absurd (not_end status 9 end (λ n. omega arith) (λ n. omega arith)
+            (λ n. omega arith) silent.0)
+        by (Err u) w (inl (o, is, ends)) = absurd (refusal_not_run u o is ends end)
+        by (Err u) w (inr silent) = absurd (not_end status 9 end (λ n. omega arith) (λ n. omega arith)
+            (λ n. omega arith) silent.0)
 
   module _ (request : Request) where
     abbrev Seen : Files → List (List ℕ) → Type 0
@@ -165,8 +168,8 @@ module _ (shelf shelf' : ShelfView) (console console' : ConsoleView) (status : �
             texts.main,
             is,
             there-loaded files (database_load game) texts.main
-            (ap (λ l. loaded files l) (sym (game_load request game is)) ∙
-            (texts-loaded files request texts e).0),
+                (ap (λ l. loaded files l) (sym (game_load request game is)) ∙
+                (texts-loaded files request texts e).0),
             p,
           )) there
 
@@ -175,8 +178,14 @@ module _ (shelf shelf' : ShelfView) (console console' : ConsoleView) (status : �
       draws_have P load is p =
           from_files shelf.files (λ files. texts_of files request ≡ Ok texts)
           (λ files. DrawsHave files (Some request) P)
-          (λ files e. (load, texts.draws, is, there-loaded files load texts.draws
-          (ap (λ l. loaded files l) (sym is) ∙ (texts-loaded files request texts e).1), p)) there
+          (λ files e. (
+            load,
+            texts.draws,
+            is,
+            there-loaded files load texts.draws
+                (ap (λ l. loaded files l) (sym is) ∙ (texts-loaded files request texts e).1),
+            p,
+          )) there
 
       abbrev NoDatabase : Type 0
       NoDatabase = IfSome shelf.files (λ files. GameHas files (Some request)
@@ -213,7 +222,7 @@ module _ (shelf shelf' : ShelfView) (console console' : ConsoleView) (status : �
           → NoDatabase
       database_cause laws u (bad_database game fault is reads e) four =
           game_has (λ bytes. (f : Fault) × DatFault bytes f) game is
-              (fault, (laws.database_fault texts.main fault).0 reads)
+          (fault, (laws.database_fault texts.main fault).0 reads)
       database_cause laws u (bad_source source game is why e) four = absurd (omega arith)
       database_cause laws u (bad_program name source steps width fault is why e) four = absurd
           (omega arith)
@@ -227,10 +236,12 @@ module _ (shelf shelf' : ShelfView) (console console' : ConsoleView) (status : �
       source_has source game is why =
           from_files shelf.files (λ files. texts_of files request ≡ Ok texts)
           (λ files. SourceHas files (Some request) IsNoSource)
-          (λ files e. subst (λ (r : Request). SourceHas files (Some r) IsNoSource) (sym is)
-          (texts.main, there-loaded files (source_load source) texts.main
-          (ap (λ r. loaded files (main_of r)) (sym is) ∙ (texts-loaded files request texts e).0),
-          why)) there
+          (λ files e. subst (λ (r : Request). SourceHas files (Some r) IsNoSource) (sym is) (
+            texts.main,
+            there-loaded files (source_load source) texts.main
+                (ap (λ r. loaded files (main_of r)) (sym is) ∙ (texts-loaded files request texts e).0),
+            why,
+          )) there
 
       source_or_draws_cause : (u : Unfit) → Fails request texts u → content_status u.fault ≡ 5
           → NoSourceOrDraws
@@ -244,7 +255,7 @@ module _ (shelf shelf' : ShelfView) (console console' : ConsoleView) (status : �
           absurd (omega arith)
       source_or_draws_cause u (bad_draws load at is lists e) five =
           from_files shelf.files (λ files. DrawsHave files (Some request)
-              (λ bytes. (place : ℕ) × (listed_draws bytes ≡ Err place))) _ (λ files h. inr h)
+          (λ bytes. (place : ℕ) × (listed_draws bytes ≡ Err place))) _ (λ files h. inr h)
           (draws_have (λ bytes. (place : ℕ) × (listed_draws bytes ≡ Err place)) load is (at, lists))
 
       -- the program of a request that runs it
@@ -257,10 +268,13 @@ module _ (shelf shelf' : ShelfView) (console console' : ConsoleView) (status : �
       program_has name source steps width fault is why =
           from_files shelf.files (λ files. texts_of files request ≡ Ok texts)
           (λ files. HasNoProgram files (Some request))
-          (λ files e. subst (λ (r : Request). HasNoProgram files (Some r)) (sym is)
-          (texts.main, fault, there-loaded files (program_load name) texts.main
-          (ap (λ r. loaded files (main_of r)) (sym is) ∙ (texts-loaded files request texts e).0),
-          why)) there
+          (λ files e. subst (λ (r : Request). HasNoProgram files (Some r)) (sym is) (
+            texts.main,
+            fault,
+            there-loaded files (program_load name) texts.main
+                (ap (λ r. loaded files (main_of r)) (sym is) ∙ (texts-loaded files request texts e).0),
+            why,
+          )) there
 
       program_cause : (u : Unfit) → Fails request texts u → content_status u.fault ≡ 6 → NoProgram
       program_cause u (bad_database game fault is reads e) six = absurd (omega arith)
@@ -293,8 +307,13 @@ module _ (shelf shelf' : ShelfView) (console console' : ConsoleView) (status : �
       not_content : (u : Unfit) (n : ℕ) → Fails request texts u → status ≡ content_status u.fault →
           (n ≡ 4 → ⊥) → (n ≡ 5 → ⊥) → (n ≡ 6 → ⊥) → (n ≡ 7 → ⊥) → status ≡ n → ⊥
       not_content u n f s not_4 not_5 not_6 not_7 e =
-          elim (content_is u n f s e) [ inl h ↦ not_4 h | inr (inl h) ↦ not_5 h | inr
-          (inr (inl h)) ↦ not_6 h | inr (inr (inr h)) ↦ not_7 h ]
+          elim (content_is u n f s e) [
+            | inl h ↦ not_4 h
+            | inr (inl h) ↦ not_5 h
+            | inr
+                (inr (inl h)) ↦ not_6 h
+            | inr (inr (inr h)) ↦ not_7 h
+          ]
 
       -- the run of the request ends with this status, with the lines that are left
       abbrev Ended : ℕ → Type 0
@@ -510,8 +529,14 @@ module _ (shelf shelf' : ShelfView) (console console' : ConsoleView) (status : �
       let same : reporting d.0 ≡ task = (let f = d.2 in cc) in
       let is : o ≡ done (says (report_text d.0)) = subst (λ (t : Task). Does t lines o)
       (sym same) does in
-      record { bytes = texts.main; db = d.0; there = m.0; text = m.1; shown = grew ∙ ap
-      (λ x. grown console.history x.events) is }
+      record {
+        bytes = texts.main;
+        db = d.0;
+        there = m.0;
+        text = m.1;
+        shown = grew ∙ ap
+            (λ x. grown console.history x.events) is;
+      }
 
   played_by : (laws : Laws) (game : List ℕ) (source : DrawSource) (style : Style) (texts : Texts)
       (files : Files) (lines : List (List ℕ)) → texts_of files (play game source style) ≡ Ok texts
@@ -578,8 +603,14 @@ module _ (shelf shelf' : ShelfView) (console console' : ConsoleView) (status : �
       let m = main_is files laws game texts.main d.0 (texts-loaded files
       (decompile game source) texts e).0 d.1 in
       let same : storing source (plain d.0) ≡ task = (let f = d.2 in cc) in
-      record { bytes = texts.main; db = d.0; there = m.0; text = m.1; stored = stored_files files
-      source (plain d.0) task is same leaves zero }
+      record {
+        bytes = texts.main;
+        db = d.0;
+        there = m.0;
+        text = m.1;
+        stored = stored_files files
+            source (plain d.0) task is same leaves zero;
+      }
 
   -- the files after a request that stores a program
   stored_program : (files : Files) (game program : List ℕ) (style : Style) (width : Width)
@@ -618,12 +649,15 @@ module _ (shelf shelf' : ShelfView) (console console' : ConsoleView) (status : �
       (λ (db : Database). translating program style width db ≡ task)
       (translatable_same game width d.0 r.0 r.1) same in
       stored_program files game program style width texts.main d.0 is m.0 m.1
-          (subst (λ (t : Task). Leaves shelf shelf' (Ok t) status) (sym fits) leaves) zero
+      (subst (λ (t : Task). Leaves shelf shelf' (Ok t) status) (sym fits) leaves) zero
 
   keeps_some : (name : List ℕ) (MayBe : List ℕ → Type 0) → Keeps shelf shelf' name MayBe status
       → NameKeeps shelf shelf' (Some name) status
-  keeps_some name MayBe h = elim h.stay [ inl zero ↦ (let kept = h.stored zero in inl
-      (zero, (kept.0, kept.2))) | inr other ↦ inr other ]
+  keeps_some name MayBe h = elim h.stay [
+    | inl zero ↦ (let kept = h.stored zero in inl
+        (zero, (kept.0, kept.2)))
+    | inr other ↦ inr other
+  ]
 
   kept_as : (name : List ℕ) (text : Database → List ℕ) (read : Result Database Unfit)
       → Leaves shelf shelf' (refusing (read >>= λ db. Ok (storing name (text db)))) status
@@ -689,10 +723,19 @@ module _ (shelf shelf' : ShelfView) (console console' : ConsoleView) (status : �
       let Q : Request → Type 0 = λ r. Obeys shelf shelf' console console'
       (refusing (work r texts)) status in
       record {
-        status_is = record { known = known_worked request texts there obeys answered; cause =
-            worked_cause request texts there obeys laws answered; first = stands };
-        seen = record { all = worked_seen request texts there obeys; usage = λ e. absurd cc; silent
-            = obeys.silent; lines = obeys.lines };
+        status_is = record {
+          known = known_worked request texts there obeys answered;
+          cause =
+              worked_cause request texts there obeys laws answered;
+          first = stands;
+        };
+        seen = record {
+          all = worked_seen request texts there obeys;
+          usage = λ e. absurd cc;
+          silent
+              = obeys.silent;
+          lines = obeys.lines;
+        };
         files = keeps_name request texts obeys.files;
         complete = complete_from shelf shelf' console console' status laws (Some request) stands
             (worked_seen request texts there obeys);
@@ -741,6 +784,11 @@ module _ (shelf shelf' : ShelfView) (console console' : ConsoleView) (status : �
             (λ lines h. ran_by laws name source steps width texts files lines
             (subst (λ (r : Request). texts_of files r ≡ Ok texts) is f) h end)
             (subst O is obeys.answered)) there;
-        counts = record { shelf_later = obeys.shelf_later; console_later = obeys.later; shelf_stays
-            = obeys.shelf_stays; console_stays = obeys.console_stays };
+        counts = record {
+          shelf_later = obeys.shelf_later;
+          console_later = obeys.later;
+          shelf_stays
+              = obeys.shelf_stays;
+          console_stays = obeys.console_stays;
+        };
       }

@@ -127,9 +127,17 @@ module _ {style : Style} {db : Database} {p : Program} (known : Known style db p
                                                                     opcode_85 known,
                                                                     (
                                                                       opcode_86 known,
-                                                                      (opcode_87 known, (opcode_88
-                                                                      known, (opcode_89 known,
-                                                                      tt))),
+                                                                      (
+                                                                        opcode_87 known,
+                                                                        (
+                                                                          opcode_88
+                                                                              known,
+                                                                          (
+                                                                            opcode_89 known,
+                                                                            tt,
+                                                                          ),
+                                                                        ),
+                                                                      ),
                                                                     ),
                                                                   ),
                                                                 ),

@@ -1,5 +1,5 @@
 -- All that lines owe.
-use Rattle.std.proofs.Common.{◌≡◌, ◌∙◌, ℕ, ℤ, pos, negsuc, true, List, ◌++◌, map, refl, sym, ap, subst}
+use Rattle.std.proofs.Common.{◌≡◌, ℕ, ℤ, pos, negsuc, true, List, ◌++◌, refl, sym, subst}
 use Rattle.std.specs.List.{AllByRecursion, list_all}
 use Rattle.std.proofs.lemmas.List.{map-append}
 use Rattle.inform_tree.specs.declared.widths.Width.{Width}
@@ -9,17 +9,14 @@ use Rattle.inform_logic.specs.Holding.{Holds}
 use Rattle.inform_logic.proofs.Holding.{holds_first, holds_rest}
 use Rattle.inform_codes.specs.Routines.{Row, row_routine, rows_directives}
 use Rattle.scott_types.specs.declared.styles.Style.{Style}
-use Rattle.scott_types.specs.Database.{Database}
 use Rattle.trans_rows.specs.Wide.{is_word_of}
-use Rattle.trans_rows.specs.Programs.{Serves}
-use Rattle.trans_rows.specs.Owed.{Translates}
 use Rattle.trans_rows.specs.Laws.{LinesAreNumbered, HasWords}
 use Rattle.trans_actions.specs.declared.table.Kind.TheVariants.{Condition, Opcode}
 use Rattle.trans_actions.specs.Names.{action_names, numbers}
-use Rattle.trans_actions.specs.Helpers.{uses, Helper, conditions, opcodes, refill, used_rows, helper_rows, helper_directives}
-use Rattle.trans_actions.specs.Directives.{line_directives, action_directives}
+use Rattle.trans_actions.specs.Helpers.{uses, conditions, opcodes, refill, used_rows, helper_directives}
+use Rattle.trans_actions.specs.Directives.{line_directives}
 use Rattle.trans_actions.specs.Laws.{LinesOwe}
-use Rattle.trans_actions.proofs.Known.{Laws, Known, is_unnoted, own_rows}
+use Rattle.trans_actions.proofs.Known.{Laws, is_unnoted, own_rows}
 use Rattle.trans_actions.proofs.Light.{light_word}
 use Rattle.trans_actions.proofs.LineRuns.{line_row}
 

@@ -12,6 +12,6 @@ returns-in-Ok c = ap (database_or_unfit c.args.name.now) c.in-Ok.ensures.as_read
 pub returns-in-Err : goal.returns-in-Err
 returns-in-Err c =
     subst (λ (r : Option Refusal). Declines (database_of_file c.args.name.now c.args.bytes.now) r)
-        (sym c.refusal_for.ensures)
+    (sym c.refusal_for.ensures)
     (database-declined c.args.name.now (database_in c.args.bytes.now) c.in-Err.fault
     c.in-Err.ensures.as_read)

@@ -23,9 +23,14 @@ returns-in-Err-Absent g c =
     record {
       fetched = record {
         found = tt;
-        missed = ((load_of c.args.load, refl, refl), inr
-            (lacks.0, file-absent (g.S.Shelf.seen c.args.shelf.now).files
-            (load_of c.args.load) lacks.0));
+        missed = (
+          (load_of c.args.load, refl, refl),
+          inr (
+            lacks.0,
+            file-absent (g.S.Shelf.seen c.args.shelf.now).files
+                (load_of c.args.load) lacks.0,
+          ),
+        );
         files_stay = c.load.ensures.files_stay;
         later = c.load.ensures.later;
         steady = tt;
@@ -37,8 +42,11 @@ pub returns-in-Err-Failed : goal.returns-in-Err-Failed
 returns-in-Err-Failed g c = record {
   fetched = record {
     found = tt;
-    missed = ((load_of c.args.load, refl, refl), inl (rw c.in-Err-Failed.field-0-is at
-        c.in-Err-Failed.ensures.refused));
+    missed = (
+      (load_of c.args.load, refl, refl),
+      inl (rw c.in-Err-Failed.field-0-is at
+          c.in-Err-Failed.ensures.refused),
+    );
     files_stay = c.load.ensures.files_stay;
     later = c.load.ensures.later;
     steady = tt;
@@ -52,8 +60,11 @@ returns-in-Err-TooLong g c =
     record {
       fetched = record {
         found = tt;
-        missed = (file-long (load_of c.args.load) _ longer.0
-            (g.S.Shelf.seen c.args.shelf.now).files longer.1, longer.2);
+        missed = (
+          file-long (load_of c.args.load) _ longer.0
+              (g.S.Shelf.seen c.args.shelf.now).files longer.1,
+          longer.2,
+        );
         files_stay = c.load.ensures.files_stay;
         later = c.load.ensures.later;
         steady = tt;

@@ -9,6 +9,6 @@ pub returns-in-Ok : goal.returns-in-Ok
 returns-in-Ok c = (
   storing c.args.game.now (canon c.in_ok-db.db),
   ap (λ r. r >>= λ db. Ok (storing c.args.game.now (canon db)))
-  (rw c.deref.ensures.value at c.in_ok-db.ensures),
+      (rw c.deref.ensures.value at c.in_ok-db.ensures),
   λ lines. ap (keeping c.args.game.now) c.in-Ok.ensures,
 )

@@ -9,6 +9,6 @@ pub returns-in-Ok : goal.returns-in-Ok
 returns-in-Ok c = (
   storing c.args.source.now (plain c.in_ok-db.db),
   ap (λ r. r >>= λ db. Ok (storing c.args.source.now (plain db)))
-  (rw c.deref.ensures.value at c.in_ok-db.ensures),
+      (rw c.deref.ensures.value at c.in_ok-db.ensures),
   λ lines. ap (keeping c.args.source.now) c.in-Ok.ensures.plain,
 )

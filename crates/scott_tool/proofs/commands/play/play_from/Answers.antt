@@ -14,7 +14,7 @@ returns-in-Ok g c = λ shelf.
     let given = ap (playing_from c.args.style c.args.db.now)
     (rw c.deref.ensures.value at c.in-Ok.ensures) in
     subst (λ (r : Result Task Unfit). Obeys shelf shelf (g.C.Console.seen c.args.console.now)
-        (g.C.Console.seen c.play_with.new.console) (refusing r) c.play_with.result)
+    (g.C.Console.seen c.play_with.new.console) (refusing r) c.play_with.result)
     (sym given) (c.play_with.ensures shelf)
 
 pub returns-in-Err : goal.returns-in-Err

@@ -23,7 +23,7 @@ returns g c = λ shelf.
     let wide = ap (λ (width : Width). running_from width
     (directives_of c.in-Ok.accepted) c.args.steps drawn) c.in-Ok.ensures.width in
     subst (λ (r : Result Task Unfit). Obeys shelf shelf (g.C.Console.seen c.args.console.now)
-        (g.C.Console.seen c.run_from-status.new.console) (refusing r) c.run_from-status.result)
+    (g.C.Console.seen c.run_from-status.new.console) (refusing r) c.run_from-status.result)
     (wide ∙ sym given) (c.run_from-status.ensures shelf)
 
 pub returns-in-Err : goal.returns-in-Err

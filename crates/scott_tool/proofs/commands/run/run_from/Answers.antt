@@ -16,7 +16,7 @@ returns-in-Ok g c = λ shelf.
     let given = ap (running_from accepted.width (directives_of accepted) c.args.steps)
     (rw c.deref.ensures.value at c.in-Ok.ensures) in
     subst (λ (r : Result Task Unfit). Obeys shelf shelf (g.C.Console.seen c.args.console.now)
-        (g.C.Console.seen c.run_with.new.console) (refusing r) c.run_with.result)
+    (g.C.Console.seen c.run_with.new.console) (refusing r) c.run_with.result)
     (sym given) (c.run_with.ensures shelf)
 
 pub returns-in-Err : goal.returns-in-Err
