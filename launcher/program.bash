@@ -18,7 +18,7 @@ look_at_sources() {
         cd "$top" && find "${parts[@]}" -type d 2>/dev/null
         find_sources
     )
-    looks=$(printf '%s\n' "${looked_at[@]}" | look)
+    looks=$(look "${looked_at[@]}")
     summed=$(sums)
 }
 

@@ -14,9 +14,15 @@ say() {
     printf 'scott: %s\n' "${text//[^[:print:]]/?}" >&2
 }
 
-# The names, sizes and times of files and folders whose names stand on standard input.
+# The sizes and times of files and folders, in the order of their names. One that isn't there has no line.
 look() {
-    cd "$top" && exec xargs stat -c '%n %s %.9Z' 2>/dev/null
+    cd "$top" && exec stat -c '%s %.9Z' "$@" 2>/dev/null
+}
+
+# The same of those whose names a file lists.
+look_at() {
+    local names
+    mapfile -t names <"$1" && look "${names[@]}"
 }
 
 # Whether a folder has the program of these sources, as a start has noted: they are as they were then, and no other
@@ -24,5 +30,6 @@ look() {
 # quarter of them is looked at beside the others, since there are some thousands.
 is_noted() {
     [ -x "$1/scott" ] && [ -s "$1/noted" ] &&
-        cat <(look <"$1/names.0") <(look <"$1/names.1") <(look <"$1/names.2") <(look <"$1/names.3") | cmp -s - "$1/noted"
+        cat <(look_at "$1/names.0") <(look_at "$1/names.1") <(look_at "$1/names.2") <(look_at "$1/names.3") |
+        cmp -s - "$1/noted"
 } 2>/dev/null
