@@ -17,6 +17,7 @@ PARAMETERS = {52: 1, 53: 1, 54: 1, 55: 1, 58: 1, 59: 1, 60: 1, 62: 2, 72: 2, 74:
               79: 1, 81: 1, 82: 1, 83: 1, 87: 1, 89: 1}
 ENDING = (63,)
 EXITING = (61, 63, 65)
+STYLES = ("", "y", "c", "v", "yc", "yv", "cv", "ycv")
 
 
 def some_bytes(r, length, pool):
@@ -218,10 +219,9 @@ class Styles(Games):
     """Random small games, played in the eight styles in turn."""
 
     name = "styles"
-    STYLES = ("", "y", "c", "v", "yc", "yv", "cv", "ycv")
 
     def played(self, r, m, d, i):
-        style = self.STYLES[i % len(self.STYLES)]
+        style = STYLES[i % len(STYLES)]
         words, files, stdin = super().played(r, m, d, i)
         if style:
             words.insert(r.randint(2, len(words)), "style=" + style)

@@ -5,7 +5,7 @@ use crate::refusals::{self, USAGE};
 use crate::trying::{
     Case, File, NOTHING, Translated, answer_of, console_of, expect, expect_translated, steps_needed,
 };
-use crate::{expect, runs, sources, translations};
+use crate::{expect, lines, runs, sources, translations};
 use adv_io::{MemoryConsole, MemoryShelf};
 use scott_tool::{scott, status_without_words};
 use std::io::ErrorKind;
@@ -70,13 +70,23 @@ fn plain_of<'a>(play: &Case<'a>) -> Translated<'a> {
     }
 }
 
-#[test]
-fn lines_are_translated(rt: HostRuntime) {
-    for cases in translations::PLAIN {
+// Each of these plays, and the run of its game's program.
+fn expect_all_plain<R: Abort + AllocGlobal>(rt: &R, tables: &[&[Case<'_>]]) {
+    for cases in tables {
         for case in cases.iter() {
-            expect_translated(&rt, &plain_of(case));
+            expect_translated(rt, &plain_of(case));
         }
     }
+}
+
+#[test]
+fn lines_are_translated(rt: HostRuntime) {
+    expect_all_plain(&rt, &translations::PLAIN);
+}
+
+#[test]
+fn lines_near_a_rule_are_translated(rt: HostRuntime) {
+    expect_all_plain(&rt, &lines::ALL);
 }
 
 #[test]
@@ -116,6 +126,27 @@ const ARRAYS: &[&str] = &[
 fn arrays_have_an_entry_more(rt: HostRuntime) {
     let shelf = expect_translated(&rt, &translations::CELL);
     expect_parts(&rt, &shelf, ARRAYS);
+}
+
+// What follows a get stands in two branches.
+const BRANCHES: &[&str] = &[
+    "\n[ line_0 ;\nif ( op_52 ( 0 ) ) {\nop_53 ( 1 ) ;\n}\n\
+    else {\nop_53 ( 0 ) ;\n}\nreturn 1 ;\n] ;\n",
+];
+
+#[test]
+fn gets_have_two_branches(rt: HostRuntime) {
+    let shelf = expect_translated(&rt, &translations::BRANCHES);
+    expect_parts(&rt, &shelf, BRANCHES);
+}
+
+// A message is one string.
+const STRINGS: &[&str] = &["\"@@64@@53 @@126 @@94 @@92"];
+
+#[test]
+fn messages_are_strings(rt: HostRuntime) {
+    let shelf = expect_translated(&rt, &translations::STRINGS);
+    expect_parts(&rt, &shelf, STRINGS);
 }
 
 // A byte that is no character of its own.

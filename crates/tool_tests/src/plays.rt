@@ -94,8 +94,8 @@ const COUNTED: Case<'static> = Case {
     ..WALK
 };
 
-// A message of characters that Inform writes otherwise.
-const ODD_MESSAGE: Case<'static> = Case {
+/// A message of characters that Inform writes otherwise.
+pub const ODD_MESSAGE: Case<'static> = Case {
     game: File::Of(Game {
         actions: &["450 0 0 0 0 0 150 0"],
         messages: &["\"\"", "\"@5 ~ ^ \\\""],

@@ -3,7 +3,7 @@
 use crate::games::{Game, T};
 use crate::plays::{
     ALL_STYLES, ASK, BLANK_LINE, DRAWS, ENDINGS, GET_ALL, HALL, LIGHTS, LINES,
-    NO as NOT_UNDERSTOOD, REFUSED_GET, SPOKEN_TO, VANISHED, WALK,
+    NO as NOT_UNDERSTOOD, ODD_MESSAGE, REFUSED_GET, SPOKEN_TO, VANISHED, WALK,
 };
 use crate::refusals::USAGE;
 use crate::trying::{Case, File, NOTHING, Translated};
@@ -267,6 +267,12 @@ pub const OF_A_VERB: [Translated<'static>; 2] = [
 /// A get that something follows: what follows stands in two branches.
 pub const BRANCHES: Translated<'static> = Translated {
     play: REFUSED_GET,
+    ..STORED
+};
+
+/// A message of characters that Inform writes otherwise.
+pub const STRINGS: Translated<'static> = Translated {
+    play: ODD_MESSAGE,
     ..STORED
 };
 

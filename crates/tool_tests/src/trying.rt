@@ -153,19 +153,28 @@ fn expect_given<R: Abort + AllocGlobal>(
     case: &Case<'_>,
     shelf: &mut MemoryShelf,
     said: &[u8],
-) {
+) -> MemoryConsole {
     let (status, console) = given(rt, command, case, shelf);
     expect!(rt; status == 0, command);
     expect!(rt; console.said() == said, command);
+    console
 }
 
-/// Plays a game, translates it without a word, and expects that the run of what is stored says what
-/// the play says. Gives the shelf with it.
+// Expects that each of so many lines was taken on both consoles, after as many bytes, or on none.
+fn expect_marks(rt: &impl Abort, lines: usize, one: &MemoryConsole, other: &MemoryConsole) {
+    for i in 0..lines {
+        expect!(rt; one.mark(i) == other.mark(i), "a line is taken in another place");
+    }
+}
+
+/// Plays a game, translates it without a word, and expects that the run of what is stored has the
+/// history of the play: the same lines, each after the same bytes. Gives the shelf with it.
 pub fn expect_translated<R: Abort + AllocGlobal>(rt: &R, case: &Translated<'_>) -> MemoryShelf {
     let played = expect(rt, &case.play);
     let mut shelf = shelf_of(rt, &case.play);
     expect_given(rt, case.translate, &NOTHING, &mut shelf, b"");
-    expect_given(rt, case.run, &case.play, &mut shelf, played.said());
+    let ran = expect_given(rt, case.run, &case.play, &mut shelf, played.said());
+    expect_marks(rt, case.play.lines.len(), &played, &ran);
     shelf
 }
 
