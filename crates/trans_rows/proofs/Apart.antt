@@ -1,5 +1,5 @@
 -- Directives that are no routine of a line or a group, by their names.
-use Rattle.std.proofs.Common.{◌≡◌, ◌∙◌, ℕ, zero, suc, nat_eq, Bool, true, false, not, List, [], ◌∷◌, slice_get, codes, Some, refl, sym, ap, true≢false}
+use Rattle.std.proofs.Common.{◌≡◌, ◌∙◌, ℕ, zero, suc, nat_eq, Bool, true, not, List, [], ◌∷◌, slice_get, codes, Some, sym, ap, true≢false}
 use Rattle.std.specs.List.{list_all, starts_with}
 use Rattle.std.proofs.lemmas.Bool.{and_parts}
 use Rattle.inform_tree.specs.Programs as t

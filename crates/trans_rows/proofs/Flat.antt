@@ -1,17 +1,16 @@
 -- Tables in which each row stands after the one before it.
-use Rattle.std.proofs.Common.{◌≡◌, ◌∙◌, arith, ℕ, zero, suc, ◌+◌, ◌-◌, ◌*◌, ◌<◌, ◌≤◌, ℤ, pos, min, Bool, true, false, ◌&&◌, ◌==◌, if◌then◌else◌, List, [], ◌∷◌, ◌++◌, map, length, take, drop, replicate, flat_map, slice_index, slice_index_or, refl, sym, ap, append_assoc, length-take}
+use Rattle.std.proofs.Common.{◌≡◌, ◌∙◌, arith, ℕ, zero, suc, ◌+◌, ◌-◌, ◌*◌, ◌<◌, ◌≤◌, ℤ, pos, Bool, true, false, ◌&&◌, ◌==◌, if◌then◌else◌, List, [], ◌∷◌, ◌++◌, map, length, take, replicate, flat_map, slice_index, slice_index_or, refl, ap, append_assoc}
 use Rattle.std.specs.List.{list_all}
 use Rattle.std.specs.Char.{is_ascii_graphic, to_ascii_lowercase}
 use Rattle.std.proofs.lemmas.Bool.{and_parts}
 use Rattle.std.proofs.lemmas.List.{length-append, length-map, length-replicate, get_or_append_left, get_or-append-add}
 use Rattle.scott_types.specs.declared.parts.Room.{Room}
-use Rattle.scott_types.specs.declared.commands.Column.{Column}
-use Rattle.scott_types.specs.Database.{Database, room_at}
-use Rattle.scott_types.specs.Limits.{is_number, is_file_text, is_room, KeepsLimits}
-use Rattle.scott_types.specs.Room.{room_beyond, exit_of}
+use Rattle.scott_types.specs.Database.{room_at}
+use Rattle.scott_types.specs.Limits.{is_number, is_file_text, is_room}
+use Rattle.scott_types.specs.Room.{room_beyond}
 use Rattle.scott_rules.specs.Words.{spelling, entries_of}
 use Rattle.scott_vocab.specs.Keys.{letters}
-use Rattle.trans_rows.specs.Tables.{filled_up, printed_letters, entry_letters, word_letters, exits_of_room, exits}
+use Rattle.trans_rows.specs.Tables.{filled_up, printed_letters, entry_letters, exits_of_room}
 use Rattle.trans_rows.specs.Laws.{ExitsStand, LettersStand}
 
 -- an entry of a row, where each row has as many

@@ -1,5 +1,5 @@
 -- Where no number of a database is too wide, the numbers of its lines are words.
-use Rattle.std.proofs.Common.{◌≡◌, arith, ℕ, ◌+◌, ◌/◌, ◌%◌, ◌<◌, pos, Bool, true, false, not, cond, List, [], ◌∷◌, ◌++◌, find, Option, Some, None, refl}
+use Rattle.std.proofs.Common.{◌≡◌, arith, ℕ, ◌+◌, ◌/◌, ◌%◌, ◌<◌, pos, Bool, true, false, not, cond, List, [], ◌∷◌, ◌++◌, find, Some, None, refl}
 use Rattle.std.specs.Prelude.{flat_map}
 use Rattle.std.specs.List.{AllByRecursion}
 use Rattle.std.proofs.lemmas.Int.{ints}

@@ -1,5 +1,5 @@
 -- Routines that do what is owed.
-use Rattle.std.proofs.Common.{◌≡◌, ◌∙◌, arith, ℕ, suc, ◌-◌, ◌<◌, ◌≤◌, pos, nat_lt, Bool, true, if◌then◌else◌, List, [], ◌∷◌, ◌++◌, length, slice_index_or, Some, refl, sym, ap, subst, append_assoc}
+use Rattle.std.proofs.Common.{◌≡◌, ◌∙◌, arith, ℕ, suc, ◌<◌, pos, nat_lt, Bool, true, if◌then◌else◌, List, [], ◌∷◌, ◌++◌, length, slice_index_or, Some, refl, sym, ap, subst, append_assoc}
 use Rattle.adv_io.specs.Steps.{Noted, said_steps}
 use Rattle.inform_meaning.specs.Worlds.{Program}
 use Rattle.inform_logic.specs.Stages.{Stage, with_past, said}

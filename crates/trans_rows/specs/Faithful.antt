@@ -1,6 +1,6 @@
 -- What it is for a program to be faithful to a database.
 use Rattle.std.specs.Prelude.{◌≡◌, ℕ, ◌≤◌, List, length, Option, Some, None}
-use Rattle.std.specs.List.{AllByRecursion}
+use Rattle.std.specs.List.{AllByRecursion, filter_map}
 use Rattle.adv_io.specs.Steps.{Step, Traced, noted}
 use Rattle.adv_io.specs.TypedLine.{IsTyped}
 use Rattle.adv_draws.specs.Run.{AllDraws}
@@ -8,6 +8,8 @@ use Rattle.inform_tree.specs.declared.widths.Width.{Width}
 use Rattle.inform_tree.specs.Programs.{DirectiveTree}
 use Rattle.inform_names.specs.Acceptance.{name_fault}
 use Rattle.inform_meaning.specs.Programs.{no_notes, run_of}
+use Rattle.inform_entered.specs.Entered.{entered}
+use Rattle.inform_entered.specs.Laws.{number_at}
 use Rattle.scott_types.specs.declared.states.State.{State}
 use Rattle.scott_types.specs.declared.styles.Style.{Style}
 use Rattle.scott_types.specs.declared.endings.Position.{Position}
@@ -16,7 +18,7 @@ use Rattle.scott_types.specs.Database.{Database}
 use Rattle.scott_types.specs.State.{start}
 use Rattle.scott_types.specs.Style.{in_style}
 use Rattle.scott_rules.specs.Play.{PlayEnd, go}
-use Rattle.trans_rows.specs.Names.{line_notes}
+use Rattle.trans_rows.specs.Names.{line_number}
 use Rattle.trans_rows.specs.Steps.{enough}
 use Rattle.trans_rows.specs.Same.{Same}
 use Rattle.trans_rows.specs.Shaped.{Shaped}
@@ -37,9 +39,10 @@ opening_position (Some s) = Line
 abbrev pub tried : Traced Step PlayEnd → List ℕ
 tried play = noted play.events
 
+-- the numbers of the routines of lines that a run enters, in order
 abbrev pub line_calls : Width → List DirectiveTree → ℕ → List (List ℕ) → List ℕ → List ℕ
 line_calls width ds steps lines draws =
-    noted (run_of width ds line_notes steps lines draws).1.past
+    filter_map (number_at line_number ds) (entered width ds steps lines draws)
 
 -- ---- what is faithful
 

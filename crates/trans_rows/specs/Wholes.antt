@@ -1,7 +1,7 @@
 -- From the rounds of a translated game to its whole run.
 use Rattle.std.specs.Prelude.{◌≡◌, ℕ, ◌≤◌, List, ◌++◌, length, Option}
 use Rattle.std.specs.List.{AllByRecursion}
-use Rattle.adv_io.specs.Steps.{Step, Traced}
+use Rattle.adv_io.specs.Steps.{Step, Traced, noted}
 use Rattle.adv_io.specs.TypedLine.{IsTyped}
 use Rattle.adv_draws.specs.Run.{AllDraws}
 use Rattle.inform_tree.specs.declared.widths.Width.{Width}
@@ -20,13 +20,13 @@ use Rattle.trans_rows.specs.Directives.{data_directives}
 use Rattle.trans_rows.specs.TurnRows.{MainRow}
 use Rattle.trans_rows.specs.Owed.{Translates}
 use Rattle.trans_rows.specs.Same.{Same}
-use Rattle.trans_rows.specs.Faithful.{opening_state, opening_position, tried, line_calls}
+use Rattle.trans_rows.specs.Faithful.{opening_state, opening_position, tried}
 
--- a play, and the run that notes its lines, are the same and try the same lines
+-- a play, and the run that notes its lines, are the same, and what was tried is what is noted
 pub record NotedAlike (width : Width) (ds : List DirectiveTree) (steps : ℕ)
     (lines : List (List ℕ)) (draws : List ℕ) (play : Traced Step PlayEnd) : Type 0 where
   pub same : Same play (run_of width ds line_notes steps lines draws)
-  pub same_lines : tried play ≡ line_calls width ds steps lines draws
+  pub same_lines : tried play ≡ noted (run_of width ds line_notes steps lines draws).1.past
 
 -- a translated game: its tables, and other directives
 abbrev pub game_directives : Database → Option State → List DirectiveTree → List DirectiveTree

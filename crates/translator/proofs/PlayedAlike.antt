@@ -9,13 +9,14 @@ use Rattle.inform_meaning.specs.Programs.{no_notes, program_in, run_of}
 use Rattle.inform_logic.specs.Holding.{Holds, Distinct}
 use Rattle.inform_logic.specs.Laws.{ProgramHolds, SameButNotes, NotesCountForNothing}
 use Rattle.inform_logic.proofs.Holding.{holds_first, holds_rest}
+use Rattle.inform_entered.specs.Laws.{EnteredAreNoted}
 use Rattle.scott_types.specs.declared.states.State.{State}
 use Rattle.scott_types.specs.declared.styles.Style.{Style}
 use Rattle.scott_types.specs.Database.{Database}
 use Rattle.scott_types.specs.State.{Fits}
 use Rattle.scott_types.specs.Style.{in_style}
 use Rattle.scott_rules.specs.Play.{PlayEnd, go}
-use Rattle.trans_rows.specs.Names.{message_name, line_notes}
+use Rattle.trans_rows.specs.Names.{message_name, line_number, line_notes}
 use Rattle.trans_rows.specs.Directives.{data_directives}
 use Rattle.trans_rows.specs.Programs.{HasRoutine, Serves}
 use Rattle.trans_rows.specs.ActionRows.{LineRow}
@@ -83,11 +84,11 @@ without_notes play r r' alike same = subst (Same play) (sym alike.is) (record {
 
 -- ---- all of it
 
-module _ (holds : ProgramHolds) (notes : NotesCountForNothing) (main : MainIsEnough)
-    (texts : DataOwes) (helpers : HelpersOwe) (lines_law : LinesOwe) (turns : TurnOwesAll)
-    (words : LinesAreHeard) (distinct : ProgramsAreDistinct) (style : Style) (width : Width)
-    (db : Database) (from : Option State) (translates : Translates width db)
-    (fits : Fits db (opening_state db from)) where
+module _ (holds : ProgramHolds) (notes : NotesCountForNothing) (entries : EnteredAreNoted)
+    (main : MainIsEnough) (texts : DataOwes) (helpers : HelpersOwe) (lines_law : LinesOwe)
+    (turns : TurnOwesAll) (words : LinesAreHeard) (distinct : ProgramsAreDistinct)
+    (style : Style) (width : Width) (db : Database) (from : Option State)
+    (translates : Translates width db) (fits : Fits db (opening_state db from)) where
   abbrev ds : List DirectiveTree
   ds = game_program style db from
 
@@ -157,16 +158,16 @@ module _ (holds : ProgramHolds) (notes : NotesCountForNothing) (main : MainIsEno
             (run_of width ds line_notes steps lines draws)
             (run_of width ds no_notes steps lines draws)
             (notes width ds line_notes no_notes steps lines draws) noted.same;
-        same_lines = noted.same_lines;
+        same_lines = noted.same_lines ∙ entries width ds line_number steps lines draws;
       }
 
-pub programs_are_faithful : ProgramHolds → NotesCountForNothing → MainIsEnough → DataOwes
-    → HelpersOwe → LinesOwe → TurnOwesAll → LinesAreHeard → ProgramsAreDistinct
+pub programs_are_faithful : ProgramHolds → NotesCountForNothing → EnteredAreNoted → MainIsEnough
+    → DataOwes → HelpersOwe → LinesOwe → TurnOwesAll → LinesAreHeard → ProgramsAreDistinct
     → ProgramsAreAccepted → ProgramsAreShaped → ProgramsAreFaithful
-programs_are_faithful holds notes main texts helpers lines turns words distinct accepted shaped
-    style width db from translates fits = record {
+programs_are_faithful holds notes entries main texts helpers lines turns words distinct accepted
+    shaped style width db from translates fits = record {
       accepted = accepted style width db from translates fits;
       shaped = shaped style db from translates.limits;
-      alike = always_alike holds notes main texts helpers lines turns words distinct style width db
-          from translates fits;
+      alike = always_alike holds notes entries main texts helpers lines turns words distinct style
+          width db from translates fits;
     }

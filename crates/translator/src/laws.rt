@@ -1,6 +1,7 @@
 //! The law of translated games. It is the contract of a function that does nothing else.
 ghost use Rattle.translator.specs.Laws.{ProgramsAreFaithful};
 
+use inform_entered::laws::entered_are_noted;
 use inform_logic::laws::{notes_count_for_nothing, program_holds};
 use trans_actions::laws::lines_owe;
 use trans_data::laws::{data_owes, helpers_owe};
@@ -15,6 +16,7 @@ pub fn programs_are_faithful()
 {
     program_holds();
     notes_count_for_nothing();
+    entered_are_noted();
     main_is_enough();
     data_owes();
     helpers_owe();

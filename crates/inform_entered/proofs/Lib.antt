@@ -1,0 +1,4 @@
+mod OneStepMore
+mod OneStepMoreTrees
+mod Entered
+mod Examples
