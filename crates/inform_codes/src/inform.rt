@@ -15,171 +15,197 @@
 /// }
 /// ```
 ///
-/// What waits to be written stands after the codes: statements (`s`), arguments (`a`), the cases of
-/// a switch (`w`), conditions (`c`) and values (`e`), each a group of its own.
+/// A rule looks at what is written next, then the codes so far, and then what waits: statements
+/// (`s`), arguments (`a`), the cases of a switch (`w`), conditions (`c`) and values (`e`), each a
+/// group of its own. So a rule that doesn't fit is passed over at once: the compiler bounds what it
+/// does for one macro. Calls within calls are bounded too, and most codes take one; so a number
+/// that is returned, and a name as an argument or as an index, have rules that write all of it.
 #[macro_export]
 macro_rules! inform {
-    (@ [$($done:tt)*]) => { [$($done)*] };
-    (@ [$($d:tt)*] (s) $($w:tt)*) => {
-        $crate::inform!(@ [$($d)* $crate::Code::End,] $($w)*)
+    (@ (s) [$($done:tt)*]) => { [$($done)* $crate::Code::End] };
+    (@ (s) [$($d:tt)*] $n:tt $($w:tt)*) => {
+        $crate::inform!(@ $n [$($d)* $crate::Code::End,] $($w)*)
     };
-    (@ [$($d:tt)*] (s if ($($c:tt)*) { $($a:tt)* } else { $($b:tt)* } $($r:tt)*) $($w:tt)*) => {
-        $crate::inform!(@ [$($d)* $crate::Code::If,]
-            (c $($c)*) (s $($a)*) (s $($b)*) (s $($r)*) $($w)*)
+    (@ (s if ($($c:tt)*) { $($a:tt)* } else { $($b:tt)* } $($r:tt)*) [$($d:tt)*] $($w:tt)*) => {
+        $crate::inform!(@ (c $($c)*) [$($d)* $crate::Code::If,]
+            (s $($a)*) (s $($b)*) (s $($r)*) $($w)*)
     };
-    (@ [$($d:tt)*] (s if ($($c:tt)*) { $($a:tt)* } $($r:tt)*) $($w:tt)*) => {
-        $crate::inform!(@ [$($d)* $crate::Code::If,]
-            (c $($c)*) (s $($a)*) (s) (s $($r)*) $($w)*)
+    (@ (s if ($($c:tt)*) { $($a:tt)* } $($r:tt)*) [$($d:tt)*] $($w:tt)*) => {
+        $crate::inform!(@ (c $($c)*) [$($d)* $crate::Code::If,] (s $($a)*) (s) (s $($r)*) $($w)*)
     };
-    (@ [$($d:tt)*] (s while ($($c:tt)*) { $($a:tt)* } $($r:tt)*) $($w:tt)*) => {
-        $crate::inform!(@ [$($d)* $crate::Code::While,] (c $($c)*) (s $($a)*) (s $($r)*) $($w)*)
+    (@ (s while ($($c:tt)*) { $($a:tt)* } $($r:tt)*) [$($d:tt)*] $($w:tt)*) => {
+        $crate::inform!(@ (c $($c)*) [$($d)* $crate::Code::While,] (s $($a)*) (s $($r)*) $($w)*)
     };
-    (@ [$($d:tt)*] (s for ($i:ident = $x:tt; $($c:tt)*) { $($a:tt)* } $($r:tt)*) $($w:tt)*) => {
-        $crate::inform!(@ [$($d)* $crate::Code::For($i),]
-            (e $x) (c $($c)*) (s $($a)*) (s $($r)*) $($w)*)
+    (@ (s for ($i:ident = $x:tt; $($c:tt)*) { $($a:tt)* } $($r:tt)*) [$($d:tt)*] $($w:tt)*) => {
+        $crate::inform!(@ (e $x) [$($d)* $crate::Code::For($i),]
+            (c $($c)*) (s $($a)*) (s $($r)*) $($w)*)
     };
-    (@ [$($d:tt)*] (s switch ($x:tt) { $($k:tt)* } $($r:tt)*) $($w:tt)*) => {
-        $crate::inform!(@ [$($d)* $crate::Code::Switch,] (e $x) (w $($k)*) (s $($r)*) $($w)*)
+    (@ (s switch ($x:tt) { $($k:tt)* } $($r:tt)*) [$($d:tt)*] $($w:tt)*) => {
+        $crate::inform!(@ (e $x) [$($d)* $crate::Code::Switch,] (w $($k)*) (s $($r)*) $($w)*)
     };
-    (@ [$($d:tt)*] (s return $x:tt; $($r:tt)*) $($w:tt)*) => {
-        $crate::inform!(@ [$($d)* $crate::Code::Return,] (e $x) (s $($r)*) $($w)*)
+    (@ (s return $n:literal; $($r:tt)*) [$($d:tt)*] $($w:tt)*) => {
+        $crate::inform!(@ (s $($r)*) [$($d)* $crate::Code::Return, $crate::Code::Number($n),]
+            $($w)*)
     };
-    (@ [$($d:tt)*] (s rtrue; $($r:tt)*) $($w:tt)*) => {
-        $crate::inform!(@ [$($d)* $crate::Code::Rtrue,] (s $($r)*) $($w)*)
+    (@ (s return $x:tt; $($r:tt)*) [$($d:tt)*] $($w:tt)*) => {
+        $crate::inform!(@ (e $x) [$($d)* $crate::Code::Return,] (s $($r)*) $($w)*)
     };
-    (@ [$($d:tt)*] (s rfalse; $($r:tt)*) $($w:tt)*) => {
-        $crate::inform!(@ [$($d)* $crate::Code::Rfalse,] (s $($r)*) $($w)*)
+    (@ (s rtrue; $($r:tt)*) [$($d:tt)*] $($w:tt)*) => {
+        $crate::inform!(@ (s $($r)*) [$($d)* $crate::Code::Rtrue,] $($w)*)
     };
-    (@ [$($d:tt)*] (s break; $($r:tt)*) $($w:tt)*) => {
-        $crate::inform!(@ [$($d)* $crate::Code::Break,] (s $($r)*) $($w)*)
+    (@ (s rfalse; $($r:tt)*) [$($d:tt)*] $($w:tt)*) => {
+        $crate::inform!(@ (s $($r)*) [$($d)* $crate::Code::Rfalse,] $($w)*)
     };
-    (@ [$($d:tt)*] (s quit; $($r:tt)*) $($w:tt)*) => {
-        $crate::inform!(@ [$($d)* $crate::Code::Quit,] (s $($r)*) $($w)*)
+    (@ (s break; $($r:tt)*) [$($d:tt)*] $($w:tt)*) => {
+        $crate::inform!(@ (s $($r)*) [$($d)* $crate::Code::Break,] $($w)*)
     };
-    (@ [$($d:tt)*] (s new_line; $($r:tt)*) $($w:tt)*) => {
-        $crate::inform!(@ [$($d)* $crate::Code::NewLine,] (s $($r)*) $($w)*)
+    (@ (s quit; $($r:tt)*) [$($d:tt)*] $($w:tt)*) => {
+        $crate::inform!(@ (s $($r)*) [$($d)* $crate::Code::Quit,] $($w)*)
     };
-    (@ [$($d:tt)*] (s print value $x:tt; $($r:tt)*) $($w:tt)*) => {
-        $crate::inform!(@ [$($d)* $crate::Code::PrintValue,] (e $x) (s $($r)*) $($w)*)
+    (@ (s new_line; $($r:tt)*) [$($d:tt)*] $($w:tt)*) => {
+        $crate::inform!(@ (s $($r)*) [$($d)* $crate::Code::NewLine,] $($w)*)
     };
-    (@ [$($d:tt)*] (s print char $x:tt; $($r:tt)*) $($w:tt)*) => {
-        $crate::inform!(@ [$($d)* $crate::Code::PrintChar,] (e $x) (s $($r)*) $($w)*)
+    (@ (s print value $x:tt; $($r:tt)*) [$($d:tt)*] $($w:tt)*) => {
+        $crate::inform!(@ (e $x) [$($d)* $crate::Code::PrintValue,] (s $($r)*) $($w)*)
     };
-    (@ [$($d:tt)*] (s print $t:ident; $($r:tt)*) $($w:tt)*) => {
-        $crate::inform!(@ [$($d)* $crate::Code::Print($t),] (s $($r)*) $($w)*)
+    (@ (s print char $x:tt; $($r:tt)*) [$($d:tt)*] $($w:tt)*) => {
+        $crate::inform!(@ (e $x) [$($d)* $crate::Code::PrintChar,] (s $($r)*) $($w)*)
     };
-    (@ [$($d:tt)*] (s read $a:ident $b:ident; $($r:tt)*) $($w:tt)*) => {
-        $crate::inform!(@ [$($d)* $crate::Code::Read($a, $b),] (s $($r)*) $($w)*)
+    (@ (s print $t:ident; $($r:tt)*) [$($d:tt)*] $($w:tt)*) => {
+        $crate::inform!(@ (s $($r)*) [$($d)* $crate::Code::Print($t),] $($w)*)
     };
-    (@ [$($d:tt)*] (s $a:ident --> $i:tt = $x:tt; $($r:tt)*) $($w:tt)*) => {
-        $crate::inform!(@ [$($d)* $crate::Code::SetEntry($a, true),] (e $i) (e $x) (s $($r)*) $($w)*)
+    (@ (s read $a:ident $b:ident; $($r:tt)*) [$($d:tt)*] $($w:tt)*) => {
+        $crate::inform!(@ (s $($r)*) [$($d)* $crate::Code::Read($a, $b),] $($w)*)
     };
-    (@ [$($d:tt)*] (s $a:ident -> $i:tt = $x:tt; $($r:tt)*) $($w:tt)*) => {
-        $crate::inform!(@ [$($d)* $crate::Code::SetEntry($a, false),] (e $i) (e $x) (s $($r)*) $($w)*)
+    (@ (s $a:ident --> $i:tt = $x:tt; $($r:tt)*) [$($d:tt)*] $($w:tt)*) => {
+        $crate::inform!(@ (e $i) [$($d)* $crate::Code::SetEntry($a, true),]
+            (e $x) (s $($r)*) $($w)*)
     };
-    (@ [$($d:tt)*] (s $v:ident++; $($r:tt)*) $($w:tt)*) => {
-        $crate::inform!(@ [$($d)* $crate::Code::Inc($v),] (s $($r)*) $($w)*)
+    (@ (s $a:ident -> $i:tt = $x:tt; $($r:tt)*) [$($d:tt)*] $($w:tt)*) => {
+        $crate::inform!(@ (e $i) [$($d)* $crate::Code::SetEntry($a, false),]
+            (e $x) (s $($r)*) $($w)*)
     };
-    (@ [$($d:tt)*] (s $v:ident--; $($r:tt)*) $($w:tt)*) => {
-        $crate::inform!(@ [$($d)* $crate::Code::Dec($v),] (s $($r)*) $($w)*)
+    (@ (s $v:ident++; $($r:tt)*) [$($d:tt)*] $($w:tt)*) => {
+        $crate::inform!(@ (s $($r)*) [$($d)* $crate::Code::Inc($v),] $($w)*)
     };
-    (@ [$($d:tt)*] (s $v:ident = $x:tt; $($r:tt)*) $($w:tt)*) => {
-        $crate::inform!(@ [$($d)* $crate::Code::Set($v),] (e $x) (s $($r)*) $($w)*)
+    (@ (s $v:ident--; $($r:tt)*) [$($d:tt)*] $($w:tt)*) => {
+        $crate::inform!(@ (s $($r)*) [$($d)* $crate::Code::Dec($v),] $($w)*)
     };
-    (@ [$($d:tt)*] (s $f:ident($($x:tt)*); $($r:tt)*) $($w:tt)*) => {
-        $crate::inform!(@ [$($d)* $crate::Code::Call($f),] (a $($x)*) (s $($r)*) $($w)*)
+    (@ (s $v:ident = $x:tt; $($r:tt)*) [$($d:tt)*] $($w:tt)*) => {
+        $crate::inform!(@ (e $x) [$($d)* $crate::Code::Set($v),] (s $($r)*) $($w)*)
     };
-    (@ [$($d:tt)*] (a) $($w:tt)*) => {
-        $crate::inform!(@ [$($d)* $crate::Code::NoMore,] $($w)*)
+    (@ (s $f:ident($($x:tt)*); $($r:tt)*) [$($d:tt)*] $($w:tt)*) => {
+        $crate::inform!(@ (a $($x)*) [$($d)* $crate::Code::Call($f),] (s $($r)*) $($w)*)
     };
-    (@ [$($d:tt)*] (a $x:tt) $($w:tt)*) => {
-        $crate::inform!(@ [$($d)* $crate::Code::Argument,] (e $x) (a) $($w)*)
+    (@ (a) [$($d:tt)*] $n:tt $($w:tt)*) => {
+        $crate::inform!(@ $n [$($d)* $crate::Code::NoMore,] $($w)*)
     };
-    (@ [$($d:tt)*] (a $x:tt, $($r:tt)*) $($w:tt)*) => {
-        $crate::inform!(@ [$($d)* $crate::Code::Argument,] (e $x) (a $($r)*) $($w)*)
+    (@ (a $v:ident) [$($d:tt)*] $n:tt $($w:tt)*) => {
+        $crate::inform!(@ $n [$($d)* $crate::Code::Argument, $crate::Code::Variable($v),
+            $crate::Code::NoMore,] $($w)*)
     };
-    (@ [$($d:tt)*] (w) $($w:tt)*) => {
-        $crate::inform!(@ [$($d)* $crate::Code::NoDefault,] $($w)*)
+    (@ (a $v:ident, $($r:tt)*) [$($d:tt)*] $($w:tt)*) => {
+        $crate::inform!(@ (a $($r)*) [$($d)* $crate::Code::Argument, $crate::Code::Variable($v),]
+            $($w)*)
     };
-    (@ [$($d:tt)*] (w default: { $($a:tt)* }) $($w:tt)*) => {
-        $crate::inform!(@ [$($d)* $crate::Code::Default,] (s $($a)*) $($w)*)
+    (@ (a $x:tt) [$($d:tt)*] $($w:tt)*) => {
+        $crate::inform!(@ (e $x) [$($d)* $crate::Code::Argument,] (a) $($w)*)
     };
-    (@ [$($d:tt)*] (w $n:literal: { $($a:tt)* } $($r:tt)*) $($w:tt)*) => {
-        $crate::inform!(@ [$($d)* $crate::Code::Case, $crate::Code::Choice($n),]
-            (s $($a)*) (w $($r)*) $($w)*)
+    (@ (a $x:tt, $($r:tt)*) [$($d:tt)*] $($w:tt)*) => {
+        $crate::inform!(@ (e $x) [$($d)* $crate::Code::Argument,] (a $($r)*) $($w)*)
     };
-    (@ [$($d:tt)*] (c $a:tt == $b:tt) $($w:tt)*) => {
-        $crate::inform!(@ [$($d)* $crate::Code::Compare($crate::Relation::Eq),] (e $a) (e $b) $($w)*)
+    (@ (w) [$($d:tt)*] $n:tt $($w:tt)*) => {
+        $crate::inform!(@ $n [$($d)* $crate::Code::NoDefault,] $($w)*)
     };
-    (@ [$($d:tt)*] (c $a:tt != $b:tt) $($w:tt)*) => {
-        $crate::inform!(@ [$($d)* $crate::Code::Compare($crate::Relation::Ne),] (e $a) (e $b) $($w)*)
+    (@ (w default: { $($a:tt)* }) [$($d:tt)*] $($w:tt)*) => {
+        $crate::inform!(@ (s $($a)*) [$($d)* $crate::Code::Default,] $($w)*)
     };
-    (@ [$($d:tt)*] (c $a:tt < $b:tt) $($w:tt)*) => {
-        $crate::inform!(@ [$($d)* $crate::Code::Compare($crate::Relation::Lt),] (e $a) (e $b) $($w)*)
+    (@ (w $n:literal: { $($a:tt)* } $($r:tt)*) [$($d:tt)*] $($w:tt)*) => {
+        $crate::inform!(@ (s $($a)*) [$($d)* $crate::Code::Case, $crate::Code::Choice($n),]
+            (w $($r)*) $($w)*)
     };
-    (@ [$($d:tt)*] (c $a:tt > $b:tt) $($w:tt)*) => {
-        $crate::inform!(@ [$($d)* $crate::Code::Compare($crate::Relation::Gt),] (e $a) (e $b) $($w)*)
+    (@ (c $a:tt == $b:tt) [$($d:tt)*] $($w:tt)*) => {
+        $crate::inform!(@ (e $a) [$($d)* $crate::Code::Compare($crate::Relation::Eq),]
+            (e $b) $($w)*)
     };
-    (@ [$($d:tt)*] (c $a:tt <= $b:tt) $($w:tt)*) => {
-        $crate::inform!(@ [$($d)* $crate::Code::Compare($crate::Relation::Le),] (e $a) (e $b) $($w)*)
+    (@ (c $a:tt != $b:tt) [$($d:tt)*] $($w:tt)*) => {
+        $crate::inform!(@ (e $a) [$($d)* $crate::Code::Compare($crate::Relation::Ne),]
+            (e $b) $($w)*)
     };
-    (@ [$($d:tt)*] (c $a:tt >= $b:tt) $($w:tt)*) => {
-        $crate::inform!(@ [$($d)* $crate::Code::Compare($crate::Relation::Ge),] (e $a) (e $b) $($w)*)
+    (@ (c $a:tt < $b:tt) [$($d:tt)*] $($w:tt)*) => {
+        $crate::inform!(@ (e $a) [$($d)* $crate::Code::Compare($crate::Relation::Lt),]
+            (e $b) $($w)*)
     };
-    (@ [$($d:tt)*] (c true $x:tt) $($w:tt)*) => {
-        $crate::inform!(@ [$($d)* $crate::Code::Nonzero,] (e $x) $($w)*)
+    (@ (c $a:tt > $b:tt) [$($d:tt)*] $($w:tt)*) => {
+        $crate::inform!(@ (e $a) [$($d)* $crate::Code::Compare($crate::Relation::Gt),]
+            (e $b) $($w)*)
     };
-    (@ [$($d:tt)*] (c !($($c:tt)*)) $($w:tt)*) => {
-        $crate::inform!(@ [$($d)* $crate::Code::Not,] (c $($c)*) $($w)*)
+    (@ (c $a:tt <= $b:tt) [$($d:tt)*] $($w:tt)*) => {
+        $crate::inform!(@ (e $a) [$($d)* $crate::Code::Compare($crate::Relation::Le),]
+            (e $b) $($w)*)
     };
-    (@ [$($d:tt)*] (c ($($a:tt)*) && ($($b:tt)*)) $($w:tt)*) => {
-        $crate::inform!(@ [$($d)* $crate::Code::Both,] (c $($a)*) (c $($b)*) $($w)*)
+    (@ (c $a:tt >= $b:tt) [$($d:tt)*] $($w:tt)*) => {
+        $crate::inform!(@ (e $a) [$($d)* $crate::Code::Compare($crate::Relation::Ge),]
+            (e $b) $($w)*)
     };
-    (@ [$($d:tt)*] (c ($($a:tt)*) || ($($b:tt)*)) $($w:tt)*) => {
-        $crate::inform!(@ [$($d)* $crate::Code::Either,] (c $($a)*) (c $($b)*) $($w)*)
+    (@ (c true $x:tt) [$($d:tt)*] $($w:tt)*) => {
+        $crate::inform!(@ (e $x) [$($d)* $crate::Code::Nonzero,] $($w)*)
     };
-    (@ [$($d:tt)*] (e $n:literal) $($w:tt)*) => {
-        $crate::inform!(@ [$($d)* $crate::Code::Number($n),] $($w)*)
+    (@ (c !($($c:tt)*)) [$($d:tt)*] $($w:tt)*) => {
+        $crate::inform!(@ (c $($c)*) [$($d)* $crate::Code::Not,] $($w)*)
     };
-    (@ [$($d:tt)*] (e { $n:ident }) $($w:tt)*) => {
-        $crate::inform!(@ [$($d)* $crate::Code::Number($n as u32),] $($w)*)
+    (@ (c ($($a:tt)*) && ($($b:tt)*)) [$($d:tt)*] $($w:tt)*) => {
+        $crate::inform!(@ (c $($a)*) [$($d)* $crate::Code::Both,] (c $($b)*) $($w)*)
     };
-    (@ [$($d:tt)*] (e [$n:tt]) $($w:tt)*) => {
-        $crate::inform!(@ [$($d)* $crate::Code::Given($n),] $($w)*)
+    (@ (c ($($a:tt)*) || ($($b:tt)*)) [$($d:tt)*] $($w:tt)*) => {
+        $crate::inform!(@ (c $($a)*) [$($d)* $crate::Code::Either,] (c $($b)*) $($w)*)
     };
-    (@ [$($d:tt)*] (e $v:ident) $($w:tt)*) => {
-        $crate::inform!(@ [$($d)* $crate::Code::Variable($v),] $($w)*)
+    (@ (e $n:literal) [$($d:tt)*] $next:tt $($w:tt)*) => {
+        $crate::inform!(@ $next [$($d)* $crate::Code::Number($n),] $($w)*)
     };
-    (@ [$($d:tt)*] (e ($a:ident --> $i:tt)) $($w:tt)*) => {
-        $crate::inform!(@ [$($d)* $crate::Code::Entry($a, true),] (e $i) $($w)*)
+    (@ (e { $n:ident }) [$($d:tt)*] $next:tt $($w:tt)*) => {
+        $crate::inform!(@ $next [$($d)* $crate::Code::Number($n as u32),] $($w)*)
     };
-    (@ [$($d:tt)*] (e ($a:ident -> $i:tt)) $($w:tt)*) => {
-        $crate::inform!(@ [$($d)* $crate::Code::Entry($a, false),] (e $i) $($w)*)
+    (@ (e [$n:tt]) [$($d:tt)*] $next:tt $($w:tt)*) => {
+        $crate::inform!(@ $next [$($d)* $crate::Code::Given($n),] $($w)*)
     };
-    (@ [$($d:tt)*] (e (random $x:tt)) $($w:tt)*) => {
-        $crate::inform!(@ [$($d)* $crate::Code::Random,] (e $x) $($w)*)
+    (@ (e $v:ident) [$($d:tt)*] $n:tt $($w:tt)*) => {
+        $crate::inform!(@ $n [$($d)* $crate::Code::Variable($v),] $($w)*)
     };
-    (@ [$($d:tt)*] (e ($f:ident($($x:tt)*))) $($w:tt)*) => {
-        $crate::inform!(@ [$($d)* $crate::Code::CallValue($f),] (a $($x)*) $($w)*)
+    (@ (e ($a:ident --> $i:ident)) [$($d:tt)*] $n:tt $($w:tt)*) => {
+        $crate::inform!(@ $n [$($d)* $crate::Code::Entry($a, true), $crate::Code::Variable($i),]
+            $($w)*)
     };
-    (@ [$($d:tt)*] (e (-$x:tt)) $($w:tt)*) => {
-        $crate::inform!(@ [$($d)* $crate::Code::Neg,] (e $x) $($w)*)
+    (@ (e ($a:ident --> $i:tt)) [$($d:tt)*] $($w:tt)*) => {
+        $crate::inform!(@ (e $i) [$($d)* $crate::Code::Entry($a, true),] $($w)*)
     };
-    (@ [$($d:tt)*] (e ($a:tt + $b:tt)) $($w:tt)*) => {
-        $crate::inform!(@ [$($d)* $crate::Code::Sum($crate::SumOp::Add),] (e $a) (e $b) $($w)*)
+    (@ (e ($a:ident -> $i:tt)) [$($d:tt)*] $($w:tt)*) => {
+        $crate::inform!(@ (e $i) [$($d)* $crate::Code::Entry($a, false),] $($w)*)
     };
-    (@ [$($d:tt)*] (e ($a:tt - $b:tt)) $($w:tt)*) => {
-        $crate::inform!(@ [$($d)* $crate::Code::Sum($crate::SumOp::Sub),] (e $a) (e $b) $($w)*)
+    (@ (e (random $x:tt)) [$($d:tt)*] $($w:tt)*) => {
+        $crate::inform!(@ (e $x) [$($d)* $crate::Code::Random,] $($w)*)
     };
-    (@ [$($d:tt)*] (e ($a:tt * $b:tt)) $($w:tt)*) => {
-        $crate::inform!(@ [$($d)* $crate::Code::Product($crate::ProdOp::Mul),] (e $a) (e $b) $($w)*)
+    (@ (e ($f:ident($($x:tt)*))) [$($d:tt)*] $($w:tt)*) => {
+        $crate::inform!(@ (a $($x)*) [$($d)* $crate::Code::CallValue($f),] $($w)*)
     };
-    (@ [$($d:tt)*] (e ($a:tt / $b:tt)) $($w:tt)*) => {
-        $crate::inform!(@ [$($d)* $crate::Code::Product($crate::ProdOp::Div),] (e $a) (e $b) $($w)*)
+    (@ (e (-$x:tt)) [$($d:tt)*] $($w:tt)*) => {
+        $crate::inform!(@ (e $x) [$($d)* $crate::Code::Neg,] $($w)*)
     };
-    (@ [$($d:tt)*] (e ($a:tt % $b:tt)) $($w:tt)*) => {
-        $crate::inform!(@ [$($d)* $crate::Code::Product($crate::ProdOp::Rem),] (e $a) (e $b) $($w)*)
+    (@ (e ($a:tt + $b:tt)) [$($d:tt)*] $($w:tt)*) => {
+        $crate::inform!(@ (e $a) [$($d)* $crate::Code::Sum($crate::SumOp::Add),] (e $b) $($w)*)
+    };
+    (@ (e ($a:tt - $b:tt)) [$($d:tt)*] $($w:tt)*) => {
+        $crate::inform!(@ (e $a) [$($d)* $crate::Code::Sum($crate::SumOp::Sub),] (e $b) $($w)*)
+    };
+    (@ (e ($a:tt * $b:tt)) [$($d:tt)*] $($w:tt)*) => {
+        $crate::inform!(@ (e $a) [$($d)* $crate::Code::Product($crate::ProdOp::Mul),] (e $b) $($w)*)
+    };
+    (@ (e ($a:tt / $b:tt)) [$($d:tt)*] $($w:tt)*) => {
+        $crate::inform!(@ (e $a) [$($d)* $crate::Code::Product($crate::ProdOp::Div),] (e $b) $($w)*)
+    };
+    (@ (e ($a:tt % $b:tt)) [$($d:tt)*] $($w:tt)*) => {
+        $crate::inform!(@ (e $a) [$($d)* $crate::Code::Product($crate::ProdOp::Rem),] (e $b) $($w)*)
     };
     (@ $($other:tt)*) => { compile_error!("no statement, condition or value") };
-    ($($body:tt)*) => { $crate::inform!(@ [] (s $($body)*)) };
+    ($($body:tt)*) => { $crate::inform!(@ (s $($body)*) []) };
 }

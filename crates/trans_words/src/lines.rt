@@ -1,9 +1,11 @@
 //! The routines that find the words of a line, and what the line means by its words.
 //!
 //! A line stands in `buf` from entry 2 on, with its length in entry 1.
-use inform_codes::{Code, Row};
-use inform_tree::{Relation, SumOp};
+use inform_codes::{Code, Row, inform};
 use scott_types::verbs::{GO, LAST_DIRECTION};
+
+// A byte of a line.
+const SPACE: u8 = b' ';
 
 /// The names of these routines, of their locals, and of the globals, arrays and routines that they
 /// use.
@@ -77,190 +79,45 @@ const X: usize = 20;
 
 const V: usize = 21;
 
-/// The first entry from i on that is no space, or e where there is none before it:
-///
-/// `while (i < e && buf->i == ' ') i++; return i;`
-pub const AFTER_SPACES: [Code; 14] = [
-    Code::While,
-    Code::Both,
-    Code::Compare(Relation::Lt),
-    Code::Variable(I),
-    Code::Variable(E),
-    Code::Compare(Relation::Eq),
-    Code::Entry(BUF, false),
-    Code::Variable(I),
-    Code::Number(b' ' as u32),
-    Code::Inc(I),
-    Code::End,
-    Code::Return,
-    Code::Variable(I),
-    Code::End,
-];
+/// The first entry from i on that is no space, or e where there is none before it.
+pub const AFTER_SPACES: [Code; 14] = inform! {
+    while ((I < E) && ((BUF->I) == { SPACE })) { I++; }
+    return I;
+};
 
-/// The first entry from i on that is a space, or e where there is none before it:
-///
-/// `while (i < e && buf->i ~= ' ') i++; return i;`
-pub const AFTER_WORD: [Code; 14] = [
-    Code::While,
-    Code::Both,
-    Code::Compare(Relation::Lt),
-    Code::Variable(I),
-    Code::Variable(E),
-    Code::Compare(Relation::Ne),
-    Code::Entry(BUF, false),
-    Code::Variable(I),
-    Code::Number(b' ' as u32),
-    Code::Inc(I),
-    Code::End,
-    Code::Return,
-    Code::Variable(I),
-    Code::End,
-];
+/// The first entry from i on that is a space, or e where there is none before it.
+pub const AFTER_WORD: [Code; 14] = inform! {
+    while ((I < E) && ((BUF->I) != { SPACE })) { I++; }
+    return I;
+};
 
 /// The verb of a command whose first word, n bytes from entry a on, is the noun x; the second word
-/// has m bytes:
-///
-/// `if (0 < x && x <= 6) return 1; return first_verb(a, n, m);`
-pub const HEARD_VERB: [Code; 22] = [
-    Code::If,
-    Code::Both,
-    Code::Compare(Relation::Lt),
-    Code::Number(0),
-    Code::Variable(X),
-    Code::Compare(Relation::Le),
-    Code::Variable(X),
-    Code::Number(LAST_DIRECTION as u32),
-    Code::Return,
-    Code::Number(GO as u32),
-    Code::End,
-    Code::End,
-    Code::Return,
-    Code::CallValue(FIRST_VERB),
-    Code::Argument,
-    Code::Variable(A),
-    Code::Argument,
-    Code::Variable(N),
-    Code::Argument,
-    Code::Variable(M),
-    Code::NoMore,
-    Code::End,
-];
+/// has m bytes.
+pub const HEARD_VERB: [Code; 22] = inform! {
+    if ((0 < X) && (X <= { LAST_DIRECTION })) { return { GO }; }
+    return (FIRST_VERB(A, N, M));
+};
 
 /// The noun of a command with the verb v whose first word is the noun x; the second word is n bytes
-/// from entry a on:
-///
-/// `if (v == 0) return 0; if (0 < x && x <= 6) return x; return find_noun(a, n);`
-pub const HEARD_NOUN: [Code; 28] = [
-    Code::If,
-    Code::Compare(Relation::Eq),
-    Code::Variable(V),
-    Code::Number(0),
-    Code::Return,
-    Code::Number(0),
-    Code::End,
-    Code::End,
-    Code::If,
-    Code::Both,
-    Code::Compare(Relation::Lt),
-    Code::Number(0),
-    Code::Variable(X),
-    Code::Compare(Relation::Le),
-    Code::Variable(X),
-    Code::Number(LAST_DIRECTION as u32),
-    Code::Return,
-    Code::Variable(X),
-    Code::End,
-    Code::End,
-    Code::Return,
-    Code::CallValue(FIND_NOUN),
-    Code::Argument,
-    Code::Variable(A),
-    Code::Argument,
-    Code::Variable(N),
-    Code::NoMore,
-    Code::End,
-];
+/// from entry a on.
+pub const HEARD_NOUN: [Code; 28] = inform! {
+    if (V == 0) { return 0; }
+    if ((0 < X) && (X <= { LAST_DIRECTION })) { return X; }
+    return (FIND_NOUN(A, N));
+};
 
-/// Where the words of the line stand, and what it means:
-///
-/// `e = buf->1 + 2;`
-/// `wa = after_spaces(2, e); i = after_word(wa, e); na = i - wa;`
-/// `wb = after_spaces(i, e); nb = after_word(wb, e) - wb;`
-/// `x = first_noun(wa, na, nb);`
-/// `vnum = heard_verb(x, wa, na, nb); nnum = heard_noun(x, vnum, wb, nb);`
-pub const HEAR: [Code; 71] = [
-    Code::Set(E),
-    Code::Sum(SumOp::Add),
-    Code::Entry(BUF, false),
-    Code::Number(1),
-    Code::Number(2),
-    Code::Set(WA),
-    Code::CallValue(AFTER_SPACES_NAME),
-    Code::Argument,
-    Code::Number(2),
-    Code::Argument,
-    Code::Variable(E),
-    Code::NoMore,
-    Code::Set(I),
-    Code::CallValue(AFTER_WORD_NAME),
-    Code::Argument,
-    Code::Variable(WA),
-    Code::Argument,
-    Code::Variable(E),
-    Code::NoMore,
-    Code::Set(NA),
-    Code::Sum(SumOp::Sub),
-    Code::Variable(I),
-    Code::Variable(WA),
-    Code::Set(WB),
-    Code::CallValue(AFTER_SPACES_NAME),
-    Code::Argument,
-    Code::Variable(I),
-    Code::Argument,
-    Code::Variable(E),
-    Code::NoMore,
-    Code::Set(NB),
-    Code::Sum(SumOp::Sub),
-    Code::CallValue(AFTER_WORD_NAME),
-    Code::Argument,
-    Code::Variable(WB),
-    Code::Argument,
-    Code::Variable(E),
-    Code::NoMore,
-    Code::Variable(WB),
-    Code::Set(X),
-    Code::CallValue(FIRST_NOUN),
-    Code::Argument,
-    Code::Variable(WA),
-    Code::Argument,
-    Code::Variable(NA),
-    Code::Argument,
-    Code::Variable(NB),
-    Code::NoMore,
-    Code::Set(VNUM),
-    Code::CallValue(HEARD_VERB_NAME),
-    Code::Argument,
-    Code::Variable(X),
-    Code::Argument,
-    Code::Variable(WA),
-    Code::Argument,
-    Code::Variable(NA),
-    Code::Argument,
-    Code::Variable(NB),
-    Code::NoMore,
-    Code::Set(NNUM),
-    Code::CallValue(HEARD_NOUN_NAME),
-    Code::Argument,
-    Code::Variable(X),
-    Code::Argument,
-    Code::Variable(VNUM),
-    Code::Argument,
-    Code::Variable(WB),
-    Code::Argument,
-    Code::Variable(NB),
-    Code::NoMore,
-    Code::End,
-];
+/// Where the words of the line stand, and what it means.
+pub const HEAR: [Code; 71] = inform! {
+    E = ((BUF->1) + 2);
+    WA = (AFTER_SPACES_NAME(2, E));
+    I = (AFTER_WORD_NAME(WA, E));
+    NA = (I - WA);
+    WB = (AFTER_SPACES_NAME(I, E));
+    NB = ((AFTER_WORD_NAME(WB, E)) - WB);
+    X = (FIRST_NOUN(WA, NA, NB));
+    VNUM = (HEARD_VERB_NAME(X, WA, NA, NB));
+    NNUM = (HEARD_NOUN_NAME(X, VNUM, WB, NB));
+};
 
 /// All of them, each with its arguments and locals.
 pub const ROUTINES: [Row<'static>; 5] = [
