@@ -1,5 +1,5 @@
 //! The routines of lines, and all routines that they call.
-ghost use Rattle.std.specs.Prelude.{◌≡◌, ◌<◌, ◌+◌, ◌^◌, IfOk, map, length};
+ghost use Rattle.std.specs.Prelude.{◌≡◌, ◌<◌, ◌^◌, IfOk, map, length};
 ghost use Rattle.std.specs.List.{list_all};
 ghost use Rattle.inform_tree.specs.Programs.{directive_of};
 ghost use Rattle.scott_types.specs.Action.{is_zero, is_zero_action};
@@ -39,27 +39,21 @@ fn line(alloc: Global, db: &Db, number: usize, action: &Action) -> Result<Direct
     }))
 }
 
-// The routines of lines, the first of which has this number.
-fn lines(
-    alloc: Global,
-    db: &Db,
-    number: usize,
-    actions: &[Action],
-) -> Result<Vec<Directive>, Memory>
-    requires { number + length actions.now < 2 ^ 32 }
+// The routines of lines, read from the last one on.
+fn lines(alloc: Global, db: &Db, actions: &[Action]) -> Result<Vec<Directive>, Memory>
+    requires { length actions.now < 2 ^ 32 }
     ensures { IfOk result (λ directives. map directive_of directives.items
-        ≡ lines_from db.now number actions.now) }
+        ≡ lines_from db.now 0 actions.now) }
 {
-    match actions {
-        [] => Ok(Vec::new(alloc)),
-        [action, others @ ..] => {
-            let mut all = lines(alloc, db, number + 1, others)?;
-            if !is_zero_action(action) {
-                all.insert(0, line(alloc, db, number, action)?)?;
-            }
-            Ok(all)
+    let mut all = Vec::new(alloc);
+    for number in (0..actions.len()).rev() {
+        let action = &actions[number];
+        if !is_zero_action(action) {
+            all.push(line(alloc, db, number, action)?)?;
         }
     }
+    all.reverse();
+    Ok(all)
 }
 
 /// The routines of the lines of a game and those that they call, in a style.
@@ -68,5 +62,5 @@ pub fn actions(alloc: Global, db: &Db, style: Style) -> Result<Vec<Directive>, M
         ≡ action_directives style db.now) }
 {
     let helping = helpers(alloc, db, style)?;
-    joined(helping, lines(alloc, db, 0, db.actions())?)
+    joined(helping, lines(alloc, db, db.actions())?)
 }

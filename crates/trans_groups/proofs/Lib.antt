@@ -14,3 +14,4 @@ pub mod Formed
 pub mod Owed
 pub mod GroupsIn
 pub mod Faultless
+pub mod Indexed

@@ -1,6 +1,7 @@
 pub mod Directives
 pub mod Automatic
 pub mod Search
+pub mod Heads
 pub mod Trying
 pub mod Rows
 pub mod Laws

@@ -142,7 +142,7 @@ fn routine(alloc: Global, head: usize, action: &Action, tail: &[usize]) -> Resul
     Ok(Directive::Routine(Routine { name, locals, body }))
 }
 
-// The routines of the heads of lines, the last one first.
+// The routines of the heads of lines, which are read from the last one on.
 fn routines(alloc: Global, actions: &[Action]) -> Result<Vec<Directive>, Memory>
     ensures { IfOk result (λ directives. map directive_of directives.items
         ≡ heads_from 0 actions.now) }
@@ -152,12 +152,14 @@ fn routines(alloc: Global, actions: &[Action]) -> Result<Vec<Directive>, Memory>
     for line in (0..actions.len()).rev() {
         let action = &actions[line];
         if action.vocab != 0 {
-            all.insert(0, routine(alloc, line, action, &tail)?)?;
+            tail.reverse();
+            all.push(routine(alloc, line, action, &tail)?)?;
             tail.clear();
         } else if !is_zero_action(action) {
-            tail.insert(0, line)?;
+            tail.push(line)?;
         }
     }
+    all.reverse();
     Ok(all)
 }
 

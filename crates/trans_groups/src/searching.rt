@@ -1,5 +1,5 @@
 //! The search for the groups of a command, with one case for each verb.
-ghost use Rattle.std.specs.Prelude.{◌≡◌, IfOk, [], ◌∷◌, map, drop, length, ◌≤◌, codes, Some, None};
+ghost use Rattle.std.specs.Prelude.{◌≡◌, ℕ, ◌+◌, ◌<◌, IfOk, [], ◌∷◌, ◌++◌, map, length, reverse, slice_index_or, nat_eq, codes, Some, None};
 ghost use Rattle.inform_tree.specs.declared.values.Const.TheVariants.{Number};
 ghost use Rattle.inform_tree.specs.Values as v;
 ghost use Rattle.inform_tree.specs.Values.{expression_of};
@@ -9,9 +9,12 @@ ghost use Rattle.inform_tree.specs.Programs.{directive_of};
 ghost use Rattle.scott_rules.specs.Groups.{groups_of};
 ghost use Rattle.trans_rows.specs.Names.{group_name};
 ghost use Rattle.trans_rows.specs.Lines.{call_value};
-ghost use Rattle.trans_groups.specs.Search.{pass, mark, group_tries, for_noun, head_tries, verb_tries, has_verb, verb_cases, search_directives};
+ghost use Rattle.indexmap.specs.IndexMap.{get};
+ghost use Rattle.trans_groups.specs.Search.{pass, mark, group_tries, for_noun, head_tries, verb_tries, verb_cases, search_directives};
+ghost use Rattle.trans_groups.specs.Heads.{groups_after, HasFirsts, IsIndexFrom, first_from, next_of};
 
 use adv_io::Memory;
+use indexmap::IndexMap;
 use inform_codes::numbered;
 use inform_tree::{Case, Change, Cond, Const, Directive, Expr, Name, Relation, Routine, Stmt};
 use scott_types::{Action, Db};
@@ -55,15 +58,14 @@ fn mark(alloc: Global) -> Result<Stmt, Memory>
     Ok(Stmt::Change(Change::Set(name(alloc, b"m")?, Expr::Number(1))))
 }
 
-// A head is tried, and then what comes after it is done.
-fn group_tries(alloc: Global, head: usize, after: Vec<Stmt>) -> Result<Vec<Stmt>, Memory>
-    ensures { IfOk result (λ body. map statement_of body.items
-        ≡ group_tries head (map statement_of after.items)) }
+// A head is tried after the others.
+fn put_group(alloc: Global, head: usize, body: &mut Vec<Stmt>) -> Result<(), Memory>
+    ensures { IfOk result (λ _. map statement_of body.new.items
+        ≡ map statement_of body.old.items ++ group_tries head []) }
 {
-    let mut body = after;
-    body.insert(0, mark(alloc)?)?;
-    body.insert(0, pass(alloc, head)?)?;
-    Ok(body)
+    body.push(pass(alloc, head)?)?;
+    body.push(mark(alloc)?)?;
+    Ok(())
 }
 
 // `if (n == N) { .. }`
@@ -76,55 +78,96 @@ fn for_noun(alloc: Global, noun: u32, head: usize) -> Result<Stmt, Memory>
         Expr::Name(name(alloc, b"n")?),
         Expr::Number(noun),
     );
-    let tries = group_tries(alloc, head, Vec::new(alloc))?;
+    let mut tries = Vec::new(alloc);
+    put_group(alloc, head, &mut tries)?;
     Ok(Stmt::If(same, tries, Vec::new(alloc)))
 }
 
 // The same for a head with its noun.
-fn head_tries(alloc: Global, noun: u32, head: usize, after: Vec<Stmt>) -> Result<Vec<Stmt>, Memory>
-    ensures { IfOk result (λ body. map statement_of body.items
-        ≡ head_tries noun head (map statement_of after.items)) }
+fn put_head(alloc: Global, noun: u32, head: usize, body: &mut Vec<Stmt>) -> Result<(), Memory>
+    ensures { IfOk result (λ _. map statement_of body.new.items
+        ≡ map statement_of body.old.items ++ head_tries noun head []) }
 {
     if noun == 0 {
-        return group_tries(alloc, head, after);
+        return put_group(alloc, head, body);
     }
-    let mut body = after;
-    body.insert(0, for_noun(alloc, noun, head)?)?;
-    Ok(body)
+    body.push(for_noun(alloc, noun, head)?)?;
+    Ok(())
 }
 
-// The heads of a verb, the last one first.
-fn verb_tries(alloc: Global, verb: u32, actions: &[Action]) -> Result<Vec<Stmt>, Memory>
+// Puts a line before those whose first heads are known, and answers the next head of its verb.
+fn put_first(
+    _alloc: Global,
+    firsts: &mut IndexMap<u32, usize>,
+    actions: &[Action],
+    line: usize,
+) -> Result<Option<usize>, Memory>
+    requires there { line < length actions.now }
+    requires rest { HasFirsts actions.now (line + 1) (get nat_eq firsts.old) }
+    ensures firsts { IfOk result (λ _. HasFirsts actions.now line (get nat_eq firsts.new)) }
+    ensures next { IfOk result (λ next. next ≡ next_of actions.now line) }
+{
+    let action = &actions[line];
+    if action.vocab == 0 {
+        return Ok(None);
+    }
+    let next = firsts.insert(action.vocab / 150, line)?;
+    Ok(next)
+}
+
+// The first head of each verb, and for each line that is a head the next one of its verb. The lines
+// are read once, the last first.
+fn index_heads(
+    alloc: Global,
+    actions: &[Action],
+) -> Result<(IndexMap<u32, usize>, Vec<Option<usize>>), Memory>
+    ensures { IfOk result (λ heads.
+        IsIndexFrom actions.now 0 (get nat_eq heads.0) heads.1.items) }
+{
+    let mut nexts: Vec<Option<usize>> = vec![in alloc; None; actions.len()]?;
+    let mut firsts = IndexMap::new(alloc);
+    for line in (0..actions.len()).rev() {
+        nexts[line] = put_first(alloc, &mut firsts, actions, line)?;
+    }
+    Ok((firsts, nexts))
+}
+
+// The heads of a verb, from its first one on.
+fn verb_tries(
+    alloc: Global,
+    verb: u32,
+    first: Option<usize>,
+    nexts: &[Option<usize>],
+    actions: &[Action],
+) -> Result<Vec<Stmt>, Memory>
+    requires first { first ≡ first_from actions.now verb 0 }
+    requires whole { length nexts.now ≡ length actions.now }
+    requires nexts { (head : ℕ) → head < length actions.now
+        → slice_index_or nexts.now head None ≡ next_of actions.now head }
     ensures { IfOk result (λ body. map statement_of body.items
         ≡ verb_tries verb (groups_of 0 actions.now)) }
 {
     let mut body = Vec::new(alloc);
-    for line in (0..actions.len()).rev() {
-        let vocab = actions[line].vocab;
-        if vocab != 0 && vocab / 150 == verb {
-            body = head_tries(alloc, vocab % 150, line, body)?;
-        }
+    let mut next = first;
+    while let Some(line) = next {
+        put_head(alloc, actions[line].vocab % 150, line, &mut body)?;
+        next = nexts[line];
     }
     Ok(body)
 }
 
-// Whether a head from this line on has the verb.
-fn has_verb(verb: u32, first: usize, actions: &[Action]) -> bool
-    requires { first ≤ length actions.now }
-    ensures { result ≡ has_verb verb (groups_of first (drop first actions.now)) }
-{
-    let mut found = false;
-    for line in (first..actions.len()).rev() {
-        let vocab = actions[line].vocab;
-        if vocab != 0 && vocab / 150 == verb {
-            found = true;
-        }
-    }
-    found
-}
-
 // The case of a verb.
-fn case(alloc: Global, verb: u32, actions: &[Action]) -> Result<Case, Memory>
+fn case(
+    alloc: Global,
+    verb: u32,
+    first: Option<usize>,
+    nexts: &[Option<usize>],
+    actions: &[Action],
+) -> Result<Case, Memory>
+    requires first { first ≡ first_from actions.now verb 0 }
+    requires whole { length nexts.now ≡ length actions.now }
+    requires nexts { (head : ℕ) → head < length actions.now
+        → slice_index_or nexts.now head None ≡ next_of actions.now head }
     ensures { IfOk result (λ case. case_of case ≡ (
       (Number verb, None) ∷ [],
       statements (verb_tries verb (groups_of 0 actions.now)),
@@ -132,23 +175,51 @@ fn case(alloc: Global, verb: u32, actions: &[Action]) -> Result<Case, Memory>
 {
     Ok(Case {
         choices: vec![in alloc; (Const::Number(verb), None)]?,
-        body: verb_tries(alloc, verb, actions)?,
+        body: verb_tries(alloc, verb, first, nexts, actions)?,
     })
 }
 
-// A case for each verb from 1 on, in the place of its last head.
+// The case of a verb in the place of its last head, after those of the lines that follow.
+fn put_case(
+    alloc: Global,
+    actions: &[Action],
+    firsts: &IndexMap<u32, usize>,
+    nexts: &[Option<usize>],
+    line: usize,
+    all: &mut Vec<Case>,
+) -> Result<(), Memory>
+    requires there { line < length actions.now }
+    requires index { IsIndexFrom actions.now 0 (get nat_eq firsts.now) nexts.now }
+    requires so_far { cases_of (reverse all.old.items)
+        ≡ verb_cases (groups_of 0 actions.now) (groups_after actions.now (line + 1)) }
+    ensures { IfOk result (λ _. cases_of (reverse all.new.items)
+        ≡ verb_cases (groups_of 0 actions.now) (groups_after actions.now line)) }
+{
+    let verb = actions[line].vocab / 150;
+    if verb == 0 {
+        return Ok(());
+    }
+    match nexts[line] {
+        Some(_) => Ok(()),
+        None => {
+            let first = firsts.get(&verb).copied();
+            all.push(case(alloc, verb, first, nexts, actions)?)?;
+            Ok(())
+        }
+    }
+}
+
+// A case for each verb from 1 on.
 fn cases(alloc: Global, actions: &[Action]) -> Result<Vec<Case>, Memory>
     ensures { IfOk result (λ all. cases_of all.items
         ≡ verb_cases (groups_of 0 actions.now) (groups_of 0 actions.now)) }
 {
+    let (firsts, nexts) = index_heads(alloc, actions)?;
     let mut all = Vec::new(alloc);
     for line in (0..actions.len()).rev() {
-        let vocab = actions[line].vocab;
-        let verb = vocab / 150;
-        if vocab != 0 && verb != 0 && !has_verb(verb, line + 1, actions) {
-            all.insert(0, case(alloc, verb, actions)?)?;
-        }
+        put_case(alloc, actions, &firsts, &nexts, line, &mut all)?;
     }
+    all.reverse();
     Ok(all)
 }
 

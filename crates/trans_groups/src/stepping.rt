@@ -22,7 +22,7 @@ fn chance(alloc: Global, noun: u32, head: usize) -> Result<Stmt, Memory>
     Ok(Stmt::If(test, vec![in alloc; call]?, Vec::new(alloc)))
 }
 
-// The chances of the groups of lines.
+// The chances of the groups of lines, which are read from the last one on.
 fn chances(alloc: Global, actions: &[Action]) -> Result<Vec<Stmt>, Memory>
     ensures { IfOk result (λ all. map statement_of all.items ≡ chances (groups_of 0 actions.now)) }
 {
@@ -30,9 +30,10 @@ fn chances(alloc: Global, actions: &[Action]) -> Result<Vec<Stmt>, Memory>
     for line in (0..actions.len()).rev() {
         let vocab = actions[line].vocab;
         if vocab != 0 && vocab / 150 == 0 {
-            all.insert(0, chance(alloc, vocab % 150, line)?)?;
+            all.push(chance(alloc, vocab % 150, line)?)?;
         }
     }
+    all.reverse();
     Ok(all)
 }
 
