@@ -1,6 +1,7 @@
 use Rattle.std.proofs.Common.{rules, refl}
 use Rattle.scott_turn.specs.Fed.{given}
 use Rattle.adv_io.proofs.Along.{as_ok, as_err}
+use Rattle.scott_turn.proofs.Waiting.{ends_well}
 use Rattle.scott_turn.proofs.SessionViews.{leaves_ok, ending_known}
 use Rattle.scott_turn.proofs.sessions.Session.hear.Goals as goal
 
@@ -17,7 +18,7 @@ returns-in-Ok g c =
       game = rw (← c.self.view_is) refl;
       breaks = (λ _. rw (← c.self.view_is) at c.requires, λ _. refl);
       three = rw (c.ending_of.ensures)
-          (ending_known c.in-Ok.position (rw c.in-Ok.ensures.left at (c.endings_are_three.ensures s.game s.position s.state lines c.args.draws.now.left c.self.invariant.1)));
+          (ending_known c.in-Ok.position (ends_well s.game.db c.in-Ok.position (rw c.in-Ok.ensures.left at (c.play_stands.ensures s.game s.position s.state lines c.args.draws.now.left c.self.invariant.1))));
     }
 
 pub returns-in-Err : goal.returns-in-Err

@@ -2,6 +2,7 @@ use Rattle.std.proofs.Common.{Ok, IfSome, rules, true, refl}
 use Rattle.adv_io.proofs.Sayings.{cause_again, cause_fails}
 use Rattle.scott_rules.specs.Play.{go}
 use Rattle.scott_turn.specs.Rounds.{PlaysOut}
+use Rattle.scott_turn.proofs.Waiting.{ends_well}
 use Rattle.scott_turn.proofs.SessionViews.{plays_ok, plays_err, goes_on_ok, IfSome_always, ending_known}
 use Rattle.scott_turn.proofs.sessions.Session.play.Goals as goal
 
@@ -21,7 +22,7 @@ returns-in-Ok g c =
       cause = cause_again _ c.in-Ok.ensures.cause;
       game = rw (← c.self.view_is) refl;
       breaks = (λ _. rw (← c.self.view_is) at c.requires, λ _. refl);
-      three = rw (c.ending_of.ensures) (ending_known c.in-Ok.position c.in-Ok.ensures.ends);
+      three = rw (c.ending_of.ensures) (ending_known c.in-Ok.position (ends_well s.game.db c.in-Ok.position c.in-Ok.ensures.ends));
     }
 
 pub returns-in-Err : goal.returns-in-Err
