@@ -1,5 +1,6 @@
 //! A session: a game that is being played, from its beginning, and on from where it stopped.
 ghost use Rattle.std.specs.Prelude.{◌≡◌, ◌≤◌, ◌↔◌, true, false, IfOk, IfSome, OnOk, IsOk, IsFalse};
+ghost use Rattle.adv_draws.specs.Supply.{supplied};
 ghost use Rattle.adv_io.specs.Console.{Speaks};
 ghost use Rattle.adv_io.specs.Faults.{HasCause};
 ghost use Rattle.scott_types.specs.State.{Fits, start};
@@ -117,6 +118,7 @@ impl<'a> Session<'a> {
             (GoesOn self.old self.new lines draws.old.left (goes self.old lines draws.old.left))) }
         ensures bounded { (C.seen console.new).bound ≤ (C.seen console.old).bound }
         ensures cause { HasCause (C.seen console.old).faults (C.seen console.new).faults result }
+        ensures supplied { supplied draws.new ≡ supplied draws.old }
         ensures game { self.new.game ≡ self.old.game }
         ensures breaks { IsOk result ↔ IsFalse self.new.broken }
         ensures three { IfOk result (λ ending. EndingIsKnown ending) }
@@ -153,6 +155,7 @@ impl<'a> Session<'a> {
         ensures leaves { IfOk result (λ ending.
             Leaves (goes self.old (given line.entry) draws.old.left)
             self.new draws.old draws.new ending) }
+        ensures supplied { supplied draws.new ≡ supplied draws.old }
         ensures game { self.new.game ≡ self.old.game }
         ensures breaks { IsOk result ↔ IsFalse self.new.broken }
         ensures three { IfOk result (λ ending. EndingIsKnown ending) }

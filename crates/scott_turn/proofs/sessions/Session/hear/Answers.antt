@@ -15,6 +15,7 @@ returns-in-Ok g c =
       leaves = rw (← c.self.view_is)
           (leaves_ok (seen c.args.console.now) (seen c.feed.new.console) s.game s.position s.state c.args.draws.now c.feed.new.draws c.feed.new.state
           lines c.in-Ok.position c.ending_of.result s.broken c.play_spends.ensures c.feed.ensures.taken c.ending_of.ensures c.in-Ok.ensures.left);
+      supplied = c.feed.ensures.taken;
       game = rw (← c.self.view_is) refl;
       breaks = (λ _. rw (← c.self.view_is) at c.requires, λ _. refl);
       three = rw (c.ending_of.ensures)
@@ -25,6 +26,7 @@ pub returns-in-Err : goal.returns-in-Err
 returns-in-Err g c = record {
   spoken = rw (← c.self.view_is) (as_err _ c.in-Err.ensures.spoken);
   leaves = tt;
+  supplied = c.feed.ensures.taken;
   game = rw (← c.self.view_is) refl;
   breaks = search rules;
   three = tt;

@@ -20,6 +20,7 @@ returns-in-Ok g c =
           ((seen c.args.console.now).left) c.in-Ok.position c.ending_of.result s.broken s.broken c.play_splits.ensures as_rules);
       bounded = c.play_on.ensures.bounded;
       cause = cause_again _ c.in-Ok.ensures.cause;
+      supplied = c.play_on.ensures.taken;
       game = rw (← c.self.view_is) refl;
       breaks = (λ _. rw (← c.self.view_is) at c.requires, λ _. refl);
       three = rw (c.ending_of.ensures) (ending_known c.in-Ok.position (ends_well s.game.db c.in-Ok.position c.in-Ok.ensures.ends));
@@ -36,6 +37,7 @@ returns-in-Err g c =
       goes_on = IfSome_always ((seen c.args.console.now).left) tt;
       bounded = c.play_on.ensures.bounded;
       cause = cause_fails _ c.in-Err.ensures.cause;
+      supplied = c.play_on.ensures.taken;
       game = rw (← c.self.view_is) refl;
       breaks = search rules;
       three = tt;
