@@ -1,10 +1,12 @@
 -- A whole text is read exactly where it is one, and the first bad line is found exactly.
 use Rattle.std.proofs.Common.{◌≡◌, ◌≢◌, ◌∙◌, ℕ, ◌+◌, ◌-◌, Bool, List, [], ◌∷◌, ◌++◌, Option, Some, None, Ok, Err, length, drop, map, ℤ, pos, negsuc, codes, refl, sym, ap, subst, inl, inr}
-use Rattle.std.specs.Prelude.{◌↔◌, ◌⊎◌, Result, IsTrue, MatchResult}
+use Rattle.std.specs.Prelude.{◌↔◌, ◌⊎◌, Result, IsTrue, IfOk, MatchResult}
 use Rattle.std.specs.List.{flat_map}
 use Rattle.adv_text.specs.Laws.{SpelledNumberIsRead, WrittenNumberIsSpelled}
 use Rattle.scott_types.specs.declared.states.State.{State}
 use Rattle.scott_types.specs.declared.endings.Position.{Position}
+use Rattle.scott_types.specs.declared.endings.Position.TheVariants.{Fresh, Draw, Line, Over}
+use Rattle.scott_turn.specs.Positions.{CanStand}
 use Rattle.scott_types.specs.Database.{Database}
 use Rattle.scott_types.specs.Limits.{KeepsLimits}
 use Rattle.scott_types.specs.State.{Fits, StartFits, start}
@@ -307,6 +309,13 @@ module _ (spelled : SpelledNumberIsRead) (written : WrittenNumberIsSpelled) (sta
 
 -- ---- what a reader answers that reads so
 
+-- a play can stand where it waits
+can_stand : (db : Database) (position : Position) → Waits db position → CanStand db position
+can_stand db Line waits = tt
+can_stand db (Draw head) waits = waits
+can_stand db Fresh waits = tt
+can_stand db (Over ending) waits = absurd waits
+
 value-same : (a b : Saved) → ◌≡◌ {A = Result Saved PositionFault} (Ok a) (Ok b) → a ≡ b
 value-same a b e = cc
 
@@ -347,3 +356,16 @@ module _ (db : Database) (bytes : List ℕ) (limits : KeepsLimits db) where
     λ e. (law db bytes n limits).0 (is ∙ ap Err (number-of fault n e)),
     λ bad. fault-same fault n (same-number n fault.0 (sym ((law db bytes n limits).1 bad) ∙ is)),
   )
+
+  pub as_saved : TextIsRead → (result : Result Saved PositionFault) → MatchResult result
+      (λ saved. position_in db bytes ≡ Ok saved) (λ fault. position_in db bytes ≡ Err fault.0)
+      → IfOk result (λ saved. IsSaved db saved)
+  as_saved law (Ok read) is = ((law db bytes read limits).0 is).0
+  as_saved law (Err fault) is = tt
+
+  pub as_standing : TextIsRead → (result : Result Saved PositionFault) → MatchResult result
+      (λ saved. position_in db bytes ≡ Ok saved) (λ fault. position_in db bytes ≡ Err fault.0)
+      → IfOk result (λ saved. CanStand db saved.position)
+  as_standing law (Ok read) is =
+      can_stand db read.position ((law db bytes read limits).0 is).0.waits
+  as_standing law (Err fault) is = tt

@@ -1,5 +1,6 @@
 //! A position is read from its text.
-ghost use Rattle.std.specs.Prelude.{◌≡◌, ◌↔◌, ℕ, List, Ok, Err, MatchResult};
+ghost use Rattle.std.specs.Prelude.{◌≡◌, ◌↔◌, ℕ, Ok, Err, IfOk, MatchResult};
+ghost use Rattle.scott_turn.specs.Positions.{CanStand};
 ghost use Rattle.adv_position.specs.Text.{IsSaved, position_text};
 ghost use Rattle.adv_position.specs.Bad.{BadLine};
 ghost use Rattle.adv_position.specs.Reading.{at_end, position_in};
@@ -84,6 +85,10 @@ pub fn read_position(db: &Db, bytes: &[u8]) -> Result<Saved, PositionFault>
     ensures text { (saved : Saved) → (result ≡ Ok saved)
         ↔ (IsSaved db.now saved × (bytes.now ≡ position_text saved)) }
     ensures bad { (n : ℕ) → (result ≡ Err (record { 0 = n })) ↔ BadLine db.now bytes.now n }
+
+    // A session can be opened at what is read.
+    ensures saved { IfOk result (λ saved. IsSaved db.now saved) }
+    ensures stands { IfOk result (λ saved. CanStand db.now saved.position) }
 
     // The same as a function of the bytes.
     ensures as_read { MatchResult result
