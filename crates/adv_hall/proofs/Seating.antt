@@ -81,3 +81,7 @@ pub there-is : {X : Type 0} (xs : List X) (i : ℕ) (x : X) → i < length xs
 there-is [] i x below is = absurd (omega arith)
 there-is (y ∷ xs) zero x below is = ap Some (sym is)
 there-is (y ∷ xs) (suc i) x below is = there-is xs i x (omega arith) is
+
+pub count-opened : (db : Database) (k n : ℕ) → length (seats_opened db k n) ≡ n
+count-opened db k zero = refl
+count-opened db k (suc n) = ap suc (count-opened db (k + 1) n)

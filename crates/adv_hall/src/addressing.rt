@@ -1,5 +1,5 @@
 //! To which session of a hall a line goes.
-ghost use Rattle.std.specs.Prelude.{◌≡◌};
+ghost use Rattle.std.specs.Prelude.{◌≡◌, ◌≤◌, IfSome};
 ghost use Rattle.adv_hall.specs.Address.{number_among, address_of};
 
 use adv_io::Line;
@@ -30,7 +30,8 @@ fn number_among(count: u8, word: &[u8]) -> Option<u8>
 /// The session of 1..count whose number is the first word of a line, and what follows the first
 /// space behind that word; or none for any other line. docs/TURN.md, "A hall", has the rule.
 pub fn address_in(count: u8, line: &Line) -> Option<Address>
-    ensures { result ≡ address_of count line.now }
+    ensures value { result ≡ address_of count line.now }
+    ensures range { IfSome result (λ a. (1 ≤ a.session) × (a.session ≤ count)) }
 {
     let bytes = line.bytes();
     let (start, length) = split(line).first?;

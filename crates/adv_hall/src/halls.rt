@@ -90,6 +90,7 @@ impl<'a> Hall<'a> {
         requires some { 1 ≤ count }
         requires few { count ≤ HALL_LIMIT }
         ensures seats { IfOk result (λ hall. hall.seats ≡ seats_opened db.now 1 count) }
+        ensures count { IfOk result (λ hall. length hall.seats ≡ count) }
         ensures whole { IfOk result (λ hall. hall.broken ≡ false) }
     {
         let mut seats = Vec::new(alloc);
@@ -124,6 +125,7 @@ impl<'a> Hall<'a> {
             self.new.seats ≡ slice_set self.old.seats (k - 1) (seat_after seat line.now))) }
         ensures ending { IfOk result (λ ending. IfSome (seat_of self.new k) (λ seat.
             ending ≡ ending_of seat.session.position)) }
+        ensures count { length self.new.seats ≡ length self.old.seats }
         ensures others { (j : ℕ) → j ≢ k - 1
             → slice_get self.new.seats j ≡ slice_get self.old.seats j }
         ensures breaks { IsOk result ↔ IsFalse self.new.broken }
@@ -135,6 +137,13 @@ impl<'a> Hall<'a> {
                 Err(fault)
             }
         }
+    }
+
+    /// How many sessions there are.
+    pub fn count(&self) -> usize
+        ensures { result ≡ length self.now.seats }
+    {
+        self.seats.len()
     }
 
     /// The state of session k.

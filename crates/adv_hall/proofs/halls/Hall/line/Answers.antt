@@ -2,6 +2,7 @@ use Rattle.std.proofs.Common.{◌≡◌, ◌∙◌, ◌-◌, ◌<◌, ◌≤◌,
 use Rattle.std.specs.Prelude.{IsTrue}
 use Rattle.scott_rules.specs.Play.{ending_of}
 use Rattle.adv_hall.specs.Seats.{is_whole}
+use Rattle.std.proofs.lemmas.List.{length-set}
 use Rattle.adv_hall.proofs.Seating.{all-set, all-there, others-stay, set-there, there-is}
 use Rattle.adv_hall.proofs.halls.Hall.line.Goals as goal
 
@@ -61,3 +62,11 @@ pub returns-in-Err-clause-others : goal.returns-in-Err-clause-others
 returns-in-Err-clause-others g c = λ j other.
     rw (← c.self.view_is)
     (others-stay c.self.inside.seats.items (c.args.k - 1) j c.hear.new.self other)
+
+pub returns-in-Ok-clause-count : goal.returns-in-Ok-clause-count
+returns-in-Ok-clause-count g c =
+    rw (← c.self.view_is) (length-set c.self.inside.seats.items (c.args.k - 1) c.hear.new.self)
+
+pub returns-in-Err-clause-count : goal.returns-in-Err-clause-count
+returns-in-Err-clause-count g c =
+    rw (← c.self.view_is) (length-set c.self.inside.seats.items (c.args.k - 1) c.hear.new.self)

@@ -1,8 +1,8 @@
-use Rattle.std.proofs.Common.{◌≡◌, ◌++◌, ◌∷◌, [], ◌+◌, ap, subst, refl}
+use Rattle.std.proofs.Common.{◌≡◌, ◌∙◌, length, ◌++◌, ◌∷◌, [], ◌+◌, ap, subst, refl}
 use Rattle.std.specs.Prelude.{IsTrue}
 use Rattle.std.specs.List.{list_all}
 use Rattle.adv_hall.specs.Seats.{is_whole, seat_opened, seats_opened}
-use Rattle.adv_hall.proofs.Seating.{one_more, all-more}
+use Rattle.adv_hall.proofs.Seating.{one_more, none_left, all-more, count-opened}
 use Rattle.adv_hall.proofs.halls.Hall.open.Goals as goal
 
 pub loop-k-preserved : goal.loop-k-preserved
@@ -18,3 +18,10 @@ loop-k-preserved c =
           c.loop-k-test.true is c.loop-k.invariant.all;
       whole = all-more is_whole seats seat c.loop-k.invariant.whole whole;
     })
+
+pub returns-clause-count : goal.returns-clause-count
+returns-clause-count c =
+    let db = c.args.db.now in
+    let all = none_left db c.loop-k.seats.items (seats_opened db 1 c.args.count) c.loop-k.k
+    c.args.count c.loop-k-test.false c.loop-k.invariant.all in
+    ap length all ∙ count-opened db 1 c.args.count
