@@ -1,6 +1,7 @@
 mod Entering
 pub mod Showing
 pub mod Groups
+pub mod Waiting
 pub mod Tries
 pub mod Turning
 pub mod Items

@@ -1,4 +1,5 @@
 pub mod Heads
+pub mod Positions
 pub mod Turns
 pub mod ItemTurns
 pub mod Ways

@@ -1,6 +1,7 @@
 //! Which action lines are heads, and how far their tails go, line by line.
 ghost use Rattle.std.specs.Prelude.{◌≡◌, [], MatchOption};
 ghost use Rattle.scott_turn.specs.Heads.{groups_for, is_head_of, ComesNext, TailGoesOn};
+ghost use Rattle.scott_turn.specs.Positions.{is_automatic};
 
 use scott_types::{Action, Db};
 
@@ -9,6 +10,14 @@ fn is_head_of(action: &Action, verb: u16) -> bool
     ensures { result ≡ is_head_of verb action.now }
 {
     action.vocab != 0 && action.vocab / 150 == u32::from(verb)
+}
+
+/// Whether a line is a head of verb 0, which is tried by itself in each round.
+pub fn is_automatic(db: &Db, line: u16) -> bool
+    ensures { result ≡ is_automatic db.now line }
+{
+    let actions = db.actions();
+    (line as usize) < actions.len() && is_head_of(&actions[line as usize], 0)
 }
 
 // The next head of a verb, at a line or after it.

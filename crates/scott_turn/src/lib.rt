@@ -26,5 +26,9 @@ mod feeding;
 mod rounds;
 mod sessions;
 
+// Laws of where a play stands.
+pub mod laws;
+
+pub use heads::is_automatic;
 pub use scott_types::{Ending, Position};
 pub use sessions::Session;

@@ -4,15 +4,15 @@ ghost use Rattle.adv_draws.specs.Supply.{supplied};
 ghost use Rattle.adv_io.specs.Faults.{HasCause};
 ghost use Rattle.scott_types.specs.State.{Fits};
 ghost use Rattle.scott_rules.specs.Play.{go};
-ghost use Rattle.scott_rules.specs.Laws.{EndsWell};
+ghost use Rattle.scott_turn.specs.Positions.{CanStand};
 ghost use Rattle.scott_turn.specs.Rounds.{is_prompt, AnswersNext, GoesRound, PlaysOut};
 
 use crate::advancing::advance;
 use crate::answering::answer;
 use crate::games::Game;
+use crate::laws::{advance_stands, answer_stands};
 use adv_draws::Draws;
 use adv_io::{Console, ConsoleFault, Line, Taken};
-use scott_rules::laws::{advance_ends_well, answer_ends_well};
 use scott_types::{Position, State};
 
 /// Where a round left the play, and whether it stopped there.
@@ -49,9 +49,9 @@ fn answer_next<C: Console>(
     ensures bounded { (C.seen console.new).bound ≤ (C.seen console.old).bound }
     ensures cause { HasCause (C.seen console.old).faults (C.seen console.new).faults result }
     ensures fits { Fits game.now.db state.new }
-    ensures ends { IfOk result (λ answered. IfSome answered EndsWell) }
+    ensures ends { IfOk result (λ answered. IfSome answered (CanStand game.now.db)) }
 {
-    answer_ends_well();
+    answer_stands();
     match console.take(line) {
         Ok(Taken::End) => Ok(None),
         Ok(Taken::Got) => match answer(game, state, line, console) {
@@ -72,7 +72,7 @@ fn go_round<C: Console>(
     console: &mut C,
 ) -> Result<Round, ConsoleFault>
     requires fits { Fits game.now.db state.old }
-    requires ends { EndsWell position }
+    requires ends { CanStand game.now.db position }
     ensures as_rules { IfSome (C.seen console.old).left (λ lines.
         GoesRound (C.seen console.old) (C.seen console.new) result
         (go game.now position state.old lines draws.old.left)
@@ -83,9 +83,9 @@ fn go_round<C: Console>(
     ensures cause { HasCause (C.seen console.old).faults (C.seen console.new).faults result }
     ensures taken { supplied draws.new ≡ supplied draws.old }
     ensures fits { Fits game.now.db state.new }
-    ensures ends { IfOk result (λ round. EndsWell round.position) }
+    ensures ends { IfOk result (λ round. CanStand game.now.db round.position) }
 {
-    advance_ends_well();
+    advance_stands();
     let reached = advance(game, state, position, draws, console)?;
     if !is_prompt(reached) {
         return Ok(Round {
@@ -119,7 +119,7 @@ pub fn play_on<C: Console>(
     console: &mut C,
 ) -> Result<Position, ConsoleFault>
     requires fits { Fits game.now.db state.old }
-    requires ends { EndsWell position }
+    requires ends { CanStand game.now.db position }
     ensures as_rules { IfSome (C.seen console.old).left (λ lines.
         PlaysOut (C.seen console.old) (C.seen console.new) result
         (go game.now position state.old lines draws.old.left)
@@ -128,7 +128,7 @@ pub fn play_on<C: Console>(
     ensures cause { HasCause (C.seen console.old).faults (C.seen console.new).faults result }
     ensures taken { supplied draws.new ≡ supplied draws.old }
     ensures fits { Fits game.now.db state.new }
-    ensures ends { IfOk result EndsWell }
+    ensures ends { IfOk result (CanStand game.now.db) }
 {
     let mut line = Line::of(&[]);
     let mut position = position;

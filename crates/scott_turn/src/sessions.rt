@@ -1,10 +1,12 @@
 //! A session: a game that is being played, from its beginning, and on from where it stopped.
 ghost use Rattle.std.specs.Prelude.{◌≡◌, ◌≤◌, ◌↔◌, true, false, IfOk, IfSome, OnOk, IsOk, IsFalse};
+ghost use Rattle.adv_draws.specs.Supply.{supplied};
 ghost use Rattle.adv_io.specs.Console.{Speaks};
 ghost use Rattle.adv_io.specs.Faults.{HasCause};
 ghost use Rattle.scott_types.specs.State.{Fits, start};
 ghost use Rattle.scott_types.specs.Style.{in_style};
 ghost use Rattle.scott_rules.specs.Laws.{EndsWell};
+ghost use Rattle.scott_turn.specs.Positions.{CanStand};
 ghost use Rattle.scott_types.specs.declared.endings.Position.TheVariants.{Fresh};
 ghost use Rattle.scott_rules.specs.Play.{ending_of};
 ghost use Rattle.scott_turn.specs.Fed.{given, said};
@@ -12,10 +14,11 @@ ghost use Rattle.scott_turn.specs.Played.{goes, Leaves, Plays, GoesOn, EndingIsK
 
 use crate::feeding::feed;
 use crate::games::Game;
+use crate::laws::play_stands;
 use crate::rounds::play_on;
 use adv_draws::Draws;
 use adv_io::{Console, ConsoleFault, Line, Memory};
-use scott_rules::laws::{endings_are_three, play_spends, play_splits};
+use scott_rules::laws::{play_spends, play_splits};
 use scott_types::{Db, Ending, Position, State, Style};
 use std::alloc::Global;
 use std::marker::Model;
@@ -34,7 +37,7 @@ pub struct Session<'a> {
 
 impl<'a> Model for Session<'a> {
     ghost use Rattle.scott_types.specs.State.{Fits};
-    ghost use Rattle.scott_rules.specs.Laws.{EndsWell};
+    ghost use Rattle.scott_turn.specs.Positions.{CanStand};
     ghost use Rattle.scott_turn.specs.Played.{SessionView};
 
     ghost Value = { SessionView };
@@ -42,7 +45,7 @@ impl<'a> Model for Session<'a> {
     ghost view = { λ s.
         record { game = s.game; position = s.position; state = s.state; broken = s.broken } };
 
-    ghost invariant = { λ s. Fits s.game.db s.state × EndsWell s.position };
+    ghost invariant = { λ s. Fits s.game.db s.state × CanStand s.game.db s.position };
 }
 
 // Why a play that stands at a position stopped.
@@ -66,11 +69,33 @@ impl<'a> Session<'a> {
         ensures state { IfOk result (λ session. session.state ≡ start db.now) }
         ensures whole { IfOk result (λ session. session.broken ≡ false) }
     {
+        Session::at(alloc, db, style, State::start(db), Position::Fresh)
+    }
+
+    /// A session that stands at a state and a position, in a style that it keeps: the play goes on
+    /// from there. Once it is open it takes no memory.
+    ///
+    /// The state fits the database, a draw is waited for by a head of verb 0, and a game that is
+    /// over ended with 1, 2 or 3.
+    pub fn at(
+        alloc: Global,
+        db: &'a Db,
+        style: Style,
+        state: State,
+        position: Position,
+    ) -> Result<Session<'a>, Memory>
+        requires fits { Fits db.now state }
+        requires stands { CanStand db.now position }
+        ensures game { IfOk result (λ session. session.game ≡ in_style style db.now) }
+        ensures position { IfOk result (λ session. session.position ≡ position) }
+        ensures state { IfOk result (λ session. session.state ≡ state) }
+        ensures whole { IfOk result (λ session. session.broken ≡ false) }
+    {
         let game = Game::of(alloc, db, style)?;
         Ok(Session {
             game,
-            position: Position::Fresh,
-            state: State::start(db),
+            position,
+            state,
             broken: false,
         })
     }
@@ -93,6 +118,7 @@ impl<'a> Session<'a> {
             (GoesOn self.old self.new lines draws.old.left (goes self.old lines draws.old.left))) }
         ensures bounded { (C.seen console.new).bound ≤ (C.seen console.old).bound }
         ensures cause { HasCause (C.seen console.old).faults (C.seen console.new).faults result }
+        ensures supplied { supplied draws.new ≡ supplied draws.old }
         ensures game { self.new.game ≡ self.old.game }
         ensures breaks { IsOk result ↔ IsFalse self.new.broken }
         ensures three { IfOk result (λ ending. EndingIsKnown ending) }
@@ -129,12 +155,13 @@ impl<'a> Session<'a> {
         ensures leaves { IfOk result (λ ending.
             Leaves (goes self.old (given line.entry) draws.old.left)
             self.new draws.old draws.new ending) }
+        ensures supplied { supplied draws.new ≡ supplied draws.old }
         ensures game { self.new.game ≡ self.old.game }
         ensures breaks { IsOk result ↔ IsFalse self.new.broken }
         ensures three { IfOk result (λ ending. EndingIsKnown ending) }
     {
         play_spends();
-        endings_are_three();
+        play_stands();
         match feed(
             &self.game,
             &mut self.state,
@@ -165,6 +192,7 @@ impl<'a> Session<'a> {
     /// Where the play stands.
     pub fn position(&self) -> Position
         ensures value { result ≡ self.now.position }
+        ensures stands { CanStand self.now.game.db self.now.position }
         ensures three { EndsWell self.now.position }
     {
         self.position

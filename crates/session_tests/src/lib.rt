@@ -4,6 +4,12 @@
 #![tactic(auto)]
 
 #[cfg(test)]
+mod databases;
+#[cfg(test)]
 mod expecting;
 #[cfg(test)]
+mod halls;
+#[cfg(test)]
 mod made_games;
+#[cfg(test)]
+mod positions;

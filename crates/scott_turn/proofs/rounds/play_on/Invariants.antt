@@ -1,7 +1,7 @@
 use Rattle.std.proofs.Common.{◌≡◌, ◌+◌, ◌≤◌, length, IfSome}
 use Rattle.scott_types.specs.State.{Fits}
 use Rattle.scott_rules.specs.Play.{go}
-use Rattle.scott_rules.specs.Laws.{EndsWell}
+use Rattle.scott_turn.specs.Positions.{CanStand}
 use Rattle.scott_turn.proofs.Playing.{Ahead}
 use Rattle.scott_turn.proofs.rounds.play_on.Given as goal
 
@@ -12,7 +12,7 @@ invariant-loop-round g l =
     let seen = g.C.Console.seen in
     record {
       fits : Fits l.game.db l.state;
-      ends : EndsWell l.position;
+      ends : CanStand l.game.db l.position;
       taken : l.draws.taken + length l.draws.left ≡ l.initial.draws.taken + length l.initial.draws.left;
       bounded : (seen l.console).bound ≤ (seen l.initial.console).bound;
       steady : (seen l.console).faults ≡ (seen l.initial.console).faults;

@@ -2,6 +2,7 @@ use Rattle.std.proofs.Common.{Ok, IfSome, rules, true, refl}
 use Rattle.adv_io.proofs.Sayings.{cause_again, cause_fails}
 use Rattle.scott_rules.specs.Play.{go}
 use Rattle.scott_turn.specs.Rounds.{PlaysOut}
+use Rattle.scott_turn.proofs.Waiting.{ends_well}
 use Rattle.scott_turn.proofs.SessionViews.{plays_ok, plays_err, goes_on_ok, IfSome_always, ending_known}
 use Rattle.scott_turn.proofs.sessions.Session.play.Goals as goal
 
@@ -19,9 +20,10 @@ returns-in-Ok g c =
           ((seen c.args.console.now).left) c.in-Ok.position c.ending_of.result s.broken s.broken c.play_splits.ensures as_rules);
       bounded = c.play_on.ensures.bounded;
       cause = cause_again _ c.in-Ok.ensures.cause;
+      supplied = c.play_on.ensures.taken;
       game = rw (← c.self.view_is) refl;
       breaks = (λ _. rw (← c.self.view_is) at c.requires, λ _. refl);
-      three = rw (c.ending_of.ensures) (ending_known c.in-Ok.position c.in-Ok.ensures.ends);
+      three = rw (c.ending_of.ensures) (ending_known c.in-Ok.position (ends_well s.game.db c.in-Ok.position c.in-Ok.ensures.ends));
     }
 
 pub returns-in-Err : goal.returns-in-Err
@@ -35,6 +37,7 @@ returns-in-Err g c =
       goes_on = IfSome_always ((seen c.args.console.now).left) tt;
       bounded = c.play_on.ensures.bounded;
       cause = cause_fails _ c.in-Err.ensures.cause;
+      supplied = c.play_on.ensures.taken;
       game = rw (← c.self.view_is) refl;
       breaks = search rules;
       three = tt;

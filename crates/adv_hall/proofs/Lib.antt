@@ -1,0 +1,5 @@
+pub mod Speaking
+pub mod Seating
+pub mod Playing
+pub mod GoingOn
+pub mod Addresses

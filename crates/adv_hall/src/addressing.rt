@@ -1,0 +1,44 @@
+//! To which session of a hall a line goes.
+ghost use Rattle.std.specs.Prelude.{◌≡◌, ◌≤◌, IfSome};
+ghost use Rattle.adv_hall.specs.Address.{number_among, address_of};
+
+use adv_io::Line;
+use itoa::Buffer;
+use scott_vocab::{split, word_at};
+
+/// A session, and the line that it is given.
+#[derive(Drop)]
+pub struct Address {
+    pub session: u8,
+    pub line: Line,
+}
+
+// The number of 1..count that a word writes, in decimal and without leading zeros.
+fn number_among(count: u8, word: &[u8]) -> Option<u8>
+    ensures { result ≡ number_among count word.now }
+{
+    let mut k = count;
+    while k > 0 {
+        if Buffer::new().format(k).as_bytes() == word {
+            return Some(k);
+        }
+        k -= 1;
+    }
+    None
+}
+
+/// The session of 1..count whose number is the first word of a line, and what follows the first
+/// space behind that word; or none for any other line. docs/TURN.md, "A hall", has the rule.
+pub fn address_in(count: u8, line: &Line) -> Option<Address>
+    ensures value { result ≡ address_of count line.now }
+    ensures range { IfSome result (λ a. (1 ≤ a.session) × (a.session ≤ count)) }
+{
+    let bytes = line.bytes();
+    let (start, length) = split(line).first?;
+    let session = number_among(count, word_at(line, start, length))?;
+    let rest = (usize::from(start) + usize::from(length) + 1).min(bytes.len());
+    Some(Address {
+        session,
+        line: Line::of(&bytes[rest..]),
+    })
+}
