@@ -18,7 +18,7 @@ use Rattle.inform_tree.specs.Programs.{DirectiveTree}
 use Rattle.inform_reader.specs.Reading as reader
 use Rattle.inform_reader.specs.Reading.{IsProgram, IsFaulty, program_in}
 use Rattle.scott_requests.specs.Settings.{DrawSource, listed, seeded}
-use Rattle.scott_requests.specs.Request.{Request, check, compile, decompile, play, translate, run}
+use Rattle.scott_requests.specs.Request.{TranslationRequest, RunRequest, Request, check, compile, decompile, play, translate, run}
 use Rattle.scott_types.specs.declared.styles.Style.{Style}
 use Rattle.scott_types.specs.Database.{Database}
 use Rattle.scott_tool.specs.Laws.{Laws}
@@ -32,7 +32,7 @@ use Rattle.trans_rows.specs.Wide.{Placed, wide_at}
 use Rattle.scott_tool.specs.Translate.{translatable_or_unfit, translatable}
 use Rattle.scott_tool.specs.Run.{program_or_unfit, program_of_file, stop_after, stop_status}
 use Rattle.scott_tool.specs.Work.{Task, reporting, storing, playing, translating, running, work, expected}
-use Rattle.scott_tool.specs.Causes.{game_of, IsAccepted}
+use Rattle.scott_tool.specs.Causes.{game_of, HasDraws, IsAccepted}
 use Rattle.scott_tool.proofs.Files.{bind-ok, bind-err, there-loaded, loaded-there}
 
 -- ---- why a content is refused
@@ -127,9 +127,9 @@ pub game_load : (request : Request) (game : List ℕ) → game_of request ≡ So
 game_load (check name) game is = ap (option_map database_load) is
 game_load (compile source name) game is = absurd cc
 game_load (decompile name source) game is = ap (option_map database_load) is
-game_load (play name source style) game is = ap (option_map database_load) is
-game_load (translate name program style width) game is = ap (option_map database_load) is
-game_load (run name source steps width) game is = absurd cc
+game_load (play p) game is = ap (option_map database_load) is
+game_load (translate t) game is = ap (option_map database_load) is
+game_load (run r) game is = absurd cc
 
 -- the content that is refused is that of the database, of the source, of the program, or of the
 -- draws; or the database has a number that is too wide
@@ -139,12 +139,10 @@ pub data Fails (request : Request) (texts : Texts) (u : Unfit) : Type 0 where
       → content_status u.fault ≡ 4 → Fails request texts u
   bad_source : (source game : List ℕ) → request ≡ compile source game → IsNoSource texts.main
       → content_status u.fault ≡ 5 → Fails request texts u
-  bad_program : (name : List ℕ) (source : DrawSource) (steps : ℕ) (width : Width)
-      (fault : reader.Fault) → request ≡ run name source steps width
-      → IsFaulty width texts.main fault → content_status u.fault ≡ 6 → Fails request texts u
-  bad_width : (game program : List ℕ) (style : Style) (width : Width) (db : Database)
-      (placed : Placed) → request ≡ translate game program style width
-      → DatText texts.main db → wide_at width db ≡ Some placed → content_status u.fault ≡ 7
+  bad_program : (r : RunRequest) (fault : reader.Fault) → request ≡ run r
+      → IsFaulty r.width texts.main fault → content_status u.fault ≡ 6 → Fails request texts u
+  bad_width : (t : TranslationRequest) (db : Database) (placed : Placed) → request ≡ translate t
+      → DatText texts.main db → wide_at t.width db ≡ Some placed → content_status u.fault ≡ 7
       → Fails request texts u
   bad_draws : (load : Load) (at : ℕ) → draws_of request ≡ Some load → listed_draws texts.draws
       ≡ Err at
@@ -195,40 +193,44 @@ fails laws (decompile game source) texts u e =
           refl f.1 f.2)
       | inr d ↦ absurd (let g = d.2 in cc)
     ]
-fails laws (play game source style) texts u e =
-    elim (bind-err (database_of_file game texts.main) (with_draws source texts.draws style) u e) [
-      | inl d ↦ (let f = database_unfit game (database_in texts.main) u d in bad_database game f.0
-          refl f.1 f.2)
+fails laws (play p) texts u e =
+    elim (bind-err (database_of_file p.game texts.main) (with_draws p.source texts.draws p.style) u
+    e) [
+      | inl d ↦ (let f = database_unfit p.game (database_in texts.main) u d in bad_database p.game
+          f.0 refl f.1 f.2)
       | inr d ↦
-          elim (bind-err (draws_from source texts.draws) (play_of style d.0) u d.2) [
-            | inl r ↦ (let f = draws_unfit source texts.draws u r in bad_draws f.0 f.1 f.2 f.3 f.4)
+          elim (bind-err (draws_from p.source texts.draws) (play_of p.style d.0) u d.2) [
+            | inl r ↦ (let f = draws_unfit p.source texts.draws u r in bad_draws f.0 f.1 f.2 f.3
+                f.4)
             | inr r ↦ absurd (let g = r.2 in cc)
           ]
     ]
-fails laws (translate game program style width) texts u e =
-    elim (bind-err (database_of_file game texts.main) (translate_with game program style width) u e) [
-      | inl d ↦ (let f = database_unfit game (database_in texts.main) u d in bad_database game f.0
-          refl f.1 f.2)
+fails laws (translate t) texts u e =
+    elim (bind-err (database_of_file t.game texts.main)
+    (translate_with t.game t.program t.style t.width) u e) [
+      | inl d ↦ (let f = database_unfit t.game (database_in texts.main) u d in bad_database t.game
+          f.0 refl f.1 f.2)
       | inr d ↦
-          elim (bind-err (translatable game width d.0) (translation_of program style width) u d.2) [
+          elim (bind-err (translatable t.game t.width d.0)
+          (translation_of t.program t.style t.width) u d.2) [
             | inl r ↦
                 (let text : DatText texts.main d.0 = (laws.database texts.main d.0).0
-                (database_fit game (database_in texts.main) d.0 d.1) in
-                let f = translatable_unfit game d.0 (wide_at width d.0) u r in
-                bad_width game program style width d.0 f.0 refl text f.1 f.2)
+                (database_fit t.game (database_in texts.main) d.0 d.1) in
+                let f = translatable_unfit t.game d.0 (wide_at t.width d.0) u r in
+                bad_width t d.0 f.0 refl text f.1 f.2)
             | inr r ↦ absurd (let g = r.2 in cc)
           ]
     ]
-fails laws (run name source steps width) texts u e =
-    elim (bind-err (program_of_file width name texts.main)
-    (run_with source texts.draws width steps) u e) [
+fails laws (run q) texts u e =
+    elim (bind-err (program_of_file q.width q.program texts.main)
+    (run_with q.source texts.draws q.width q.steps) u e) [
       | inl d ↦
-          (let f = program_unfit name (program_in width texts.main) u d in
-          bad_program name source steps width f.0 refl ((laws.program_fault width texts.main f.0).0
-          f.1) f.2)
+          (let f = program_unfit q.program (program_in q.width texts.main) u d in
+          bad_program q f.0 refl ((laws.program_fault q.width texts.main f.0).0 f.1) f.2)
       | inr d ↦
-          elim (bind-err (draws_from source texts.draws) (run_of width steps d.0) u d.2) [
-            | inl r ↦ (let f = draws_unfit source texts.draws u r in bad_draws f.0 f.1 f.2 f.3 f.4)
+          elim (bind-err (draws_from q.source texts.draws) (run_of q.width q.steps d.0) u d.2) [
+            | inl r ↦ (let f = draws_unfit q.source texts.draws u r in bad_draws f.0 f.1 f.2 f.3
+                f.4)
             | inr r ↦ absurd (let g = r.2 in cc)
           ]
     ]
@@ -236,8 +238,8 @@ fails laws (run name source steps width) texts u e =
 -- a task that is a run comes of a request to run the program
 pub run_request : (request : Request) (texts : Texts) (width : Width) (p : List DirectiveTree)
     (draws : List ℕ) (steps : ℕ)
-    → work request texts ≡ Ok (running width p draws steps) → (name : List ℕ) ×
-    (source : DrawSource) × (request ≡ run name source steps width)
+    → work request texts ≡ Ok (running width p draws steps)
+    → (q : RunRequest) × (request ≡ run q)
 run_request (check game) texts width p draws steps e =
     absurd (let d = bind-ok (database_of_file game texts.main) report_of
     (running width p draws steps) e in let f = d.2 in cc)
@@ -247,31 +249,23 @@ run_request (compile source game) texts width p draws steps e =
 run_request (decompile game source) texts width p draws steps e =
     absurd (let d = bind-ok (database_of_file game texts.main) (store_of source plain)
     (running width p draws steps) e in let f = d.2 in cc)
-run_request (play game source style) texts width p draws steps e =
+run_request (play q) texts width p draws steps e =
     absurd (
-    let d = bind-ok (database_of_file game texts.main) (with_draws source texts.draws style)
+    let d = bind-ok (database_of_file q.game texts.main) (with_draws q.source texts.draws q.style)
     (running width p draws steps) e in
-    let r = bind-ok (draws_from source texts.draws) (play_of style d.0)
+    let r = bind-ok (draws_from q.source texts.draws) (play_of q.style d.0)
     (running width p draws steps) d.2 in
     let f = r.2 in
     cc)
-run_request (translate game program style wide) texts width p draws steps e =
+run_request (translate t) texts width p draws steps e =
     absurd (
-    let d = bind-ok (database_of_file game texts.main) (translate_with game program style wide)
-    (running width p draws steps) e in
-    let r = bind-ok (translatable game wide d.0) (translation_of program style wide)
+    let d = bind-ok (database_of_file t.game texts.main)
+    (translate_with t.game t.program t.style t.width) (running width p draws steps) e in
+    let r = bind-ok (translatable t.game t.width d.0) (translation_of t.program t.style t.width)
     (running width p draws steps) d.2 in
     let f = r.2 in
     cc)
-run_request (run name source most wide) texts width p draws steps e =
-    let d = bind-ok (program_of_file wide name texts.main) (run_with source texts.draws wide most)
-    (running width p draws steps) e in
-    let r = bind-ok (draws_from source texts.draws) (run_of wide most d.0)
-    (running width p draws steps) d.2 in
-    let same : running wide d.0 r.0 most ≡ running width p draws steps = (let f = r.2 in cc) in
-    let width_is : wide ≡ width = cc in
-    let steps_are : most ≡ steps = cc in
-    (name, source, ap (λ x. run name source x wide) steps_are ∙ ap (run name source steps) width_is)
+run_request (run q) texts width p draws steps e = (q, refl)
 
 -- ---- what is accepted
 
@@ -403,6 +397,26 @@ module _ (files : Files) where
       ≡ b
   same_file name {a} {b} there other = ap (λ o. unwrap_or o a) (sym there ∙ other)
 
+  -- draws that are accepted are loaded and read
+  drawn : (source : DrawSource) → HasDraws files (draws_load source) → (bytes draws : List ℕ) ×
+      (loaded files (draws_load source) ≡ Ok bytes) × (draws_from source bytes ≡ Ok draws)
+  drawn (seeded seed) h = ([], _, refl, refl)
+  drawn (listed name) (bytes, draws, loads, lists) = (
+    bytes,
+    draws,
+    loaded-there files _ bytes loads,
+    ap (draws_or_unfit name) lists,
+  )
+
+  -- a source has one list of draws
+  same_draws : (source : DrawSource) (a b : List ℕ) → DrawsAre files source a
+      → DrawsAre files source b → a ≡ b
+  same_draws (seeded seed) a b is also = is ∙ sym also
+  same_draws (listed name) a b (bytes, there, lists) (more, too, also) =
+      let same = same_file name there too in
+      let both = sym lists ∙ ap listed_draws same ∙ also in
+      cc
+
   pub accepted : (laws : Laws) (request : Request) (left : Option (List (List ℕ)))
       → IsAccepted files left (Some request) → Comes request left
   accepted laws (check game) left h =
@@ -419,41 +433,27 @@ module _ (files : Files) where
       (storing source (plain h.1))
       (loaded-there files (database_load game) h.0 h.2) refl
       (ap (λ r. r >>= store_of source plain) (game_reads laws game h.0 h.1 h.3)) tt
-  accepted laws (play game (seeded seed) style) left h =
+  accepted laws (play p) left h =
       let g = h.0 in
-      comes (play game (seeded seed) style) left (record { main = g.0; draws = [] }) _
-      (loaded-there files (database_load game) g.0 g.2) refl
-      (ap (λ r. r >>= with_draws (seeded seed) [] style) (game_reads laws game g.0 g.1 g.3)) tt
-  accepted laws (play game (listed name) style) left h =
-      let g = h.0 in
-      let d = h.1 in
-      comes (play game (listed name) style) left (record { main = g.0; draws = d.0 })
-      (playing style g.1 d.1)
-      (loaded-there files (database_load game) g.0 g.2) (loaded-there files _ d.0 d.2)
-      (ap (λ r. r >>= with_draws (listed name) d.0 style) (game_reads laws game g.0 g.1 g.3) ∙ ap
-      (λ r. draws_or_unfit name r >>= play_of style g.1) d.3) tt
-  accepted laws (translate game program style width) left (bytes, db, loads, text, no_wide) =
-      comes (translate game program style width) left (record { main = bytes; draws = [] })
-      (translating program style width db)
-      (loaded-there files (database_load game) bytes loads) refl
-      (ap (λ r. r >>= translate_with game program style width) (game_reads laws game bytes db text)
-      ∙ ap (λ r. r >>= translation_of program style width) (can_translate game width db no_wide)) tt
-  accepted laws (run name (seeded seed) steps width) left
-      ((bytes, p, draws, lines, loads, is, from_seed, lines_are, zero), h) =
-      comes (run name (seeded seed) steps width) left (record { main = bytes; draws = [] })
-      (running width p draws steps)
-      (loaded-there files (program_load name) bytes loads) refl
-      (ap (λ r. r >>= run_with (seeded seed) [] width steps)
-      (program_reads laws width name bytes p is) ∙ ap (λ d. Ok (running width p d steps))
-      (sym from_seed))
-      (lines, lines_are, zero)
-  accepted laws (run name (listed file) steps width) left
-      ((bytes, p, draws, lines, loads, is, (more, there, lists), lines_are, zero), h) =
-      comes (run name (listed file) steps width) left (record { main = bytes; draws = h.0 })
-      (running width p draws steps)
-      (loaded-there files (program_load name) bytes loads) (loaded-there files _ h.0 h.2)
-      (ap (λ r. r >>= run_with (listed file) h.0 width steps)
-      (program_reads laws width name bytes p is)
-      ∙ ap (λ r. draws_or_unfit file r >>= run_of width steps p)
-      (ap listed_draws (same_file file h.2.0 there) ∙ lists))
+      let d = drawn p.source h.1 in
+      comes (play p) left (record { main = g.0; draws = d.0 }) (playing p.style g.1 d.1)
+      (loaded-there files (database_load p.game) g.0 g.2) d.2
+      (ap (λ r. r >>= with_draws p.source d.0 p.style) (game_reads laws p.game g.0 g.1 g.3) ∙ ap
+      (λ r. r >>= play_of p.style g.1) d.3) tt
+  accepted laws (translate t) left (bytes, db, loads, text, no_wide) =
+      comes (translate t) left (record { main = bytes; draws = [] })
+      (translating t.program t.style t.width db)
+      (loaded-there files (database_load t.game) bytes loads) refl
+      (ap (λ r. r >>= translate_with t.game t.program t.style t.width)
+      (game_reads laws t.game bytes db text) ∙ ap
+      (λ r. r >>= translation_of t.program t.style t.width)
+      (can_translate t.game t.width db no_wide)) tt
+  accepted laws (run q) left
+      ((bytes, p, draws, lines, loads, is, are, lines_are, zero), h) =
+      let d = drawn q.source h in
+      comes (run q) left (record { main = bytes; draws = d.0 }) (running q.width p draws q.steps)
+      (loaded-there files (program_load q.program) bytes loads) d.2
+      (ap (λ r. r >>= run_with q.source d.0 q.width q.steps)
+      (program_reads laws q.width q.program bytes p is) ∙ ap (λ r. r >>= run_of q.width q.steps p)
+      (d.3 ∙ ap Ok (same_draws q.source d.1 draws (draws_are q.source d.0 d.1 d.2 d.3) are)))
       (lines, lines_are, zero)

@@ -131,9 +131,9 @@ module _ (shelf shelf' : ShelfView) (console console' : ConsoleView) (status : �
         checked = λ zero game e. absurd cc;
         compiled = λ zero source game e. absurd cc;
         decompiled = λ zero game source e. absurd cc;
-        played = λ zero game source style e. absurd cc;
-        translated = λ zero game program style width e. absurd cc;
-        ran = λ end name source steps width e. absurd cc;
+        played = λ zero p e. absurd cc;
+        translated = λ zero t e. absurd cc;
+        ran = λ end q e. absurd cc;
         counts = record {
           shelf_later = omega arith;
           console_later = r.later;
@@ -206,11 +206,11 @@ module _ (shelf shelf' : ShelfView) (console console' : ConsoleView) (status : �
           zero);
       decompiled = λ zero game source e. absurd (refused_not_0 console console' status refusal
           r.ended zero);
-      played = λ zero game source style e. absurd (refused_not_0 console console' status refusal
+      played = λ zero p e. absurd (refused_not_0 console console' status refusal
           r.ended zero);
-      translated = λ zero game program style width e. absurd
+      translated = λ zero t e. absurd
           (refused_not_0 console console' status refusal r.ended zero);
-      ran = λ end name source steps width e. absurd (refused_not_end console console' status refusal
+      ran = λ end q e. absurd (refused_not_end console console' status refusal
           r.ended end);
       counts = record {
         shelf_later = later;
@@ -305,9 +305,9 @@ module _ (shelf shelf' : ShelfView) (console console' : ConsoleView) (status : �
           checked = λ zero game e. absurd (omega arith);
           compiled = λ zero source game e. absurd (omega arith);
           decompiled = λ zero game source e. absurd (omega arith);
-          played = λ zero game source style e. absurd (omega arith);
-          translated = λ zero game program style width e. absurd (omega arith);
-          ran = λ end name source steps width e. absurd (not_end status 9 end (λ f. omega arith)
+          played = λ zero p e. absurd (omega arith);
+          translated = λ zero t e. absurd (omega arith);
+          ran = λ end q e. absurd (not_end status 9 end (λ f. omega arith)
               (λ f. omega arith) (λ f. omega arith) nine);
           counts = record {
             shelf_later = omega arith;

@@ -15,8 +15,7 @@ use Rattle.scott_format.specs.Faults.{Fault}
 use Rattle.scott_format.specs.File.{DatText, DatFault}
 use Rattle.adv_decompiler.specs.Plain.{plain}
 use Rattle.scott_format.specs.Canon.{canon}
-use Rattle.scott_requests.specs.Settings.{DrawSource}
-use Rattle.scott_requests.specs.Request.{Request, check, compile, decompile, play, translate, run}
+use Rattle.scott_requests.specs.Request.{PlayRequest, TranslationRequest, RunRequest, Request, check, compile, decompile, play, translate, run}
 use Rattle.scott_rules.specs.Play as rules
 use Rattle.adv_io.specs.Steps.{trace_of}
 use Rattle.scott_tool.specs.Steps.{◌>>=◌}
@@ -72,27 +71,27 @@ module _ (shelf shelf' : ShelfView) (console console' : ConsoleView) (status : �
   refusal_not_run u o is (unstored file stored loses said) end = refused_not_end console console'
       status (unwritten file.name) said end
 
-  ran_by : (laws : Laws) (name : List ℕ) (source : DrawSource) (steps : ℕ) (width : Width)
+  ran_by : (laws : Laws) (q : RunRequest)
       (texts : Texts) (files : Files) (lines : List (List ℕ))
-      → texts_of files (run name source steps width) ≡ Ok texts
+      → texts_of files (run q) ≡ Ok texts
       → Answers shelf shelf' console console' lines (refusing
-      (work (run name source steps width) texts)) status → IsEnd status
-      → Ran files lines name source steps width console console' status
-  ran_by laws name source steps width texts files lines e h end = by
-      (work (run name source steps width) texts) refl h where
-        done_by : (task : Task) (o : Outcome) → work (run name source steps width) texts ≡ Ok task
+      (work (run q) texts)) status → IsEnd status
+      → Ran files lines q.program q.source q.steps q.width console console' status
+  ran_by laws q texts files lines e h end = by
+      (work (run q) texts) refl h where
+        done_by : (task : Task) (o : Outcome) → work (run q) texts ≡ Ok task
             → Does task lines o
             → status ≡ o.status → console'.history ≡ grown console.history o.events
-            → Ran files lines name source steps width console console' status
+            → Ran files lines q.program q.source q.steps q.width console console' status
         done_by task o w does is grew =
-            let d = bind-ok (program_of_file width name texts.main)
-            (λ p. draws_from source texts.draws >>= λ draws. Ok (running width p draws steps)) task w in
-            let r = bind-ok (draws_from source texts.draws) (λ draws. Ok
-            (running width d.0 draws steps)) task d.2 in
-            let l = texts-loaded files (run name source steps width) texts e in
-            let m = program_is files laws width name texts.main d.0 l.0 d.1 in
-            let same : running width d.0 r.0 steps ≡ task = (let f = r.2 in cc) in
-            let o_is : o ≡ run_outcome d.0 (ran width d.0 steps lines r.0) = subst
+            let d = bind-ok (program_of_file q.width q.program texts.main)
+            (λ p. draws_from q.source texts.draws >>= λ draws. Ok (running q.width p draws q.steps)) task w in
+            let r = bind-ok (draws_from q.source texts.draws) (λ draws. Ok
+            (running q.width d.0 draws q.steps)) task d.2 in
+            let l = texts-loaded files (run q) texts e in
+            let m = program_is files laws q.width q.program texts.main d.0 l.0 d.1 in
+            let same : running q.width d.0 r.0 q.steps ≡ task = (let f = r.2 in cc) in
+            let o_is : o ≡ run_outcome d.0 (ran q.width d.0 q.steps lines r.0) = subst
             (λ (t : Task). Does t lines o) (sym same) does in
             record {
               bytes = texts.main;
@@ -100,23 +99,23 @@ module _ (shelf shelf' : ShelfView) (console console' : ConsoleView) (status : �
               draws = r.0;
               there = m.0;
               text = m.1;
-              draws_are = draws_are files source texts.draws r.0 l.1 r.1;
+              draws_are = draws_are files q.source texts.draws r.0 l.1 r.1;
               ends = is ∙ ap (λ x. x.status) o_is;
               seen = grew ∙ ap (λ x. grown console.history x.events) o_is;
             }
 
-        ends_by : (task : Task) (o : Outcome) → work (run name source steps width) texts ≡ Ok task
+        ends_by : (task : Task) (o : Outcome) → work (run q) texts ≡ Ok task
             → Does task lines o → Ends shelf shelf' console console' o status
-            → Ran files lines name source steps width console console' status
+            → Ran files lines q.program q.source q.steps q.width console console' status
         ends_by task o w does (whole is grew files) = done_by task o w does is grew
         ends_by task o w does (unsaid three failed part files) = absurd
             (not_end status 3 end (λ n. omega arith) (λ n. omega arith) (λ n. omega arith) three)
         ends_by task o w does (unstored file stored loses said) = absurd
             (refused_not_end console console' status (unwritten file.name) said end)
 
-        by : (due : Result Task Unfit) → work (run name source steps width) texts ≡ due
+        by : (due : Result Task Unfit) → work (run q) texts ≡ due
             → Answers shelf shelf' console console' lines (refusing due) status
-            → Ran files lines name source steps width console console' status
+            → Ran files lines q.program q.source q.steps q.width console console' status
         by (Ok task) w (inl (o, does, ends)) = ends_by task o w does ends
         by (Ok task) w (inr silent) = absurd (not_end status 9 end (λ n. omega arith) (λ n. omega arith)
             (λ n. omega arith) silent.0)
@@ -199,24 +198,23 @@ module _ (shelf shelf' : ShelfView) (console console' : ConsoleView) (status : �
           ⊎ DrawsHave files (Some request) (λ bytes. (at : ℕ) × (listed_draws bytes ≡ Err at)))
 
       -- the database of a request that translates it
-      game_there : (game program : List ℕ) (style : Style) (width : Width) → request
-          ≡ translate game program style width
-          → IfSome shelf.files (λ files. get files game ≡ Some texts.main)
-      game_there game program style width is =
+      game_there : (t : TranslationRequest) → request ≡ translate t
+          → IfSome shelf.files (λ files. get files t.game ≡ Some texts.main)
+      game_there t is =
           from_files shelf.files (λ files. texts_of files request ≡ Ok texts)
-          (λ files. get files game ≡ Some texts.main)
-          (λ files e. there-loaded files (database_load game) texts.main
+          (λ files. get files t.game ≡ Some texts.main)
+          (λ files e. there-loaded files (database_load t.game) texts.main
           (ap (λ r. loaded files (main_of r)) (sym is) ∙ (texts-loaded files request texts e).0))
           there
 
-      wide_has : (game program : List ℕ) (style : Style) (width : Width) (db : Database)
-          (placed : Placed) → request ≡ translate game program style width
-          → DatText texts.main db → wide_at width db ≡ Some placed → TooWide
-      wide_has game program style width db placed is text wide =
-          from_files shelf.files (λ files. get files game ≡ Some texts.main)
+      wide_has : (t : TranslationRequest) (db : Database) (placed : Placed)
+          → request ≡ translate t
+          → DatText texts.main db → wide_at t.width db ≡ Some placed → TooWide
+      wide_has t db placed is text wide =
+          from_files shelf.files (λ files. get files t.game ≡ Some texts.main)
           (λ files. HasWideNumber files (Some request))
           (λ files there. subst (λ (r : Request). HasWideNumber files (Some r)) (sym is)
-          (texts.main, db, placed, there, text, wide)) (game_there game program style width is)
+          (texts.main, db, placed, there, text, wide)) (game_there t is)
 
       database_cause : Laws → (u : Unfit) → Fails request texts u → content_status u.fault ≡ 4
           → NoDatabase
@@ -224,9 +222,9 @@ module _ (shelf shelf' : ShelfView) (console console' : ConsoleView) (status : �
           game_has (λ bytes. (f : Fault) × DatFault bytes f) game is
           (fault, (laws.database_fault texts.main fault).0 reads)
       database_cause laws u (bad_source source game is why e) four = absurd (omega arith)
-      database_cause laws u (bad_program name source steps width fault is why e) four = absurd
+      database_cause laws u (bad_program q fault is why e) four = absurd
           (omega arith)
-      database_cause laws u (bad_width game program style width db placed is text wide e) four =
+      database_cause laws u (bad_width t db placed is text wide e) four =
           absurd (omega arith)
       database_cause laws u (bad_draws load at is lists e) four = absurd (omega arith)
 
@@ -249,9 +247,9 @@ module _ (shelf shelf' : ShelfView) (console console' : ConsoleView) (status : �
       source_or_draws_cause u (bad_source source game is why e) five =
           from_files shelf.files (λ files. SourceHas files (Some request) IsNoSource) _
           (λ files h. inl h) (source_has source game is why)
-      source_or_draws_cause u (bad_program name source steps width fault is why e) five = absurd
+      source_or_draws_cause u (bad_program q fault is why e) five = absurd
           (omega arith)
-      source_or_draws_cause u (bad_width game program style width db placed is text wide e) five =
+      source_or_draws_cause u (bad_width t db placed is text wide e) five =
           absurd (omega arith)
       source_or_draws_cause u (bad_draws load at is lists e) five =
           from_files shelf.files (λ files. DrawsHave files (Some request)
@@ -262,16 +260,15 @@ module _ (shelf shelf' : ShelfView) (console console' : ConsoleView) (status : �
       abbrev NoProgram : Type 0
       NoProgram = IfSome shelf.files (λ files. HasNoProgram files (Some request))
 
-      program_has : (name : List ℕ) (source : DrawSource) (steps : ℕ) (width : Width)
-          (fault : reader.Fault) → request ≡ run name source steps width
-          → IsFaulty width texts.main fault → NoProgram
-      program_has name source steps width fault is why =
+      program_has : (q : RunRequest) (fault : reader.Fault) → request ≡ run q
+          → IsFaulty q.width texts.main fault → NoProgram
+      program_has q fault is why =
           from_files shelf.files (λ files. texts_of files request ≡ Ok texts)
           (λ files. HasNoProgram files (Some request))
           (λ files e. subst (λ (r : Request). HasNoProgram files (Some r)) (sym is) (
             texts.main,
             fault,
-            there-loaded files (program_load name) texts.main
+            there-loaded files (program_load q.program) texts.main
                 (ap (λ r. loaded files (main_of r)) (sym is) ∙ (texts-loaded files request texts e).0),
             why,
           )) there
@@ -279,28 +276,26 @@ module _ (shelf shelf' : ShelfView) (console console' : ConsoleView) (status : �
       program_cause : (u : Unfit) → Fails request texts u → content_status u.fault ≡ 6 → NoProgram
       program_cause u (bad_database game fault is reads e) six = absurd (omega arith)
       program_cause u (bad_source source game is why e) six = absurd (omega arith)
-      program_cause u (bad_program name source steps width fault is why e) six = program_has name
-          source steps width fault is why
-      program_cause u (bad_width game program style width db placed is text wide e) six = absurd
+      program_cause u (bad_program q fault is why e) six = program_has q fault is why
+      program_cause u (bad_width t db placed is text wide e) six = absurd
           (omega arith)
       program_cause u (bad_draws load at is lists e) six = absurd (omega arith)
 
       width_cause : (u : Unfit) → Fails request texts u → content_status u.fault ≡ 7 → TooWide
       width_cause u (bad_database game fault is reads e) seven = absurd (omega arith)
       width_cause u (bad_source source game is why e) seven = absurd (omega arith)
-      width_cause u (bad_program name source steps width fault is why e) seven = absurd
+      width_cause u (bad_program q fault is why e) seven = absurd
           (omega arith)
-      width_cause u (bad_width game program style width db placed is text wide e) seven = wide_has
-          game program style width db placed is text wide
+      width_cause u (bad_width t db placed is text wide e) seven = wide_has t db placed is text wide
       width_cause u (bad_draws load at is lists e) seven = absurd (omega arith)
 
       content_is : (u : Unfit) (n : ℕ) → Fails request texts u → status ≡ content_status u.fault
           → status ≡ n → (n ≡ 4) ⊎ (n ≡ 5) ⊎ (n ≡ 6) ⊎ (n ≡ 7)
       content_is u n (bad_database game fault is reads e) s f = inl (omega arith)
       content_is u n (bad_source source game is why e) s f = inr (inl (omega arith))
-      content_is u n (bad_program name source steps width fault is why e) s f = inr
+      content_is u n (bad_program q fault is why e) s f = inr
           (inr (inl (omega arith)))
-      content_is u n (bad_width game program style width db placed is text wide e) s f = inr
+      content_is u n (bad_width t db placed is text wide e) s f = inr
           (inr (inr (omega arith)))
       content_is u n (bad_draws load at is lists e) s f = inr (inl (omega arith))
 
@@ -320,16 +315,15 @@ module _ (shelf shelf' : ShelfView) (console console' : ConsoleView) (status : �
       Ended n = IfSome shelf.files (λ files. IfSome console.left
           (λ lines. RunEnds files lines (Some request) n))
 
-      run_ended : (laws : Laws) (name : List ℕ) (source : DrawSource) (steps : ℕ) (width : Width)
-          → request ≡ run name source steps width → IsEnd status → Ended status
-      run_ended laws name source steps width is end =
+      run_ended : (laws : Laws) (q : RunRequest) → request ≡ run q → IsEnd status → Ended status
+      run_ended laws q is end =
           from_files shelf.files (λ files. texts_of files request ≡ Ok texts)
           (λ files. IfSome console.left (λ lines. RunEnds files lines (Some request) status))
           (λ files e. from_lines console.left (λ lines. Answers shelf shelf' console console' lines
           (refusing (work request texts)) status) (λ lines. RunEnds files lines
           (Some request) status)
           (λ lines h. subst (λ (q : Request). RunEnds files lines (Some q) status) (sym is)
-          (let r = ran_by laws name source steps width texts files lines
+          (let r = ran_by laws q texts files lines
           (subst (λ (q : Request). texts_of files q ≡ Ok texts) is e)
           (subst (λ (q : Request). Answers shelf shelf' console console' lines
           (refusing (work q texts)) status) is h) end in
@@ -345,7 +339,7 @@ module _ (shelf shelf' : ShelfView) (console console' : ConsoleView) (status : �
           (not_0 (sym (only 0 status h)))
       task_ended laws (running width p draws steps) is h not_0 =
           let q = run_request request texts width p draws steps is in
-          run_ended laws q.0 q.1 steps width q.2 (task_end (running width p draws steps) status h)
+          run_ended laws q.0 q.1 (task_end (running width p draws steps) status h)
 
       worked_cause : Laws → Answered → Cause
       worked_cause laws (of_task task is h) =
@@ -538,20 +532,20 @@ module _ (shelf shelf' : ShelfView) (console console' : ConsoleView) (status : �
             (λ x. grown console.history x.events) is;
       }
 
-  played_by : (laws : Laws) (game : List ℕ) (source : DrawSource) (style : Style) (texts : Texts)
-      (files : Files) (lines : List (List ℕ)) → texts_of files (play game source style) ≡ Ok texts
-      → (task : Task) (o : Outcome) → work (play game source style) texts ≡ Ok task
+  played_by : (laws : Laws) (q : PlayRequest) (texts : Texts)
+      (files : Files) (lines : List (List ℕ)) → texts_of files (play q) ≡ Ok texts
+      → (task : Task) (o : Outcome) → work (play q) texts ≡ Ok task
       → Does task lines o → console'.history ≡ grown console.history o.events
-      → Played files lines game source style console console'
-  played_by laws game source style texts files lines e task o w does grew =
-      let d = bind-ok (database_of_file game texts.main)
-      (λ db. draws_from source texts.draws >>= λ draws. Ok (playing style db draws)) task w in
-      let r = bind-ok (draws_from source texts.draws) (λ draws. Ok (playing style d.0 draws)) task
+      → Played files lines q.game q.source q.style console console'
+  played_by laws q texts files lines e task o w does grew =
+      let d = bind-ok (database_of_file q.game texts.main)
+      (λ db. draws_from q.source texts.draws >>= λ draws. Ok (playing q.style db draws)) task w in
+      let r = bind-ok (draws_from q.source texts.draws) (λ draws. Ok (playing q.style d.0 draws)) task
       d.2 in
-      let l = texts-loaded files (play game source style) texts e in
-      let m = main_is files laws game texts.main d.0 l.0 d.1 in
-      let same : playing style d.0 r.0 ≡ task = (let f = r.2 in cc) in
-      let is : o ≡ done (shown (trace_of (rules.play (in_style style d.0) lines r.0).events)) =
+      let l = texts-loaded files (play q) texts e in
+      let m = main_is files laws q.game texts.main d.0 l.0 d.1 in
+      let same : playing q.style d.0 r.0 ≡ task = (let f = r.2 in cc) in
+      let is : o ≡ done (shown (trace_of (rules.play (in_style q.style d.0) lines r.0).events)) =
       subst (λ (t : Task). Does t lines o) (sym same) does in
       record {
         bytes = texts.main;
@@ -559,7 +553,7 @@ module _ (shelf shelf' : ShelfView) (console console' : ConsoleView) (status : �
         draws = r.0;
         there = m.0;
         text = m.1;
-        draws_are = draws_are files source texts.draws r.0 l.1 r.1;
+        draws_are = draws_are files q.source texts.draws r.0 l.1 r.1;
         seen = grew ∙ ap (λ x. grown console.history x.events) is;
       }
 
@@ -630,26 +624,26 @@ module _ (shelf shelf' : ShelfView) (console console' : ConsoleView) (status : �
         stored = kept.2 ∙ ap (λ known. with_file known program kept.0) is;
       }
 
-  translated_by : (laws : Laws) (game program : List ℕ) (style : Style) (width : Width)
+  translated_by : (laws : Laws) (t : TranslationRequest)
       (texts : Texts) (files : Files) → shelf.files ≡ Some files
-      → texts_of files (translate game program style width) ≡ Ok texts → (task : Task) → work
-      (translate game program style width) texts ≡ Ok task
+      → texts_of files (translate t) ≡ Ok texts → (task : Task) → work
+      (translate t) texts ≡ Ok task
       → Leaves shelf shelf' (Ok task) status → status ≡ 0
-      → Translated files game program style width shelf'.files
-  translated_by laws game program style width texts files is e task w leaves zero =
-      let d = bind-ok (database_of_file game texts.main)
-      (λ db. translatable game width db >>= λ fit. Ok (translating program style width fit)) task w
+      → Translated files t.game t.program t.style t.width shelf'.files
+  translated_by laws t texts files is e task w leaves zero =
+      let d = bind-ok (database_of_file t.game texts.main)
+      (λ db. translatable t.game t.width db >>= λ fit. Ok (translating t.program t.style t.width fit)) task w
       in
-      let r = bind-ok (translatable game width d.0) (λ fit. Ok
-      (translating program style width fit)) task d.2 in
-      let m = main_is files laws game texts.main d.0 (texts-loaded files
-      (translate game program style width) texts e).0 d.1 in
-      let same : translating program style width r.0 ≡ task = (let f = r.2 in cc) in
-      let fits : translating program style width d.0 ≡ task = subst
-      (λ (db : Database). translating program style width db ≡ task)
-      (translatable_same game width d.0 r.0 r.1) same in
-      stored_program files game program style width texts.main d.0 is m.0 m.1
-      (subst (λ (t : Task). Leaves shelf shelf' (Ok t) status) (sym fits) leaves) zero
+      let r = bind-ok (translatable t.game t.width d.0) (λ fit. Ok
+      (translating t.program t.style t.width fit)) task d.2 in
+      let m = main_is files laws t.game texts.main d.0 (texts-loaded files
+      (translate t) texts e).0 d.1 in
+      let same : translating t.program t.style t.width r.0 ≡ task = (let f = r.2 in cc) in
+      let fits : translating t.program t.style t.width d.0 ≡ task = subst
+      (λ (db : Database). translating t.program t.style t.width db ≡ task)
+      (translatable_same t.game t.width d.0 r.0 r.1) same in
+      stored_program files t.game t.program t.style t.width texts.main d.0 is m.0 m.1
+      (subst (λ (k : Task). Leaves shelf shelf' (Ok k) status) (sym fits) leaves) zero
 
   keeps_some : (name : List ℕ) (MayBe : List ℕ → Type 0) → Keeps shelf shelf' name MayBe status
       → NameKeeps shelf shelf' (Some name) status
@@ -678,36 +672,36 @@ module _ (shelf shelf' : ShelfView) (console console' : ConsoleView) (status : �
       (compiled_from source texts.main) leaves
   keeps_name (decompile game source) texts leaves = kept_as source plain
       (database_of_file game texts.main) leaves
-  keeps_name (translate game program style width) texts leaves = by
-      (database_of_file game texts.main) leaves
+  keeps_name (translate t) texts leaves = by
+      (database_of_file t.game texts.main) leaves
     where
       by : (read : Result Database Unfit) → Leaves shelf shelf'
-          (refusing (read >>= λ db. translatable game width db >>= λ fit. Ok
-          (translating program style width fit))) status
-          → NameKeeps shelf shelf' (Some program) status
+          (refusing (read >>= λ db. translatable t.game t.width db >>= λ fit. Ok
+          (translating t.program t.style t.width fit))) status
+          → NameKeeps shelf shelf' (Some t.program) status
       by (Err u) h = inr (inl h)
-      by (Ok db) h = by_fit (translatable game width db) h
+      by (Ok db) h = by_fit (translatable t.game t.width db) h
         where
           by_fit : (fit : Result Database Unfit) → Leaves shelf shelf'
-              (refusing (fit >>= λ db. Ok (translating program style width db))) status
-              → NameKeeps shelf shelf' (Some program) status
-          by_fit (Ok db) h = keeps_some program (Faithful style width db None) h
+              (refusing (fit >>= λ db. Ok (translating t.program t.style t.width db))) status
+              → NameKeeps shelf shelf' (Some t.program) status
+          by_fit (Ok db) h = keeps_some t.program (Faithful t.style t.width db None) h
           by_fit (Err u) h = inr (inl h)
-  keeps_name (run name source steps width) texts leaves = by (program_of_file width name texts.main)
-      (draws_from source texts.draws) leaves
+  keeps_name (run q) texts leaves = by (program_of_file q.width q.program texts.main)
+      (draws_from q.source texts.draws) leaves
     where
       by : (read : Result (List DirectiveTree) Unfit) (listed : Result (List ℕ) Unfit)
           → Leaves shelf shelf' (refusing (read >>= λ p. listed >>= λ draws. Ok
-          (running width p draws steps))) status → shelf'.files ≡ shelf.files
+          (running q.width p draws q.steps))) status → shelf'.files ≡ shelf.files
       by (Ok p) (Ok draws) h = h
       by (Ok p) (Err u) h = h
       by (Err u) listed h = h
-  keeps_name (play game source style) texts leaves = by (database_of_file game texts.main)
-      (draws_from source texts.draws) leaves
+  keeps_name (play q) texts leaves = by (database_of_file q.game texts.main)
+      (draws_from q.source texts.draws) leaves
     where
       by : (read : Result Database Unfit) (listed : Result (List ℕ) Unfit)
           → Leaves shelf shelf' (refusing (read >>= λ db. listed >>= λ draws. Ok
-          (playing style db draws))) status → shelf'.files ≡ shelf.files
+          (playing q.style db draws))) status → shelf'.files ≡ shelf.files
       by (Ok db) (Ok draws) h = h
       by (Ok db) (Err u) h = h
       by (Err u) listed h = h
@@ -756,32 +750,29 @@ module _ (shelf shelf' : ShelfView) (console console' : ConsoleView) (status : �
             known_files (decompile game source) texts (subst P is there) (subst Q is obeys)
             (λ files. Decompiled files game source shelf'.files)
             (λ files known f. decompiled_by laws game source texts files known f m.0 m.1 m.2 zero);
-        played = λ zero game source style e.
-            let is : request ≡ play game source style = cc in
-            known_both (play game source style) texts (subst P is there) (subst Q is obeys)
-            (λ files lines. Played files lines game source style console console') zero
-            (λ files lines f d. played_by laws game source style texts files lines f d.0 d.1 d.2 d.3
-            d.4);
-        translated = λ zero game program style width e.
-            let is : request ≡ translate game program style width = cc in
-            let m = made (translate game program style width) texts (subst P is there)
-            (subst Q is obeys) zero in
-            known_files (translate game program style width) texts (subst P is there)
-            (subst Q is obeys) (λ files. Translated files game program style width shelf'.files)
-            (λ files known f. translated_by laws game program style width texts files known f m.0
-            m.1 m.2 zero);
-        ran = λ end name source steps width e.
-            let is : request ≡ run name source steps width = cc in
+        played = λ zero q e.
+            let is : request ≡ play q = cc in
+            known_both (play q) texts (subst P is there) (subst Q is obeys)
+            (λ files lines. Played files lines q.game q.source q.style console console') zero
+            (λ files lines f d. played_by laws q texts files lines f d.0 d.1 d.2 d.3 d.4);
+        translated = λ zero t e.
+            let is : request ≡ translate t = cc in
+            let m = made (translate t) texts (subst P is there) (subst Q is obeys) zero in
+            known_files (translate t) texts (subst P is there) (subst Q is obeys)
+            (λ files. Translated files t.game t.program t.style t.width shelf'.files)
+            (λ files known f. translated_by laws t texts files known f m.0 m.1 m.2 zero);
+        ran = λ end q e.
+            let is : request ≡ run q = cc in
             let O : Request → Type 0 = λ r. IfSome console.left
             (λ lines. Answers shelf shelf' console console' lines (refusing (work r texts)) status)
             in
             from_files shelf.files (λ files. texts_of files request ≡ Ok texts)
-            (λ files. IfSome console.left (λ lines. Ran files lines name source steps width console
+            (λ files. IfSome console.left (λ lines. Ran files lines q.program q.source q.steps q.width console
             console' status))
             (λ files f. from_lines console.left (λ lines. Answers shelf shelf' console console'
-            lines (refusing (work (run name source steps width) texts)) status)
-            (λ lines. Ran files lines name source steps width console console' status)
-            (λ lines h. ran_by laws name source steps width texts files lines
+            lines (refusing (work (run q) texts)) status)
+            (λ lines. Ran files lines q.program q.source q.steps q.width console console' status)
+            (λ lines h. ran_by laws q texts files lines
             (subst (λ (r : Request). texts_of files r ≡ Ok texts) is f) h end)
             (subst O is obeys.answered)) there;
         counts = record {

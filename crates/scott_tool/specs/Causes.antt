@@ -33,9 +33,9 @@ abbrev pub game_of : Request → Option (List ℕ)
 game_of (check game) = Some game
 game_of (compile source game) = None
 game_of (decompile game source) = Some game
-game_of (play game source style) = Some game
-game_of (translate game program style width) = Some game
-game_of (run name source steps width) = None
+game_of (play p) = Some p.game
+game_of (translate t) = Some t.game
+game_of (run r) = None
 
 -- it is there, and its bytes have this
 abbrev pub GameHas : Files → Option Request → (List ℕ → Type 0) → Type 0
@@ -52,24 +52,25 @@ SourceHas files _ P = ⊥
 -- the file that the request runs is there, and its bytes have no program that is accepted where
 -- words have the request's width
 abbrev pub HasNoProgram : Files → Option Request → Type 0
-HasNoProgram files (Some (run name source steps width)) =
-    (bytes : List ℕ) × (fault : program.Fault) × (get files name ≡ Some bytes)
-    × IsFaulty width bytes fault
+HasNoProgram files (Some (run r)) =
+    (bytes : List ℕ) × (fault : program.Fault) × (get files r.program ≡ Some bytes)
+    × IsFaulty r.width bytes fault
 HasNoProgram files _ = ⊥
 
 -- the database that the request translates has a number that is no word of the request's width
 abbrev pub HasWideNumber : Files → Option Request → Type 0
-HasWideNumber files (Some (translate game program style width)) =
-    (bytes : List ℕ) × (db : Database) × (placed : Placed) × (get files game ≡ Some bytes)
-    × DatText bytes db × (wide_at width db ≡ Some placed)
+HasWideNumber files (Some (translate t)) =
+    (bytes : List ℕ) × (db : Database) × (placed : Placed) × (get files t.game ≡ Some bytes)
+    × DatText bytes db × (wide_at t.width db ≡ Some placed)
 HasWideNumber files _ = ⊥
 
 -- the run of the request, with these lines, ends with this status
 abbrev pub RunEnds : Files → List (List ℕ) → Option Request → ℕ → Type 0
-RunEnds files lines (Some (run name source steps width)) status =
-    (bytes : List ℕ) × (p : List DirectiveTree) × (draws : List ℕ) × (get files name ≡ Some bytes)
-    × IsProgram width bytes p
-    × DrawsAre files source draws × (stop_status (stop_after width p steps lines draws) ≡ status)
+RunEnds files lines (Some (run r)) status =
+    (bytes : List ℕ) × (p : List DirectiveTree) × (draws : List ℕ)
+    × (get files r.program ≡ Some bytes) × IsProgram r.width bytes p
+    × DrawsAre files r.source draws
+    × (stop_status (stop_after r.width p r.steps lines draws) ≡ status)
 RunEnds files lines _ status = ⊥
 
 -- the file of draws that the request loads is there, and its bytes have this
@@ -150,8 +151,8 @@ IsAccepted files left None = ⊥
 IsAccepted files left (Some (check game)) = IsGame files game
 IsAccepted files left (Some (compile source game)) = IsSource files source
 IsAccepted files left (Some (decompile game source)) = IsGame files game
-IsAccepted files left (Some (play game source style)) =
-    IsGame files game × HasDraws files (draws_load source)
-IsAccepted files left (Some (translate game program style width)) = IsTranslatable files game width
-IsAccepted files left (Some (run name source steps width)) =
-    IsRun files left name source steps width × HasDraws files (draws_load source)
+IsAccepted files left (Some (play p)) =
+    IsGame files p.game × HasDraws files (draws_load p.source)
+IsAccepted files left (Some (translate t)) = IsTranslatable files t.game t.width
+IsAccepted files left (Some (run r)) =
+    IsRun files left r.program r.source r.steps r.width × HasDraws files (draws_load r.source)

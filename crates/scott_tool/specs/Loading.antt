@@ -34,26 +34,26 @@ abbrev pub main_of : Request → Option Load
 main_of (check game) = Some (database_load game)
 main_of (compile source game) = Some (source_load source)
 main_of (decompile game source) = Some (database_load game)
-main_of (play game source style) = Some (database_load game)
-main_of (translate game program style width) = Some (database_load game)
-main_of (run program source steps width) = Some (program_load program)
+main_of (play p) = Some (database_load p.game)
+main_of (translate t) = Some (database_load t.game)
+main_of (run r) = Some (program_load r.program)
 
 abbrev pub draws_of : Request → Option Load
 draws_of (check game) = None
 draws_of (compile source game) = None
 draws_of (decompile game source) = None
-draws_of (play game source style) = draws_load source
-draws_of (translate game program style width) = None
-draws_of (run program source steps width) = draws_load source
+draws_of (play p) = draws_load p.source
+draws_of (translate t) = None
+draws_of (run r) = draws_load r.source
 
 -- the name of the file that a request stores
 abbrev pub stores : Request → Option (List ℕ)
 stores (check game) = None
 stores (compile source game) = Some game
 stores (decompile game source) = Some source
-stores (play game source style) = None
-stores (translate game program style width) = Some program
-stores (run program source steps width) = None
+stores (play p) = None
+stores (translate t) = Some t.program
+stores (run r) = None
 
 -- one of the files that a request loads
 abbrev pub IsLoad : Request → Load → Type 0

@@ -3,8 +3,7 @@ use Rattle.std.specs.Prelude.{◌≡◌, ◌⊎◌, ◌≤◌, ℕ, List, [], �
 use Rattle.adv_io.specs.Console.{ConsoleView}
 use Rattle.adv_io.specs.Faults.{Rose}
 use Rattle.adv_io.specs.Shelf.{Files, ShelfView, with_file}
-use Rattle.scott_requests.specs.Settings.{DrawSource}
-use Rattle.scott_requests.specs.Request.{Request, check, compile, decompile, play, translate, run}
+use Rattle.scott_requests.specs.Request.{PlayRequest, TranslationRequest, RunRequest, Request, check, compile, decompile, play, translate, run}
 use Rattle.scott_types.specs.declared.styles.Style.{Style}
 use Rattle.scott_types.specs.Database.{Database}
 use Rattle.scott_tool.specs.Refusal.{no_request, unread}
@@ -20,7 +19,6 @@ use Rattle.scott_tool.specs.Play.{Played}
 use Rattle.scott_tool.specs.Translate.{Translated}
 use Rattle.scott_tool.specs.Run.{Ran}
 use Rattle.scott_tool.specs.Replay.{IsReplay, Replayed}
-use Rattle.inform_tree.specs.declared.widths.Width.{Width}
 
 -- where the files and the lines are known, this holds of both
 abbrev pub IfKnown : ShelfView → ConsoleView → (Files → List (List ℕ) → Type 0) → Type 0
@@ -105,34 +103,32 @@ HasDecompiled shelf shelf' asked =
 
 abbrev pub HasPlayed : ShelfView → (console console' : ConsoleView) → Option Request → Type 0
 HasPlayed shelf console console' asked =
-    (game : List ℕ) (source : DrawSource) (style : Style) → asked ≡ Some (play game source style)
-    → IfKnown shelf console (λ files lines. Played files lines game source style console console')
+    (p : PlayRequest) → asked ≡ Some (play p)
+    → IfKnown shelf console
+    (λ files lines. Played files lines p.game p.source p.style console console')
 
 abbrev pub HasTranslated : (shelf shelf' : ShelfView) → Option Request → Type 0
 HasTranslated shelf shelf' asked =
-    (game program : List ℕ) (style : Style) (width : Width)
-    → asked ≡ Some (translate game program style width)
-    → IfSome shelf.files (λ files. Translated files game program style width shelf'.files)
+    (t : TranslationRequest) → asked ≡ Some (translate t)
+    → IfSome shelf.files
+    (λ files. Translated files t.game t.program t.style t.width shelf'.files)
 
 -- with 0, and with the statuses of a run that ends otherwise
 abbrev pub HasRun : ShelfView → (console console' : ConsoleView) → Option Request → (status : ℕ)
     → Type 0
 HasRun shelf console console' asked status =
-    (name : List ℕ) (source : DrawSource) (steps : ℕ) (width : Width)
-    → asked ≡ Some (run name source steps width)
+    (r : RunRequest) → asked ≡ Some (run r)
     → IfKnown shelf console
-    (λ files lines. Ran files lines name source steps width console console' status)
+    (λ files lines. Ran files lines r.program r.source r.steps r.width console console' status)
 
 -- where the program is faithful to a database, the lines are typed and the steps enough
 abbrev pub HasReplayed : ShelfView → (console console' : ConsoleView) → Option Request
     → (status : ℕ) → Type 0
 HasReplayed shelf console console' asked status =
-    (name : List ℕ) (source : DrawSource) (steps : ℕ) (width : Width) (style : Style)
-    (db : Database)
-    → asked ≡ Some (run name source steps width)
+    (r : RunRequest) (style : Style) (db : Database) → asked ≡ Some (run r)
     → IfKnown shelf console
-    (λ files lines. IsReplay files lines name steps width style db
-    → Replayed files lines source style db console console' status)
+    (λ files lines. IsReplay files lines r.program r.steps r.width style db
+    → Replayed files lines r.source style db console console' status)
 
 -- ---- counts of faults
 

@@ -78,16 +78,16 @@ work (compile source game) texts = do
 work (decompile game source) texts = do
   db ← database_of_file game texts.main
   Ok (storing source (plain db))
-work (play game source style) texts = do
-  db ← database_of_file game texts.main
-  playing_from style db (draws_from source texts.draws)
-work (translate game program style width) texts = do
-  db ← database_of_file game texts.main
-  fit ← translatable game width db
-  Ok (translating program style width fit)
-work (run program source steps width) texts = do
-  p ← program_of_file width program texts.main
-  running_from width p steps (draws_from source texts.draws)
+work (play p) texts = do
+  db ← database_of_file p.game texts.main
+  playing_from p.style db (draws_from p.source texts.draws)
+work (translate t) texts = do
+  db ← database_of_file t.game texts.main
+  fit ← translatable t.game t.width db
+  Ok (translating t.program t.style t.width fit)
+work (run r) texts = do
+  p ← program_of_file r.width r.program texts.main
+  running_from r.width p r.steps (draws_from r.source texts.draws)
 
 -- ---- what is expected of the words, by the files that there are
 

@@ -41,12 +41,8 @@ pub fn work<S: Shelf, C: Console>(
         Request::Check(game) => check(alloc, game, texts, console),
         Request::Compile(source, game) => compile(alloc, source, game, texts, shelf, console),
         Request::Decompile(game, source) => decompile(alloc, game, source, texts, shelf, console),
-        Request::Play(game, source, style) => play(alloc, game, source, style, texts, console),
-        Request::Translate(game, program, style, width) => {
-            translate(alloc, game, program, style, width, texts, shelf, console)
-        }
-        Request::Run(program, source, steps, width) => {
-            run(alloc, program, source, steps, width, texts, console)
-        }
+        Request::Play(asked) => play(alloc, asked, texts, console),
+        Request::Translate(asked) => translate(alloc, asked, texts, shelf, console),
+        Request::Run(asked) => run(alloc, asked, texts, console),
     }
 }

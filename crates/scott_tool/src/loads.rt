@@ -80,9 +80,9 @@ fn main_of(request: Request<'_>) -> Option<Load<'_>>
         Request::Check(game) => Some(database_load(game)),
         Request::Compile(source, _) => Some(source_load(source)),
         Request::Decompile(game, _) => Some(database_load(game)),
-        Request::Play(game, _, _) => Some(database_load(game)),
-        Request::Translate(game, _, _, _) => Some(database_load(game)),
-        Request::Run(program, _, _, _) => Some(program_load(program)),
+        Request::Play(play) => Some(database_load(play.game)),
+        Request::Translate(translation) => Some(database_load(translation.game)),
+        Request::Run(run) => Some(program_load(run.program)),
     }
 }
 
@@ -94,9 +94,9 @@ fn draws_of(request: Request<'_>) -> Option<Load<'_>>
         Request::Check(_) => None,
         Request::Compile(_, _) => None,
         Request::Decompile(_, _) => None,
-        Request::Play(_, source, _) => draws_load(source),
-        Request::Translate(_, _, _, _) => None,
-        Request::Run(_, source, _, _) => draws_load(source),
+        Request::Play(play) => draws_load(play.source),
+        Request::Translate(_) => None,
+        Request::Run(run) => draws_load(run.source),
     }
 }
 

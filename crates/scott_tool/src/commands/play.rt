@@ -1,7 +1,7 @@
 //! `play F`: a database is played on the console.
 ghost use Rattle.std.specs.Prelude.{◌≤◌, Ok, length};
 ghost use Rattle.scott_requests.specs.Request.{play};
-ghost use Rattle.scott_requests.specs.Views.{source_of};
+ghost use Rattle.scott_requests.specs.Views.{asked_play, source_of};
 ghost use Rattle.scott_tool.specs.Refusal.{refusing};
 ghost use Rattle.scott_tool.specs.Work.{playing, playing_from, work};
 ghost use Rattle.scott_tool.specs.Views.{texts_in};
@@ -13,7 +13,7 @@ use crate::loads::Texts;
 use adv_draws::Draws;
 use adv_io::Console;
 use scott_format::DATABASE_LIMIT;
-use scott_requests::DrawSource;
+use scott_requests::{DrawSource, PlayRequest};
 use scott_turn::Session;
 use scott_types::{Db, Style};
 use std::alloc::Global;
@@ -58,25 +58,17 @@ fn play_from<C: Console>(
     }
 }
 
-/// Plays a database in a style.
-pub fn play<C: Console>(
-    alloc: Global,
-    game: &str,
-    source: DrawSource<'_>,
-    style: Style,
-    texts: &Texts,
-    console: &mut C,
-) -> u8
+/// Plays a database.
+pub fn play<C: Console>(alloc: Global, asked: PlayRequest<'_>, texts: &Texts, console: &mut C) -> u8
     requires { length texts.now.main.items ≤ DATABASE_LIMIT }
     ensures { ObeysAlone (C.seen console.old) (C.seen console.new)
-        (refusing (work (play game.now (source_of source.entry) style)
-        (texts_in texts.now))) result }
+        (refusing (work (play (asked_play asked.entry)) (texts_in texts.now))) result }
 {
-    let db = match database(alloc, game, &texts.main) {
+    let db = match database(alloc, asked.game, &texts.main) {
         Ok(db) => db,
         Err(refusal) => return refusal.end(console),
     };
-    let status = play_from(alloc, &db, source, style, texts, console);
+    let status = play_from(alloc, &db, asked.source, asked.style, texts, console);
     // The system takes the database's memory back at once when the program ends.
     forget(db);
     status

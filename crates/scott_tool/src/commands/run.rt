@@ -5,7 +5,7 @@ ghost use Rattle.adv_io.specs.History.{says};
 ghost use Rattle.inform_names.specs.Views.{directives_of};
 ghost use Rattle.inform_run.specs.Turns.{stop_seen};
 ghost use Rattle.scott_requests.specs.Request.{run};
-ghost use Rattle.scott_requests.specs.Views.{source_of};
+ghost use Rattle.scott_requests.specs.Views.{asked_run, source_of};
 ghost use Rattle.scott_tool.specs.Refusal.{refusing};
 ghost use Rattle.scott_tool.specs.Run.{trap_opening, within, trap_end, steps_spent, routine_name, trap_line, stop_line, stop_status};
 ghost use Rattle.scott_tool.specs.Work.{running, running_from, work};
@@ -21,8 +21,8 @@ use adv_io::{Console, ConsoleFault, say_all};
 use inform_meaning::Trap;
 use inform_names::Accepted;
 use inform_run::{Runner, Stop};
-use inform_tree::{Directive, Width};
-use scott_requests::DrawSource;
+use inform_tree::Directive;
+use scott_requests::{DrawSource, RunRequest};
 use std::alloc::Global;
 use std::mem::forget;
 
@@ -155,24 +155,15 @@ fn run_from<C: Console>(
 }
 
 /// Runs a program.
-pub fn run<C: Console>(
-    alloc: Global,
-    name: &str,
-    source: DrawSource<'_>,
-    steps: u64,
-    width: Width,
-    texts: &Texts,
-    console: &mut C,
-) -> u8
+pub fn run<C: Console>(alloc: Global, asked: RunRequest<'_>, texts: &Texts, console: &mut C) -> u8
     ensures { ObeysAlone (C.seen console.old) (C.seen console.new)
-        (refusing (work (run name.now (source_of source.entry) steps width)
-        (texts_in texts.now))) result }
+        (refusing (work (run (asked_run asked.entry)) (texts_in texts.now))) result }
 {
-    let accepted = match program(alloc, name, width, &texts.main) {
+    let accepted = match program(alloc, asked.program, asked.width, &texts.main) {
         Ok(accepted) => accepted,
         Err(refusal) => return refusal.end(console),
     };
-    let status = run_from(alloc, &accepted, source, steps, texts, console);
+    let status = run_from(alloc, &accepted, asked.source, asked.steps, texts, console);
     // The system takes the program's memory back at once when it ends.
     forget(accepted);
     status

@@ -9,10 +9,10 @@ use Rattle.scott_tool.proofs.commands.translate.program_text.Goals as goal
 
 pub returns : goal.returns
 returns c =
-    let game = c.args.game.now in
-    let program = c.args.program.now in
-    let style = c.args.style in
-    let width = c.args.width in
+    let game = c.args.asked.game.now in
+    let program = c.args.asked.program.now in
+    let style = c.args.asked.style in
+    let width = c.args.asked.width in
     let db = c.in_ok-db.db in
     subst (λ (r : Result Task Unfit). MakesFile program c.translated.result r)
     (sym (ap (λ r. r >>= λ d. translatable game width d >>= λ fit. Ok
