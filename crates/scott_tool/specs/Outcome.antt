@@ -25,9 +25,13 @@ pub record Outcome : Type 0 where
   pub events : List Event
   pub stored : Option File
 
+-- it ended with a status, and nothing is stored
+abbrev pub ended : ℕ → List Event → Outcome
+ended status events = record { status = status; events = events; stored = None }
+
 -- what was asked for was done
 abbrev pub done : List Event → Outcome
-done events = record { status = 0; events = events; stored = None }
+done events = ended 0 events
 
 -- it was done, and a file is stored
 abbrev pub keeping : List ℕ → List ℕ → Outcome
@@ -36,8 +40,7 @@ keeping name bytes =
 
 -- it was refused, and its line is said
 abbrev pub refused : Refusal → Outcome
-refused refusal =
-    record { status = status_of refusal; events = says (line_of refusal); stored = None }
+refused refusal = ended (status_of refusal) (says (line_of refusal))
 
 -- With the outcome's status all its events were seen; or the console failed, with status 3 and a
 -- prefix of them.

@@ -33,6 +33,12 @@ DrawsAre files (listed name) draws =
     (bytes : List ℕ) × (get files name ≡ Some bytes) × (listed_draws bytes ≡ Ok draws)
 DrawsAre files (seeded seed) draws = draws ≡ seeded_draws seed
 
+-- the file of draws is there, and has a run of bytes that is no draw
+abbrev pub AreNoDraws : Files → DrawSource → Type 0
+AreNoDraws files (listed name) =
+    (bytes : List ℕ) × (at : ℕ) × (get files name ≡ Some bytes) × (listed_draws bytes ≡ Err at)
+AreNoDraws files (seeded seed) = ⊥
+
 -- What status 0 means: the file is a text of a database, and the console saw what the play of it in
 -- this style says and takes, with these lines and its draws.
 pub record Played (files : Files) (lines : List (List ℕ)) (game : List ℕ) (source : DrawSource)

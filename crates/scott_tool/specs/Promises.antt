@@ -1,17 +1,19 @@
 -- What the program promises, whatever words, files and lines it is given.
-use Rattle.std.specs.Prelude.{◌≡◌, ◌⊎◌, ◌≤◌, ℕ, List, [], ◌∷◌, Option, Some, None, IfSome, Contains}
+use Rattle.std.specs.Prelude.{◌≡◌, ◌⊎◌, ◌≤◌, ℕ, List, [], ◌∷◌, Option, Some, None, IfSome, Ok, Contains}
 use Rattle.adv_io.specs.Console.{ConsoleView}
 use Rattle.adv_io.specs.Faults.{Rose}
+use Rattle.adv_io.specs.History.{grown}
 use Rattle.adv_io.specs.Shelf.{Files, ShelfView, with_file}
 use Rattle.scott_requests.specs.Request.{PlayRequest, TranslationRequest, RunRequest, Request, check, compile, decompile, play, translate, run}
 use Rattle.scott_types.specs.declared.styles.Style.{Style}
 use Rattle.scott_types.specs.Database.{Database}
 use Rattle.scott_tool.specs.Refusal.{no_request, unread}
-use Rattle.scott_tool.specs.Outcome.{statuses, refused, Concludes, Loses}
+use Rattle.scott_tool.specs.Outcome.{statuses, Outcome, refused, Concludes, Loses}
 use Rattle.scott_tool.specs.Loading.{stores}
-use Rattle.scott_tool.specs.Work.{expected, statuses_of}
-use Rattle.scott_tool.specs.Obeying.{Stands, Answers, MayTake, ShelfStays, ConsoleStays}
-use Rattle.scott_tool.specs.Causes.{OneLoaded, HasCause, IsAccepted}
+use Rattle.scott_tool.specs.Work.{Task, Does}
+use Rattle.scott_tool.specs.Plan.{Reaches, expected, statuses_of}
+use Rattle.scott_tool.specs.Obeying.{Stands, Answers, Leaves, MayTake, ShelfStays, ConsoleStays}
+use Rattle.scott_tool.specs.Causes.{OneLoaded, HasPlan, HasCause, IsAccepted}
 use Rattle.scott_tool.specs.Check.{Checked}
 use Rattle.scott_tool.specs.Compile.{Compiled}
 use Rattle.scott_tool.specs.Decompile.{Decompiled}
@@ -84,7 +86,31 @@ abbrev pub KeepsFiles : (shelf shelf' : ShelfView) → Option Request → (statu
 KeepsFiles shelf shelf' None status = shelf'.files ≡ shelf.files
 KeepsFiles shelf shelf' (Some request) status = NameKeeps shelf shelf' (stores request) status
 
--- ---- with status 0
+-- ---- what was done
+
+-- a task ends with 0, and a run with 8 or 10 too
+abbrev pub IsEnd : (status : ℕ) → Type 0
+IsEnd status = (status ≡ 0) ⊎ (status ≡ 8) ⊎ (status ≡ 10)
+
+-- The console saw what the task does with the lines that are left, and the status is its own; and
+-- the file that it stores is there.
+pub record WasDone (shelf shelf' : ShelfView) (console console' : ConsoleView) (task : Task)
+    (status : ℕ) : Type 0 where
+  pub seen : IfSome console.left
+      (λ lines. (o : Outcome) × Does task lines o × (status ≡ o.status)
+      × (console'.history ≡ grown console.history o.events))
+  pub files : Leaves shelf shelf' (Ok task) status
+
+-- Each content of the request was what it should be, and its task was done. So it is with 0, and
+-- with the statuses of a run that ends otherwise.
+abbrev pub HasDone : (shelf shelf' : ShelfView) → (console console' : ConsoleView)
+    → Option Request → (status : ℕ) → Type 0
+HasDone shelf shelf' console console' asked status =
+    IfSome shelf.files
+    (λ files. HasPlan asked (λ plan. Reaches files plan
+    (λ task. WasDone shelf shelf' console console' task status)))
+
+-- ---- the same, command by command
 
 abbrev pub HasChecked : ShelfView → (console console' : ConsoleView) → Option Request → Type 0
 HasChecked shelf console console' asked =

@@ -1,7 +1,7 @@
 //! The commands, each on what was loaded for it.
 ghost use Rattle.scott_requests.specs.Views.{request_of};
 ghost use Rattle.scott_tool.specs.Refusal.{refusing};
-ghost use Rattle.scott_tool.specs.Work.{work};
+ghost use Rattle.scott_tool.specs.Plan.{work};
 ghost use Rattle.scott_tool.specs.Views.{texts_in};
 ghost use Rattle.scott_tool.specs.Obeying.{Obeys, MainFits};
 

@@ -1,10 +1,10 @@
 //! The program's one call.
-ghost use Rattle.std.specs.Prelude.{◌≡◌, ◌⊎◌, Some};
+ghost use Rattle.std.specs.Prelude.{◌≡◌, Some};
 ghost use Rattle.scott_requests.specs.Request.{asked_by};
 ghost use Rattle.scott_requests.specs.Views.{request_of};
 ghost use Rattle.scott_tool.specs.Laws.{Laws};
 ghost use Rattle.scott_tool.specs.Obeying.{Handled};
-ghost use Rattle.scott_tool.specs.Promises.{HasStatus, IsSeen, KeepsFiles, Completes, HasChecked, HasCompiled, HasDecompiled, HasPlayed, HasTranslated, HasRun, HasReplayed, Counts};
+ghost use Rattle.scott_tool.specs.Promises.{HasStatus, IsSeen, KeepsFiles, Completes, IsEnd, HasDone, HasChecked, HasCompiled, HasDecompiled, HasPlayed, HasTranslated, HasRun, HasReplayed, Counts};
 
 use crate::commands::work;
 use crate::loads::load_texts;
@@ -86,6 +86,12 @@ pub fn scott<S: Shelf, C: Console>(
     ensures complete { Completes (S.seen shelf.old) (S.seen shelf.new)
         (C.seen console.old) (C.seen console.new) (asked_by words.now) result }
 
+    // With 0, and with 8 and 10 of a run, each content of the request was what it should be, and
+    // its task was done: the console saw it, and its file is stored. The next clauses say what this
+    // means for each command.
+    ensures done { IsEnd result → HasDone (S.seen shelf.old) (S.seen shelf.new)
+        (C.seen console.old) (C.seen console.new) (asked_by words.now) result }
+
     // With 0 `check` has said the report on the file's database.
     ensures checked { result ≡ 0 → HasChecked (S.seen shelf.old)
         (C.seen console.old) (C.seen console.new) (asked_by words.now) }
@@ -108,7 +114,7 @@ pub fn scott<S: Shelf, C: Console>(
         (asked_by words.now) }
 
     // With 0, 8 and 10 `run` has shown the run of the file's program, and then its line.
-    ensures ran { (result ≡ 0) ⊎ (result ≡ 8) ⊎ (result ≡ 10) → HasRun (S.seen shelf.old)
+    ensures ran { IsEnd result → HasRun (S.seen shelf.old)
         (C.seen console.old) (C.seen console.new) (asked_by words.now) result }
 
     // The run of a program that is faithful to a database, as `translate` stores it, on typed lines

@@ -2,7 +2,7 @@
 ghost use Rattle.std.specs.Prelude.{◌≤◌, length};
 ghost use Rattle.scott_requests.specs.Request.{check};
 ghost use Rattle.scott_tool.specs.Refusal.{refusing};
-ghost use Rattle.scott_tool.specs.Work.{work};
+ghost use Rattle.scott_tool.specs.Plan.{work};
 ghost use Rattle.scott_tool.specs.Views.{texts_in};
 ghost use Rattle.scott_tool.specs.Obeying.{Makes, ObeysAlone};
 

@@ -1,7 +1,7 @@
 //! `compile S F`: the database that a source means is stored.
 ghost use Rattle.scott_requests.specs.Request.{compile};
 ghost use Rattle.scott_tool.specs.Refusal.{refusing};
-ghost use Rattle.scott_tool.specs.Work.{work};
+ghost use Rattle.scott_tool.specs.Plan.{work};
 ghost use Rattle.scott_tool.specs.Views.{texts_in};
 ghost use Rattle.scott_tool.specs.Obeying.{MakesFile, Obeys};
 

@@ -3,7 +3,8 @@ ghost use Rattle.std.specs.Prelude.{◌≤◌, Ok, length};
 ghost use Rattle.scott_requests.specs.Request.{play};
 ghost use Rattle.scott_requests.specs.Views.{asked_play, source_of};
 ghost use Rattle.scott_tool.specs.Refusal.{refusing};
-ghost use Rattle.scott_tool.specs.Work.{playing, playing_from, work};
+ghost use Rattle.scott_tool.specs.Work.{play_task};
+ghost use Rattle.scott_tool.specs.Plan.{playing_from, work};
 ghost use Rattle.scott_tool.specs.Views.{texts_in};
 ghost use Rattle.scott_tool.specs.Obeying.{ObeysAlone};
 ghost use Rattle.scott_tool.specs.Play.{draws_from};
@@ -28,7 +29,7 @@ fn play_with<C: Console>(
     console: &mut C,
 ) -> u8
     ensures { ObeysAlone (C.seen console.old) (C.seen console.new)
-        (Ok (playing style db.now draws.left)) result }
+        (Ok (play_task style db.now draws.left)) result }
 {
     match Session::open(alloc, db, style) {
         Ok(mut session) => match session.play(&mut draws, console) {

@@ -8,7 +8,8 @@ ghost use Rattle.scott_requests.specs.Request.{run};
 ghost use Rattle.scott_requests.specs.Views.{asked_run, source_of};
 ghost use Rattle.scott_tool.specs.Refusal.{refusing};
 ghost use Rattle.scott_tool.specs.Run.{trap_opening, within, trap_end, steps_spent, routine_name, trap_line, stop_line, stop_status};
-ghost use Rattle.scott_tool.specs.Work.{running, running_from, work};
+ghost use Rattle.scott_tool.specs.Work.{run_task};
+ghost use Rattle.scott_tool.specs.Plan.{running_from, work};
 ghost use Rattle.scott_tool.specs.Views.{texts_in};
 ghost use Rattle.scott_tool.specs.Obeying.{ObeysAlone};
 ghost use Rattle.scott_tool.specs.Play.{draws_from};
@@ -124,7 +125,7 @@ fn run_with<C: Console>(
     console: &mut C,
 ) -> u8
     ensures { ObeysAlone (C.seen console.old) (C.seen console.new)
-        (Ok (running accepted.now.width (directives_of accepted.now) draws.left steps)) result }
+        (Ok (run_task accepted.now.width (directives_of accepted.now) steps draws.left)) result }
 {
     match Runner::open(alloc, accepted) {
         Ok(mut runner) => match runner.run(&mut draws, steps, console) {

@@ -3,7 +3,7 @@ use Rattle.adv_io.specs.Shelf.{ShelfView}
 use Rattle.scott_requests.specs.Views.{request_of}
 use Rattle.scott_tool.specs.Views.{refusal_of, texts_in}
 use Rattle.scott_tool.specs.Refusal.{refusing}
-use Rattle.scott_tool.specs.Work.{work}
+use Rattle.scott_tool.specs.Plan.{work}
 use Rattle.scott_tool.specs.Obeying.{Obeys, not_loaded, worked}
 use Rattle.scott_tool.proofs.program.obey.Goals as goal
 

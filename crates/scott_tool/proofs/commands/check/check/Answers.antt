@@ -1,5 +1,5 @@
 use Rattle.scott_requests.specs.Request.{check}
-use Rattle.scott_tool.specs.Work.{work}
+use Rattle.scott_tool.specs.Plan.{work}
 use Rattle.scott_tool.specs.Views.{texts_in}
 use Rattle.scott_tool.proofs.commands.check.check.Goals as goal
 

@@ -6,7 +6,8 @@ use Rattle.scott_tool.specs.Steps.{◌>>=◌}
 use Rattle.scott_tool.specs.Refusal.{Unfit, refusing}
 use Rattle.scott_tool.specs.Check.{database_of_file}
 use Rattle.scott_tool.specs.Play.{draws_from}
-use Rattle.scott_tool.specs.Work.{Task, playing_from, work}
+use Rattle.scott_tool.specs.Work.{Task}
+use Rattle.scott_tool.specs.Plan.{playing_from, work}
 use Rattle.scott_tool.specs.Views.{refusal_of, texts_in}
 use Rattle.scott_tool.specs.Obeying.{Obeys}
 use Rattle.scott_tool.proofs.Declining.{declined-first}

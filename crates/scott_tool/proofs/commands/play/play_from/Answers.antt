@@ -2,7 +2,8 @@ use Rattle.std.proofs.Common.{Result, Ok, sym, ap, subst}
 use Rattle.scott_requests.specs.Views.{source_of}
 use Rattle.scott_tool.specs.Refusal.{Unfit, refusing}
 use Rattle.scott_tool.specs.Play.{draws_from}
-use Rattle.scott_tool.specs.Work.{Task, playing, playing_from}
+use Rattle.scott_tool.specs.Work.{Task, play_task}
+use Rattle.scott_tool.specs.Plan.{playing_from}
 use Rattle.scott_tool.specs.Views.{refusal_of}
 use Rattle.scott_tool.specs.Obeying.{Obeys}
 use Rattle.scott_tool.proofs.Declining.{declined-first}
@@ -23,5 +24,5 @@ returns-in-Err g c = λ shelf.
     obeys-declined (g.C.Console.seen c.args.console.now)
     (g.C.Console.seen c.end.new.console) c.end.result shelf
     (playing_from c.args.style c.args.db.now drawn) (refusal_of c.in-Err.refusal)
-    (declined-first drawn (λ draws. Ok (playing c.args.style c.args.db.now draws))
+    (declined-first drawn (λ draws. Ok (play_task c.args.style c.args.db.now draws))
     (refusal_of c.in-Err.refusal) (rw c.deref.ensures.value at c.in-Err.ensures)) c.end.ensures

@@ -3,7 +3,8 @@ use Rattle.inform_names.specs.Views.{directives_of}
 use Rattle.scott_requests.specs.Views.{source_of}
 use Rattle.scott_tool.specs.Refusal.{Unfit, refusing}
 use Rattle.scott_tool.specs.Play.{draws_from}
-use Rattle.scott_tool.specs.Work.{Task, running, running_from}
+use Rattle.scott_tool.specs.Work.{Task, run_task}
+use Rattle.scott_tool.specs.Plan.{running_from}
 use Rattle.scott_tool.specs.Views.{refusal_of}
 use Rattle.scott_tool.specs.Obeying.{Obeys}
 use Rattle.scott_tool.proofs.Declining.{declined-first}
@@ -27,6 +28,6 @@ returns-in-Err g c = λ shelf.
     (g.C.Console.seen c.end.new.console) c.end.result shelf
     (running_from accepted.width (directives_of accepted) c.args.steps drawn)
     (refusal_of c.in-Err.refusal)
-    (declined-first drawn (λ draws. Ok (running accepted.width
-    (directives_of accepted) draws c.args.steps)) (refusal_of c.in-Err.refusal)
+    (declined-first drawn (λ draws. Ok (run_task accepted.width
+    (directives_of accepted) c.args.steps draws)) (refusal_of c.in-Err.refusal)
     (rw c.deref.ensures.value at c.in-Err.ensures)) c.end.ensures
