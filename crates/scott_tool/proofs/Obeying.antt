@@ -11,7 +11,7 @@ use Rattle.adv_io.proofs.Sayings.{grown-nil}
 use Rattle.scott_tool.specs.declared.refusals.ContentFault.{ContentFault}
 use Rattle.scott_tool.specs.declared.refusals.ContentFault.TheVariants.{NoDatabase, NoSource, NoMeaning, NoDraws, NoProgram, NoTranslation}
 use Rattle.scott_tool.specs.Refusal.{Refusal, Unfit, no_request, unread, too_long, unfit, unwritten, refusing, content_status, status_of}
-use Rattle.scott_tool.specs.Outcome.{Outcome, done, keeping, refused, kept, Concludes, Loses, Ends, whole, unsaid, unstored}
+use Rattle.scott_tool.specs.Outcome.{Outcome, done, keeping, refused, unkept, kept, Concludes, Loses, Ends, whole, unsaid, unstored}
 use Rattle.scott_tool.specs.Work.{Text, IsText, Task, saying, storing, running, playing, Does, task_statuses}
 use Rattle.scott_tool.specs.Obeying.{Stands, Answers, Leaves, Obeys, Refuses, FailsToStore, Declines}
 use Rattle.scott_tool.specs.Promises.{IsEnd}
@@ -69,8 +69,9 @@ nothing_done : (shelf : ShelfView) (expected : Result Task Refusal) (status : �
 nothing_done shelf (Ok (saying text)) status not_0 = refl
 nothing_done shelf (Ok (storing name text)) status not_0 = record
     { stored = λ e. absurd (not_0 e); stay = inr (inl refl) }
-nothing_done shelf (Ok (running ends events)) status not_0 = refl
-nothing_done shelf (Ok (playing events)) status not_0 = refl
+nothing_done shelf (Ok (running ends show)) status not_0 = refl
+nothing_done shelf (Ok (playing show None)) status not_0 = refl
+nothing_done shelf (Ok (playing show (Some save))) status not_0 = inl refl
 nothing_done shelf (Err refusal) status not_0 = refl
 
 -- and where what was done is all said
@@ -79,8 +80,9 @@ said_stays : (shelf : ShelfView) (task : Task) (status : ℕ) (events : List Eve
 said_stays shelf (saying text) status events lines does = refl
 said_stays shelf (storing name text) status events lines (out, is, e) = absurd
     (let stored = ap (λ o. o.stored) e in cc)
-said_stays shelf (running ends more) status events lines does = refl
-said_stays shelf (playing more) status events lines does = refl
+said_stays shelf (running ends show) status events lines does = refl
+said_stays shelf (playing show None) status events lines does = refl
+said_stays shelf (playing show (Some save)) status events lines does = inl refl
 
 -- what concludes and stores nothing ends so
 concluded : (shelf : ShelfView) (old new : ConsoleView) (o : Outcome) (status : ℕ) → o.stored ≡ None
@@ -101,7 +103,7 @@ obeys-stored shelf shelf' view text name bytes is files faults = record {
         whole refl (sym (grown-nil view.history)) files,
       )) view.left;
   stands = inl (first 0);
-  silent = λ e. refl;
+  silent = λ quiet e. refl;
   lines = inl (inl refl);
   files = record { stored = λ e. (bytes, is, files); stay = inl refl };
   shelf_later = omega arith;
@@ -109,6 +111,27 @@ obeys-stored shelf shelf' view text name bytes is files faults = record {
   shelf_stays = inr (inr faults);
   console_stays = inr refl;
 }
+
+-- what ends with a refusal's status doesn't end with that of something done, of want of memory, or of
+-- a run
+concluded_not : (old new : ConsoleView) (status : ℕ) (o : Outcome) (n : ℕ)
+    → is_refused o.status ≡ true → NoRefusal n → (n ≡ 3 → ⊥)
+    → Concludes old new o status → status ≡ n → ⊥
+concluded_not old new status o n is free not_3 (inl h) e =
+    true≢false (sym is ∙ ap is_refused (sym h.0 ∙ e) ∙ not_refused n free)
+concluded_not old new status o n is free not_3 (inr h) e = not_3 (sym e ∙ h.0)
+
+-- nor does a store that failed
+pub unkept_not_end : (old new : ConsoleView) (status : ℕ) (o : Outcome) (name : List ℕ)
+    → Concludes old new (unkept o name) status → IsEnd status → ⊥
+unkept_not_end old new status o name said (inl e) =
+    concluded_not old new status (unkept o name) 0 refl (inl refl) (λ f. omega arith) said e
+unkept_not_end old new status o name said (inr (inl e)) =
+    concluded_not old new status (unkept o name) 8 refl (inr (inr (inr (inl refl))))
+    (λ f. omega arith) said e
+unkept_not_end old new status o name said (inr (inr e)) =
+    concluded_not old new status (unkept o name) 10 refl (inr (inr (inr (inr refl))))
+    (λ f. omega arith) said e
 
 module _ (old new : ConsoleView) (status : ℕ) where
   -- a request that is refused isn't done, and memory didn't run out
@@ -146,7 +169,7 @@ module _ (old new : ConsoleView) (status : ℕ) where
       answered = whatever (λ lines. Answers shelf shelf old new lines expected status)
           (λ lines. inr r.ended) old.left;
       stands = inr (inl r.ended.0);
-      silent = λ e. r.ended.1;
+      silent = λ quiet e. r.ended.1;
       lines = inr r.lines;
       files = nothing_done shelf expected status (λ e. let nine = r.ended.0 in omega arith);
       shelf_later = omega arith;
@@ -166,7 +189,7 @@ module _ (old new : ConsoleView) (status : ℕ) where
                 (refused (unfit u)) status refl r.ended,
           )) old.left;
       stands = refused_stands (Rose shelf.faults shelf.faults) (unfit u) r.ended;
-      silent = λ e. absurd (refused_not_9 (unfit u) r.ended e);
+      silent = λ quiet e. absurd (refused_not_9 (unfit u) r.ended e);
       lines = inr r.lines;
       files = refl;
       shelf_later = omega arith;
@@ -212,7 +235,7 @@ module _ (old new : ConsoleView) (status : ℕ) where
           | inr h ↦ inr
               (inr (inl (h.0, h.1)))
         ];
-        silent = λ e. absurd (refused_not_9 (unwritten name) r.ended e);
+        silent = λ quiet e. absurd (refused_not_9 (unwritten name) r.ended e);
         lines = inr r.lines;
         files = record {
           stored = λ e. absurd (refused_not_0 (unwritten name) r.ended e);
@@ -266,7 +289,7 @@ module _ (old new : ConsoleView) (status : ℕ) where
           (λ lines. Answers shelf shelf old new lines (Ok task) status)
           (λ lines h. inl (done (events lines), does lines, whole e h refl)) old.left said;
       stands = inl (subst (Contains (task_statuses task)) (sym e) (task_has_0 task));
-      silent = λ f. absurd (omega arith);
+      silent = λ quiet f. absurd (omega arith);
       lines = inl (inl e);
       files = stays;
       shelf_later = omega arith;
@@ -280,7 +303,7 @@ module _ (old new : ConsoleView) (status : ℕ) where
           (λ lines h. inl (done (events lines), does lines, unsaid e cause.failed h refl)) old.left
           part;
       stands = inr (inr (inl (e, cause.failed)));
-      silent = λ f. absurd (omega arith);
+      silent = λ quiet f. absurd (omega arith);
       lines = inl (inr (inl e));
       files = stays;
       shelf_later = omega arith;

@@ -1,7 +1,6 @@
 -- What holds of all ways in which a request is handled.
 use Rattle.std.proofs.Common.{◌≡◌, ◌∙◌, ◌⊎◌, ℕ, List, [], ◌∷◌, Option, Some, None, IfSome, Result, Ok, Err, sym, ap, subst, inl, inr}
 use Rattle.std.specs.Prelude.{Contains}
-use Rattle.adv_io.specs.declared.events.Event.{Event}
 use Rattle.adv_io.specs.Console.{ConsoleView}
 use Rattle.adv_io.specs.Faults.{Rose}
 use Rattle.adv_io.specs.Shelf.{Files, ShelfView}
@@ -9,11 +8,11 @@ use Rattle.scott_requests.specs.Request.{Request}
 use Rattle.scott_tool.specs.Steps.{◌>>=◌}
 use Rattle.scott_tool.specs.Refusal.{Refusal, unread, refusing}
 use Rattle.scott_tool.specs.Loading.{Texts, texts_of}
-use Rattle.scott_tool.specs.Work.{Task, saying, storing, running, playing, task_statuses}
+use Rattle.scott_tool.specs.Work.{Show, Task, saying, storing, running, playing, task_statuses}
 use Rattle.scott_tool.specs.Plan.{work, expected, statuses_of}
 use Rattle.scott_tool.specs.Obeying.{Stands, Answers}
 use Rattle.scott_tool.specs.Causes.{OneLoaded, EndsWith0, IsAccepted}
-use Rattle.scott_tool.specs.Outcome.{refused, Concludes, whole, unsaid, unstored}
+use Rattle.scott_tool.specs.Outcome.{refused, Concludes, whole, unsaid, unstored, cut_short}
 use Rattle.scott_tool.specs.Promises.{HasStatus, Completes, IsSeen, NameKeeps, KeepsFiles, IsEnd, HasDone, IfKnown, SaysUnread, Counts}
 use Rattle.scott_tool.proofs.Statuses.{first}
 use Rattle.scott_tool.specs.Laws.{Laws}
@@ -82,17 +81,18 @@ module _ (shelf shelf' : ShelfView) (console console' : ConsoleView) (status : �
       ⊎ SaysUnread shelf shelf' console console' asked status
 
   -- a run that ends with 0 did so, unless something failed
-  run_0 : (ends : List (List ℕ) → ℕ) (events : List (List ℕ) → List Event)
+  run_0 : (ends : List (List ℕ) → ℕ) (show : Show)
       (lines : List (List ℕ)) → ends lines ≡ 0
-      → Answers shelf shelf' console console' lines (Ok (running ends events)) status
+      → Answers shelf shelf' console console' lines (Ok (running ends show)) status
       → Stand (0 ∷ [])
-  run_0 ends events lines zero (inl (o, does, whole is grew files)) =
+  run_0 ends show lines zero (inl (o, does, whole is grew files)) =
       inl (subst (Contains (0 ∷ [])) (sym (is ∙ ap (λ x. x.status) does ∙ zero)) (first 0))
-  run_0 ends events lines zero (inl (o, does, unsaid three failed part files)) = inr
+  run_0 ends show lines zero (inl (o, does, unsaid three failed part files)) = inr
       (inr (inl (three, failed)))
-  run_0 ends events lines zero (inl (o, does, unstored file is loses said)) = absurd
+  run_0 ends show lines zero (inl (o, does, unstored file is loses said)) = absurd
       (let none = sym (ap (λ x. x.stored) does) ∙ is in cc)
-  run_0 ends events lines zero (inr silent) = inr (inl silent.0)
+  run_0 ends show lines zero (inl (o, does, cut_short nine grew files)) = inr (inl nine)
+  run_0 ends show lines zero (inr silent) = inr (inl silent.0)
 
   unread_stands : (asked : Option Request) → SaysUnread shelf shelf' console console' asked status
       → Stand (0 ∷ [])
@@ -116,11 +116,11 @@ module _ (shelf shelf' : ShelfView) (console console' : ConsoleView) (status : �
       (0 ∷ [])
   stand_0 request files (saying text) is ends stand seen = stand
   stand_0 request files (storing name text) is ends stand seen = stand
-  stand_0 request files (playing events) is ends stand seen = stand
-  stand_0 request files (running ends events) is (lines, left, zero) stand seen =
+  stand_0 request files (playing show save) is ends stand seen = stand
+  stand_0 request files (running ends show) is (lines, left, zero) stand seen =
       elim (seen_with (Some request) files lines console.left left seen) [
         | inl h ↦
-            run_0 ends events lines zero
+            run_0 ends show lines zero
             (subst (λ (r : Result Task Refusal). Answers shelf shelf' console console' lines r
             status) is h)
         | inr h ↦ unread_stands (Some request) h

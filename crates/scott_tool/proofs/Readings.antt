@@ -20,14 +20,14 @@ use Rattle.scott_types.specs.Database.{Database}
 use Rattle.scott_tool.specs.Laws.{Laws}
 use Rattle.scott_tool.specs.Steps.{◌>>=◌}
 use Rattle.scott_tool.specs.Refusal.{Refusal, Unfit, refusing, content_status}
-use Rattle.scott_tool.specs.Loading.{Load, main_of, draws_of, stores, draws_load, database_load, source_load, program_load, loaded, Texts}
+use Rattle.scott_tool.specs.Loading.{Load, main_of, draws_of, stores, late_statuses, draws_load, database_load, source_load, program_load, loaded, Texts}
 use Rattle.scott_tool.specs.Check.{database_or_unfit, database_of_file}
 use Rattle.scott_tool.specs.Compile.{source_or_unfit, meaning_or_unfit, compiled_from, IsNoSource}
 use Rattle.scott_tool.specs.Play.{draws_or_unfit, draws_from, DrawsAre, AreNoDraws}
 use Rattle.trans_rows.specs.Wide.{Placed, wide_at}
 use Rattle.scott_tool.specs.Translate.{translatable_or_unfit, translatable}
 use Rattle.scott_tool.specs.Run.{program_or_unfit, program_of_file}
-use Rattle.scott_tool.specs.Work.{Task, saying, storing, running, playing}
+use Rattle.scott_tool.specs.Work.{Task, stored_by, late_of}
 use Rattle.scott_tool.specs.Plan.{Plan, of_game, of_source, of_program, with_draws, narrow, doing, plan, followed, work, Reaches, IsRefused, expected}
 use Rattle.scott_tool.specs.Causes.{IsLoadable, EndsWith0, IsAccepted}
 use Rattle.scott_tool.proofs.Files.{bind-ok, bind-err, there-loaded, loaded-there}
@@ -119,58 +119,55 @@ translatable_fit name db fit (Some placed) e = absurd cc
 
 -- ---- plans and what is loaded for them
 
--- the name under which a task stores a file
-abbrev pub stored_by : Task → Option (List ℕ)
-stored_by (saying text) = None
-stored_by (storing name text) = Some name
-stored_by (running ends events) = None
-stored_by (playing events) = None
-
--- a plan reads the files that are loaded, and its task stores under this name
-abbrev pub IsMade : (main draws : Option Load) → Option (List ℕ) → Plan → Type 0
-IsMade main draws name (of_game file next) =
-    (main ≡ Some (database_load file)) × ((db : Database) → IsMade main draws name (next db))
-IsMade main draws name (of_source file next) =
-    (main ≡ Some (source_load file)) × ((db : Database) → IsMade main draws name (next db))
-IsMade main draws name (of_program width file next) =
+-- a plan reads the files that are loaded, and its task stores under this name and has these other
+-- statuses
+abbrev pub IsMade : (main draws : Option Load) → Option (List ℕ) → (late : List ℕ) → Plan
+    → Type 0
+IsMade main draws name late (of_game file next) =
+    (main ≡ Some (database_load file)) × ((db : Database) → IsMade main draws name late (next db))
+IsMade main draws name late (of_source file next) =
+    (main ≡ Some (source_load file)) × ((db : Database) → IsMade main draws name late (next db))
+IsMade main draws name late (of_program width file next) =
     (main ≡ Some (program_load file))
-    × ((p : List DirectiveTree) → IsMade main draws name (next p))
-IsMade main draws name (with_draws source next) =
-    (draws ≡ draws_load source) × ((ds : List ℕ) → IsMade main draws name (next ds))
-IsMade main draws name (narrow width file db next) = IsMade main draws name next
-IsMade main draws name (doing task) = stored_by task ≡ name
+    × ((p : List DirectiveTree) → IsMade main draws name late (next p))
+IsMade main draws name late (with_draws source next) =
+    (draws ≡ draws_load source) × ((ds : List ℕ) → IsMade main draws name late (next ds))
+IsMade main draws name late (narrow width file db next) = IsMade main draws name late next
+IsMade main draws name late (doing task) = (stored_by task ≡ name) × (late_of task ≡ late)
 
 -- so are the plans of all requests
 pub made : (request : Request)
-    → IsMade (main_of request) (draws_of request) (stores request) (plan request)
-made (check game) = (refl, λ db. refl)
-made (compile source game) = (refl, λ db. refl)
-made (decompile game source) = (refl, λ db. refl)
-made (play p) = (refl, λ db. (refl, λ ds. refl))
-made (translate t) = (refl, λ db. refl)
-made (run r) = (refl, λ p. (refl, λ ds. refl))
+    → IsMade (main_of request) (draws_of request) (stores request) (late_statuses request)
+    (plan request)
+made (check game) = (refl, λ db. (refl, refl))
+made (compile source game) = (refl, λ db. (refl, refl))
+made (decompile game source) = (refl, λ db. (refl, refl))
+made (play p) = (refl, λ db. (refl, λ ds. (refl, refl)))
+made (translate t) = (refl, λ db. (refl, refl))
+made (run r) = (refl, λ p. (refl, λ ds. (refl, refl)))
 
--- the task of a plan that was followed stores under its name
-pub task_name : (main draws : Option Load) (name : Option (List ℕ)) (texts : Texts) (p : Plan)
-    → IsMade main draws name p → (task : Task) → followed p texts ≡ Ok task
-    → stored_by task ≡ name
-task_name main draws name texts (of_game file next) (m, more) task w =
+-- the task of a plan that was followed stores under its name, and has its other statuses
+pub task_made : (main draws : Option Load) (name : Option (List ℕ)) (late : List ℕ)
+    (texts : Texts) (p : Plan)
+    → IsMade main draws name late p → (task : Task) → followed p texts ≡ Ok task
+    → (stored_by task ≡ name) × (late_of task ≡ late)
+task_made main draws name late texts (of_game file next) (m, more) task w =
     let d = bind-ok (database_of_file file texts.main) (λ db. followed (next db) texts) task w in
-    task_name main draws name texts (next d.0) (more d.0) task d.2
-task_name main draws name texts (of_source file next) (m, more) task w =
+    task_made main draws name late texts (next d.0) (more d.0) task d.2
+task_made main draws name late texts (of_source file next) (m, more) task w =
     let d = bind-ok (compiled_from file texts.main) (λ db. followed (next db) texts) task w in
-    task_name main draws name texts (next d.0) (more d.0) task d.2
-task_name main draws name texts (of_program width file next) (m, more) task w =
+    task_made main draws name late texts (next d.0) (more d.0) task d.2
+task_made main draws name late texts (of_program width file next) (m, more) task w =
     let d = bind-ok (program_of_file width file texts.main) (λ p. followed (next p) texts) task w in
-    task_name main draws name texts (next d.0) (more d.0) task d.2
-task_name main draws name texts (with_draws source next) (m, more) task w =
+    task_made main draws name late texts (next d.0) (more d.0) task d.2
+task_made main draws name late texts (with_draws source next) (m, more) task w =
     let d = bind-ok (draws_from source texts.draws) (λ ds. followed (next ds) texts) task w in
-    task_name main draws name texts (next d.0) (more d.0) task d.2
-task_name main draws name texts (narrow width file db next) m task w =
+    task_made main draws name late texts (next d.0) (more d.0) task d.2
+task_made main draws name late texts (narrow width file db next) m task w =
     let d = bind-ok (translatable file width db) (λ _. followed next texts) task w in
-    task_name main draws name texts next m task d.2
-task_name main draws name texts (doing other) m task w =
-    let same : other ≡ task = cc in subst (λ (t : Task). stored_by t ≡ name) same m
+    task_made main draws name late texts next m task d.2
+task_made main draws name late texts (doing other) m task w =
+    let same : other ≡ task = cc in subst (λ (t : Task). (stored_by t ≡ name) × (late_of t ≡ late)) same m
 
 same_file : (files : Files) (name : List ℕ) {a b : List ℕ} → get files name ≡ Some a
     → get files name ≡ Some b → a ≡ b
@@ -195,10 +192,10 @@ module _ (files : Files) where
       by (Err at) f g = absurd cc
 
 module _ (laws : Laws) (files : Files) (texts : Texts) (main draws : Option Load)
-    (name : Option (List ℕ)) (main_is : loaded files main ≡ Ok texts.main)
+    (name : Option (List ℕ)) (late : List ℕ) (main_is : loaded files main ≡ Ok texts.main)
     (draws_is : loaded files draws ≡ Ok texts.draws) where
   abbrev Made : Plan → Type 0
-  Made p = IsMade main draws name p
+  Made p = IsMade main draws name late p
 
   main_there : (load : Load) → main ≡ Some load → get files load.name ≡ Some texts.main
   main_there load is =
@@ -416,7 +413,8 @@ module _ (laws : Laws) (files : Files) (request : Request) where
       let m = text_for (main_of request) (λ load is. all load (inl is)) in
       let d = text_for (draws_of request) (λ load is. all load (inr is)) in
       let texts : Texts = record { main = m.0; draws = d.0 } in
-      let c = comes laws files texts (main_of request) (draws_of request) (stores request) m.1 d.1
+      let c = comes laws files texts (main_of request) (draws_of request) (stores request)
+      (late_statuses request) m.1 d.1
       (λ task. EndsWith0 task left) (plan request) (made request) reaches in (
         c.0,
         ap (λ r. come (r >>= rest)) m.1 ∙ ap (λ r. come (r >>= λ ds. Ok

@@ -96,7 +96,7 @@ module _ (shelf shelf' : ShelfView) (console console' : ConsoleView) (status : �
         seen = record {
           all = seen;
           usage = λ e. r.ended;
-          silent = λ e. absurd (refused_not_9 console console' status no_request r.ended e);
+          silent = λ quiet e. absurd (refused_not_9 console console' status no_request r.ended e);
           lines = inr r.lines;
         };
         files = same;
@@ -163,7 +163,7 @@ module _ (shelf shelf' : ShelfView) (console console' : ConsoleView) (status : �
       seen = record {
         all = seen;
         usage = λ e. absurd cc;
-        silent = λ e. absurd
+        silent = λ quiet e. absurd
             (refused_not_9 console console' status refusal r.ended e);
         lines = inr r.lines;
       };
@@ -200,7 +200,7 @@ module _ (shelf shelf' : ShelfView) (console console' : ConsoleView) (status : �
           seen = record {
             all = all;
             usage = λ e. absurd cc;
-            silent = λ e. r.ended.1;
+            silent = λ quiet e. r.ended.1;
             lines = inr
                 r.lines;
           };

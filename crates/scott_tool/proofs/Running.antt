@@ -53,13 +53,13 @@ module _ (shelf : ShelfView) (old new : ConsoleView) (status : ℕ) (width : Wid
         (λ lines h. inl (ended (ending lines) (events lines), refl, whole h.0 h.1 refl))
         old.left shown;
     stands = inl (end_is status end);
-    silent = λ e. absurd (not_end status 9 end (λ f. omega arith) (λ f. omega arith)
+    silent = λ quiet e. absurd (not_end status 9 end (λ f. omega arith) (λ f. omega arith)
         (λ f. omega arith) e);
     lines = inl (elim end [
       | inl e ↦ inl e
       | inr (inl e) ↦ inr (inr (inl e))
       | inr (inr e) ↦ inr
-          (inr (inr e))
+          (inr (inr (inl e)))
     ]);
     files = refl;
     shelf_later = omega arith;
@@ -82,7 +82,7 @@ module _ (shelf : ShelfView) (old new : ConsoleView) (status : ℕ) (width : Wid
               refl,
         )) old.left part;
     stands = inr (inr (inl (three, failed)));
-    silent = λ e. absurd (omega arith);
+    silent = λ quiet e. absurd (omega arith);
     lines = inl (inr (inl three));
     files = refl;
     shelf_later = omega arith;

@@ -83,8 +83,8 @@ run_end status (suc (suc (suc i))) less e = absurd (omega arith)
 pub task_end : (task : Task) (status : ℕ) → Contains (task_statuses task) status → IsEnd status
 task_end (saying text) status h = inl (sym (only 0 status h))
 task_end (storing name text) status h = inl (sym (only 0 status h))
-task_end (running ends events) status h = run_end status h.0 h.1 h.2
-task_end (playing events) status h = inl (sym (only 0 status h))
+task_end (running ends show) status h = run_end status h.0 h.1 h.2
+task_end (playing show save) status h = inl (sym (only 0 status h))
 
 pub not_end : (status n : ℕ) → IsEnd status → (n ≡ 0 → ⊥) → (n ≡ 8 → ⊥) → (n ≡ 10 → ⊥) → status ≡ n
     → ⊥
@@ -118,5 +118,5 @@ tells S F expected status (inr (inr (inr h))) = of_shelf h.0 h.1
 pub task_has_0 : (task : Task) → Contains (task_statuses task) 0
 task_has_0 (saying text) = first 0
 task_has_0 (storing name text) = first 0
-task_has_0 (running ends events) = (0, lit< tt, refl)
-task_has_0 (playing events) = first 0
+task_has_0 (running ends show) = (0, lit< tt, refl)
+task_has_0 (playing show save) = first 0

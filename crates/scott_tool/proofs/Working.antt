@@ -1,33 +1,36 @@
 -- What the program promises where all files of a request were loaded.
-use Rattle.std.proofs.Common.{◌≡◌, ◌∙◌, ℕ, List, Option, Some, None, IfSome, Result, Ok, Err, refl, sym, ap, subst, inl, inr, ◌⊎◌, arith}
+use Rattle.std.proofs.Common.{◌≡◌, ◌∙◌, ℕ, List, [], Option, Some, None, IfSome, Result, Ok, Err, refl, sym, ap, subst, inl, inr, ◌⊎◌, arith}
 use Rattle.std.specs.Prelude.{Contains}
 use Rattle.adv_io.specs.Console.{ConsoleView}
 use Rattle.adv_io.specs.Faults.{Rose}
 use Rattle.adv_io.specs.History.{grown}
 use Rattle.adv_io.specs.Shelf.{Files, ShelfView}
 use Rattle.scott_requests.specs.Request.{Request}
-use Rattle.scott_tool.specs.Refusal.{Refusal, Unfit, unfit, unwritten, refusing, content_status}
-use Rattle.scott_tool.specs.Outcome.{Outcome, statuses, Ends, whole, unsaid, unstored}
-use Rattle.scott_tool.specs.Loading.{main_of, draws_of, stores, Texts, texts_of}
-use Rattle.scott_tool.specs.Work.{Task, saying, storing, running, playing, Does, status_with}
-use Rattle.scott_tool.specs.Plan.{plan, work, Reaches, IsRefused, expected, statuses_of}
-use Rattle.scott_tool.specs.Obeying.{Stands, Answers, Leaves, Obeys}
+use Rattle.scott_tool.specs.Refusal.{Refusal, Unfit, unfit, refusing, content_status}
+use Rattle.scott_tool.specs.Outcome.{Outcome, statuses, Ends, whole, unsaid, unstored, cut_short}
+use Rattle.scott_tool.specs.Loading.{main_of, draws_of, stores, late_statuses, Texts, texts_of}
+use Rattle.scott_tool.specs.Work.{IsText, Task, saying, storing, running, playing, Does, status_with, stored_by, late_of}
+use Rattle.scott_tool.specs.Plan.{plan, work, Reaches, IsRefused, expected, statuses_of, late_in}
+use Rattle.scott_tool.specs.Obeying.{Keeps, Stands, Answers, Leaves, MayTake, IsSilent, Obeys}
 use Rattle.scott_tool.specs.Causes.{IsOfContent, EndsWith, HasCause, by_task, by_content, by_run, by_memory, by_console, by_shelf}
 use Rattle.scott_tool.specs.Laws.{Laws}
 use Rattle.scott_tool.specs.Promises.{IfKnown, SaysUnread, NameKeeps, IsEnd, WasDone}
 use Rattle.scott_tool.proofs.Files.{texts-loaded}
 use Rattle.scott_tool.proofs.Statuses.{is_2, is_3, is_9, is_content, of_content, is_end, task_end, not_end, Tells, of_task, of_fault, of_memory, of_console, of_shelf, tells}
-use Rattle.scott_tool.proofs.Obeying.{refusal_not, refused_not_end}
-use Rattle.scott_tool.proofs.Readings.{stored_by, made, task_name, reached, refused_first, reaches_more}
+use Rattle.scott_tool.proofs.Obeying.{refusal_not, unkept_not_end}
+use Rattle.scott_tool.proofs.Readings.{made, task_made, reached, refused_first, reaches_more}
 use Rattle.scott_tool.proofs.Promised.{Promises, from_files, from_lines, expected-ok, complete_from}
+
+no_contains : (n : ℕ) → Contains [] n → ⊥
+no_contains n h = absurd (let less = h.1 in omega arith)
 
 -- the status of what a task does is its own
 does_status : (task : Task) (lines : List (List ℕ)) (o : Outcome) → Does task lines o
     → o.status ≡ status_with task lines
 does_status (saying text) lines o (out, is, e) = ap (λ x. x.status) e
 does_status (storing name text) lines o (out, is, e) = ap (λ x. x.status) e
-does_status (running ends events) lines o e = ap (λ x. x.status) e
-does_status (playing events) lines o e = ap (λ x. x.status) e
+does_status (running ends show) lines o e = ap (λ x. x.status) e
+does_status (playing show save) lines o e = ap (λ x. x.status) e
 
 module _ (shelf shelf' : ShelfView) (console console' : ConsoleView) (status : ℕ) where
   abbrev Broke : Type 0
@@ -48,7 +51,9 @@ module _ (shelf shelf' : ShelfView) (console console' : ConsoleView) (status : �
   ended_whole o (unsaid three failed part files) end = absurd
       (not_end status 3 end (λ n. omega arith) (λ n. omega arith) (λ n. omega arith) three)
   ended_whole o (unstored file stored loses said) end = absurd
-      (refused_not_end console console' status (unwritten file.name) said end)
+      (unkept_not_end console console' status o file.name said end)
+  ended_whole o (cut_short nine grew files) end = absurd
+      (not_end status 9 end (λ n. omega arith) (λ n. omega arith) (λ n. omega arith) nine)
 
   abbrev Saw : Task → List (List ℕ) → Type 0
   Saw task lines = (o : Outcome) × Does task lines o × (status ≡ o.status)
@@ -79,6 +84,13 @@ module _ (shelf shelf' : ShelfView) (console console' : ConsoleView) (status : �
 
   -- ---- the files
 
+  kept_some : (name : List ℕ) (MayBe : List ℕ → Type 0) → Keeps shelf shelf' name MayBe status
+      → NameKeeps shelf shelf' (Some name) status
+  kept_some name MayBe h = elim h.stay [
+    | inl zero ↦ (let kept = h.stored zero in inl (zero, (kept.0, kept.2)))
+    | inr other ↦ inr other
+  ]
+
   keeps_name : (name : Option (List ℕ)) (task : Task) → stored_by task ≡ name
       → Leaves shelf shelf' (Ok task) status → NameKeeps shelf shelf' name status
   keeps_name name task is h =
@@ -87,12 +99,14 @@ module _ (shelf shelf' : ShelfView) (console console' : ConsoleView) (status : �
       by : (task : Task) → Leaves shelf shelf' (Ok task) status
           → NameKeeps shelf shelf' (stored_by task) status
       by (saying text) h = h
-      by (running ends events) h = h
-      by (playing events) h = h
-      by (storing other text) h = elim h.stay [
-        | inl zero ↦ (let kept = h.stored zero in inl (zero, (kept.0, kept.2)))
-        | inr more ↦ inr more
+      by (running ends show) h = h
+      by (playing show None) h = h
+      by (playing show (Some save)) h = elim h [
+        | inl same ↦ inr (inl same)
+        | inr keeps ↦ kept_some save.name
+            (λ out. (lines : List (List ℕ)) × (save.text lines ≡ Some out)) keeps
       ]
+      by (storing other text) h = kept_some other (IsText text) h
 
   stay_named : (name : Option (List ℕ)) → shelf'.files ≡ shelf.files
       → NameKeeps shelf shelf' name status
@@ -122,8 +136,8 @@ module _ (shelf shelf' : ShelfView) (console console' : ConsoleView) (status : �
     done_by task w end =
         from_files shelf.files (λ files. texts_of files request ≡ Ok texts) DoneIn
         (λ files e. let l = texts-loaded files request texts e in
-        reached laws files texts (main_of request) (draws_of request) (stores request) l.0 l.1 Done
-        (plan request) (made request) task w (was_done task (obeys_task task w) end)) there
+        reached laws files texts (main_of request) (draws_of request) (stores request)
+        (late_statuses request) l.0 l.1 Done (plan request) (made request) task w (was_done task (obeys_task task w) end)) there
 
     refused_by : (u : Unfit) → work request texts ≡ Err u → status ≡ content_status u.fault
         → IfSome shelf.files (λ files. IsRefused files (plan request) status)
@@ -132,8 +146,8 @@ module _ (shelf shelf' : ShelfView) (console console' : ConsoleView) (status : �
         (λ files. IsRefused files (plan request) status)
         (λ files e. let l = texts-loaded files request texts e in
         subst (IsRefused files (plan request)) (sym s)
-        (refused_first laws files texts (main_of request) (draws_of request) (stores request) l.0
-        l.1 (plan request) (made request) u w)) there
+        (refused_first laws files texts (main_of request) (draws_of request) (stores request)
+        (late_statuses request) l.0 l.1 (plan request) (made request) u w)) there
 
     run_ended : IfSome shelf.files DoneIn
         → IfSome shelf.files (λ files. EndsWith files console.left (Some request) status)
@@ -181,11 +195,38 @@ module _ (shelf shelf' : ShelfView) (console console' : ConsoleView) (status : �
     done (of_shelf two failed) end = absurd (not_end status 2 end (λ n. omega arith)
         (λ n. omega arith) (λ n. omega arith) two)
 
+    was_made : (task : Task) → work request texts ≡ Ok task
+        → (stored_by task ≡ stores request) × (late_of task ≡ late_statuses request)
+    was_made task w = task_made (main_of request) (draws_of request) (stores request)
+        (late_statuses request) texts (plan request) (made request) task w
+
+    -- what may have been seen with other statuses is as the request has it
+    late_seen : (due : Result Task Unfit) → work request texts ≡ due
+        → IsSilent console console' (late_in (refusing due)) status
+        → IsSilent console console' (late_statuses request) status
+    late_seen (Ok task) w h =
+        subst (λ (late : List ℕ). IsSilent console console' late status) (was_made task w).1 h
+    late_seen (Err u) w h = λ quiet e. h (λ none. absurd (no_contains 9 none)) e
+
+    late_taken : (due : Result Task Unfit) → work request texts ≡ due
+        → MayTake (late_in (refusing due)) status ⊎ (console'.left ≡ console.left)
+        → MayTake (late_statuses request) status ⊎ (console'.left ≡ console.left)
+    late_taken (Ok task) w h =
+        subst (λ (late : List ℕ). MayTake late status ⊎ (console'.left ≡ console.left))
+        (was_made task w).1 h
+    late_taken (Err u) w h = elim h [
+      | inl (inl e) ↦ inl (inl e)
+      | inl (inr (inl e)) ↦ inl (inr (inl e))
+      | inl (inr (inr (inl e))) ↦ inl (inr (inr (inl e)))
+      | inl (inr (inr (inr (inl e)))) ↦ inl (inr (inr (inr (inl e))))
+      | inl (inr (inr (inr (inr none)))) ↦ absurd (no_contains status none)
+      | inr same ↦ inr same
+    ]
+
     -- what is stored is under the name that the request has for it
     kept : (due : Result Task Unfit) → work request texts ≡ due
         → Leaves shelf shelf' (refusing due) status → NameKeeps shelf shelf' (stores request) status
-    kept (Ok task) w h = keeps_name (stores request) task (task_name (main_of request)
-        (draws_of request) (stores request) texts (plan request) (made request) task w) h
+    kept (Ok task) w h = keeps_name (stores request) task (was_made task w).0 h
     kept (Err u) w h = stay_named (stores request) h
 
     stands : IfSome shelf.files (λ files. Stand (statuses_of (expected files (Some request))))
@@ -217,8 +258,8 @@ module _ (shelf shelf' : ShelfView) (console console' : ConsoleView) (status : �
           seen = record {
             all = seen;
             usage = λ e. absurd cc;
-            silent = obeys.silent;
-            lines = obeys.lines;
+            silent = late_seen (work request texts) refl obeys.silent;
+            lines = late_taken (work request texts) refl obeys.lines;
           };
           files = kept (work request texts) refl obeys.files;
           complete = complete_from shelf shelf' console console' status laws (Some request) stands

@@ -39,9 +39,9 @@ EndsWith files left asked status =
     HasPlan asked (λ plan. Reaches files plan
     (λ task. IfSome left (λ lines. status_with task lines ≡ status)))
 
--- Each status comes only with its cause: the task was done; the words were no request; the shelf or
--- the console failed; a content was refused; a run ended otherwise; memory ran out; or a file was too
--- long.
+-- Each status comes only with its cause: the task was done; the words were no request; the shelf
+-- or the console failed; a content was refused; a run ended otherwise; memory ran out; or a file was
+-- too long.
 pub data HasCause (shelf shelf' : ShelfView) (console console' : ConsoleView)
     (asked : Option Request) (status : ℕ) : Type 0 where
   by_task : status ≡ 0 → HasCause shelf shelf' console console' asked status
@@ -75,9 +75,9 @@ AllLoadable files request =
 abbrev pub EndsWith0 : Task → Option (List (List ℕ)) → Type 0
 EndsWith0 (saying text) left = Unit {0}
 EndsWith0 (storing name text) left = Unit {0}
-EndsWith0 (running status events) left =
+EndsWith0 (running status show) left =
     (lines : List (List ℕ)) × (left ≡ Some lines) × (status lines ≡ 0)
-EndsWith0 (playing events) left = Unit {0}
+EndsWith0 (playing show save) left = Unit {0}
 
 -- each file of a request is there, within its limit, and what it should be; and a run ends with 0
 abbrev pub IsAccepted : Files → Option (List (List ℕ)) → Option Request → Type 0

@@ -12,7 +12,7 @@ use Rattle.scott_tool.specs.Refusal.{Refusal, Unfit, no_request, unread, too_lon
 use Rattle.scott_tool.specs.Outcome.{Outcome, refused, Concludes, Silent, Loses, Ends}
 use Rattle.scott_tool.specs.Loading.{Load, Texts, main_of, IsLoad, texts_of}
 use Rattle.scott_tool.specs.Work.{Text, IsText, Task, saying, storing, running, playing}
-use Rattle.scott_tool.specs.Plan.{work, statuses_of, IsExpected}
+use Rattle.scott_tool.specs.Plan.{work, statuses_of, late_in, IsExpected}
 use Rattle.scott_tool.specs.Views.{refusal_of}
 
 -- ---- outcomes
@@ -42,13 +42,23 @@ pub record Keeps (shelf shelf' : ShelfView) (name : List ℕ) (MayBe : List ℕ 
 abbrev pub Leaves : (shelf shelf' : ShelfView) → Result Task Refusal → (status : ℕ) → Type 0
 Leaves shelf shelf' (Ok (saying text)) status = shelf'.files ≡ shelf.files
 Leaves shelf shelf' (Ok (storing name text)) status = Keeps shelf shelf' name (IsText text) status
-Leaves shelf shelf' (Ok (running ends events)) status = shelf'.files ≡ shelf.files
-Leaves shelf shelf' (Ok (playing events)) status = shelf'.files ≡ shelf.files
+Leaves shelf shelf' (Ok (running ends show)) status = shelf'.files ≡ shelf.files
+Leaves shelf shelf' (Ok (playing show None)) status = shelf'.files ≡ shelf.files
+Leaves shelf shelf' (Ok (playing show (Some save))) status =
+    (shelf'.files ≡ shelf.files) ⊎ Keeps shelf shelf' save.name
+    (λ out. (lines : List (List ℕ)) × (save.text lines ≡ Some out)) status
 Leaves shelf shelf' (Err refusal) status = shelf'.files ≡ shelf.files
 
--- only what is done, is a run that ends otherwise, or fails at the console, may take a line
-abbrev pub MayTake : (status : ℕ) → Type 0
-MayTake status = (status ≡ 0) ⊎ (status ≡ 3) ⊎ (status ≡ 8) ⊎ (status ≡ 10)
+-- only what is done, is a run that ends otherwise, or fails at the console, may take a line; and what
+-- ends with one of these other statuses
+abbrev pub MayTake : (late : List ℕ) → (status : ℕ) → Type 0
+MayTake late status =
+    (status ≡ 0) ⊎ (status ≡ 3) ⊎ (status ≡ 8) ⊎ (status ≡ 10) ⊎ Contains late status
+
+-- with 9 nothing is seen, unless it is one of these other statuses
+abbrev pub IsSilent : (old new : ConsoleView) → (late : List ℕ) → (status : ℕ) → Type 0
+IsSilent old new late status =
+    (Contains late 9 → ⊥) → status ≡ 9 → new.history ≡ old.history
 
 -- a console's count of faults stays, but with 3
 abbrev pub ConsoleStays : (old new : ConsoleView) → (status : ℕ) → Type 0
@@ -64,8 +74,8 @@ pub record Obeys (shelf shelf' : ShelfView) (old new : ConsoleView) (expected : 
   pub answered : IfSome old.left (λ lines. Answers shelf shelf' old new lines expected status)
   pub stands : Stands (Rose shelf.faults shelf'.faults) (Rose old.faults new.faults)
       (statuses_of expected) status
-  pub silent : status ≡ 9 → new.history ≡ old.history
-  pub lines : MayTake status ⊎ (new.left ≡ old.left)
+  pub silent : IsSilent old new (late_in expected) status
+  pub lines : MayTake (late_in expected) status ⊎ (new.left ≡ old.left)
   pub files : Leaves shelf shelf' expected status
   pub shelf_later : shelf.faults ≤ shelf'.faults
   pub later : old.faults ≤ new.faults

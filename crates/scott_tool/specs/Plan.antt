@@ -27,7 +27,7 @@ use Rattle.scott_tool.specs.Compile.{compiled_from, IsNoSource}
 use Rattle.scott_tool.specs.Play.{draws_from, DrawsAre, AreNoDraws}
 use Rattle.scott_tool.specs.Translate.{translatable}
 use Rattle.scott_tool.specs.Run.{program_of_file}
-use Rattle.scott_tool.specs.Work.{exactly, translation, Task, saying, storing, Does, task_statuses, play_task, run_task}
+use Rattle.scott_tool.specs.Work.{exactly, translation, Task, saying, storing, Does, task_statuses, late_of, play_task, run_task}
 
 -- The file of this name is read as a database, as a source of one, or as a program for words of
 -- this width; the draws are read; that no number of the database is too wide for words of this
@@ -130,6 +130,11 @@ expected files (Some request) = texts_of files request >>= λ texts. refusing (w
 abbrev pub statuses_of : Result Task Refusal → List ℕ
 statuses_of (Ok task) = task_statuses task
 statuses_of (Err refusal) = status_of refusal ∷ []
+
+-- the other statuses with which the console may have worked
+abbrev pub late_in : Result Task Refusal → List ℕ
+late_in (Ok task) = late_of task
+late_in (Err refusal) = []
 
 abbrev pub IsExpected : Result Task Refusal → List (List ℕ) → Outcome → Type 0
 IsExpected (Ok task) lines o = Does task lines o

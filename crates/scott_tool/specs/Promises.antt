@@ -9,10 +9,10 @@ use Rattle.scott_types.specs.declared.styles.Style.{Style}
 use Rattle.scott_types.specs.Database.{Database}
 use Rattle.scott_tool.specs.Refusal.{no_request, unread}
 use Rattle.scott_tool.specs.Outcome.{statuses, Outcome, refused, Concludes, Loses}
-use Rattle.scott_tool.specs.Loading.{stores}
+use Rattle.scott_tool.specs.Loading.{stores, late_statuses}
 use Rattle.scott_tool.specs.Work.{Task, Does}
 use Rattle.scott_tool.specs.Plan.{Reaches, expected, statuses_of}
-use Rattle.scott_tool.specs.Obeying.{Stands, Answers, Leaves, MayTake, ShelfStays, ConsoleStays}
+use Rattle.scott_tool.specs.Obeying.{Stands, Answers, Leaves, MayTake, IsSilent, ShelfStays, ConsoleStays}
 use Rattle.scott_tool.specs.Causes.{OneLoaded, HasPlan, HasCause, IsAccepted}
 use Rattle.scott_tool.specs.Check.{Checked}
 use Rattle.scott_tool.specs.Compile.{Compiled}
@@ -61,16 +61,22 @@ SaysUnread shelf shelf' console console' asked status =
     Rose shelf.faults shelf'.faults × OneLoaded asked
     (λ load. Concludes console console' (refused (unread load.name)) status)
 
+-- the other statuses with which the console may have worked for what is asked
+abbrev pub late_for : Option Request → List ℕ
+late_for None = []
+late_for (Some request) = late_statuses request
+
 -- It is what is expected, or a prefix of it where the console failed. With 9 it is nothing, and
--- only what is done, is a run that ends otherwise, or fails at the console, may take a line.
+-- only what is done, is a run that ends otherwise, or fails at the console, may take a line, unless
+-- the request may work on the console first.
 pub record IsSeen (shelf shelf' : ShelfView) (console console' : ConsoleView)
     (asked : Option Request) (status : ℕ) : Type 0 where
   pub all : IfKnown shelf console
       (λ files lines. Answers shelf shelf' console console' lines (expected files asked) status
       ⊎ SaysUnread shelf shelf' console console' asked status)
   pub usage : asked ≡ None → Concludes console console' (refused no_request) status
-  pub silent : status ≡ 9 → console'.history ≡ console.history
-  pub lines : MayTake status ⊎ (console'.left ≡ console.left)
+  pub silent : IsSilent console console' (late_for asked) status
+  pub lines : MayTake (late_for asked) status ⊎ (console'.left ≡ console.left)
 
 -- ---- the files
 
