@@ -8,9 +8,7 @@ use Rattle.adv_io.specs.Faults.{Rose, HasCause}
 use Rattle.adv_io.specs.History.{grown, GrewByPrefix}
 use Rattle.adv_io.specs.Shelf.{ShelfView, with_file}
 use Rattle.adv_io.proofs.Sayings.{grown-nil}
-use Rattle.scott_tool.specs.declared.refusals.ContentFault.{ContentFault}
-use Rattle.scott_tool.specs.declared.refusals.ContentFault.TheVariants.{NoDatabase, NoSource, NoMeaning, NoDraws, NoProgram, NoTranslation}
-use Rattle.scott_tool.specs.Refusal.{Refusal, Unfit, no_request, unread, too_long, unfit, unwritten, refusing, content_status, status_of}
+use Rattle.scott_tool.specs.Refusal.{Flaw, bad_database, bad_text, bad_program, bad_width, Refusal, Unfit, no_request, unread, too_long, unfit, unwritten, refusing, flaw_status, status_of}
 use Rattle.scott_tool.specs.Outcome.{Outcome, done, keeping, refused, unkept, kept, Concludes, Loses, Ends, whole, unsaid, unstored}
 use Rattle.scott_tool.specs.Work.{Text, IsText, Task, saying, storing, running, playing, Does, task_statuses}
 use Rattle.scott_tool.specs.Obeying.{Stands, Answers, Leaves, Obeys, Refuses, FailsToStore, Declines}
@@ -32,19 +30,17 @@ abbrev is_refused : ℕ → Bool
 is_refused n = nat_eq n 1 || (nat_eq n 2 || (nat_eq n 4 ||
     (nat_eq n 5 || (nat_eq n 6 || (nat_eq n 7 || nat_eq n 11)))))
 
-content_is : (fault : ContentFault) → is_refused (content_status fault) ≡ true
-content_is (NoDatabase fault) = refl
-content_is (NoSource fault) = refl
-content_is (NoMeaning fault) = refl
-content_is (NoDraws fault) = refl
-content_is (NoProgram fault) = refl
-content_is (NoTranslation fault) = refl
+content_is : (flaw : Flaw) → is_refused (flaw_status flaw) ≡ true
+content_is bad_database = refl
+content_is bad_text = refl
+content_is bad_program = refl
+content_is bad_width = refl
 
 refusal_is : (refusal : Refusal) → is_refused (status_of refusal) ≡ true
 refusal_is no_request = refl
 refusal_is (unread name) = refl
 refusal_is (too_long name limit) = refl
-refusal_is (unfit u) = content_is u.fault
+refusal_is (unfit u) = content_is u.flaw
 refusal_is (unwritten name) = refl
 
 -- no refusal has the status of something done, of want of memory, of a console that failed, or of a

@@ -19,7 +19,7 @@ use Rattle.scott_requests.specs.Request.{Request, check, compile, decompile, pla
 use Rattle.scott_types.specs.Database.{Database}
 use Rattle.scott_tool.specs.Laws.{Laws}
 use Rattle.scott_tool.specs.Steps.{◌>>=◌}
-use Rattle.scott_tool.specs.Refusal.{Refusal, Unfit, refusing, content_status}
+use Rattle.scott_tool.specs.Refusal.{Refusal, Unfit, refusing, flaw_status}
 use Rattle.scott_tool.specs.Loading.{Load, main_of, draws_of, stores, late_statuses, draws_load, database_load, source_load, program_load, loaded, Texts}
 use Rattle.scott_tool.specs.Check.{database_or_unfit, database_of_file}
 use Rattle.scott_tool.specs.Compile.{source_or_unfit, meaning_or_unfit, compiled_from, IsNoSource}
@@ -36,11 +36,11 @@ use Rattle.scott_tool.proofs.Files.{bind-ok, bind-err, there-loaded, loaded-ther
 
 abbrev status_in : {X : Type 0} → Result X Unfit → ℕ
 status_in (Ok x) = 0
-status_in (Err u) = content_status u.fault
+status_in (Err u) = flaw_status u.flaw
 
 database_unfit : (name : List ℕ) (read : Result Database Fault) (u : Unfit)
     → database_or_unfit name read ≡ Err u
-    → (fault : Fault) × (read ≡ Err fault) × (content_status u.fault ≡ 4)
+    → (fault : Fault) × (read ≡ Err fault) × (flaw_status u.flaw ≡ 4)
 database_unfit name (Ok db) u e = absurd cc
 database_unfit name (Err fault) u e = (fault, refl, sym (ap status_in e))
 
@@ -51,13 +51,13 @@ database_fit name (Err fault) db e = absurd cc
 
 source_unfit : (name : List ℕ) (read : Result Source reading.Fault) (u : Unfit)
     → source_or_unfit name read ≡ Err u
-    → (fault : reading.Fault) × (read ≡ Err fault) × (content_status u.fault ≡ 5)
+    → (fault : reading.Fault) × (read ≡ Err fault) × (flaw_status u.flaw ≡ 5)
 source_unfit name (Ok tree) u e = absurd cc
 source_unfit name (Err fault) u e = (fault, refl, sym (ap status_in e))
 
 meaning_unfit : (name : List ℕ) (read : Result Database meaning.Fault) (u : Unfit)
     → meaning_or_unfit name read ≡ Err u
-    → (fault : meaning.Fault) × (read ≡ Err fault) × (content_status u.fault ≡ 5)
+    → (fault : meaning.Fault) × (read ≡ Err fault) × (flaw_status u.flaw ≡ 5)
 meaning_unfit name (Ok db) u e = absurd cc
 meaning_unfit name (Err fault) u e = (fault, refl, sym (ap status_in e))
 
@@ -76,7 +76,7 @@ means name tree = meaning_or_unfit name (meant tree)
 
 -- a text that can't be compiled is no source, or one that means no database
 compiled_unfit : Laws → (name bytes : List ℕ) (u : Unfit) → compiled_from name bytes ≡ Err u
-    → IsNoSource bytes × (content_status u.fault ≡ 5)
+    → IsNoSource bytes × (flaw_status u.flaw ≡ 5)
 compiled_unfit laws name bytes u e =
     elim (bind-err (source_or_unfit name (source_in bytes)) (means name) u e) [
       | inl s ↦ (let f = source_unfit name (source_in bytes) u s in
@@ -95,14 +95,14 @@ compiled_unfit laws name bytes u e =
 
 program_unfit : (name : List ℕ) (read : Result (List DirectiveTree) reader.Fault) (u : Unfit)
     → program_or_unfit name read ≡ Err u
-    → (fault : reader.Fault) × (read ≡ Err fault) × (content_status u.fault ≡ 6)
+    → (fault : reader.Fault) × (read ≡ Err fault) × (flaw_status u.flaw ≡ 6)
 program_unfit name (Ok p) u e = absurd cc
 program_unfit name (Err fault) u e = (fault, refl, sym (ap status_in e))
 
 -- why a database isn't translated
 translatable_unfit : (name : List ℕ) (db : Database) (wide : Option Placed) (u : Unfit)
     → translatable_or_unfit name db wide ≡ Err u
-    → (placed : Placed) × (wide ≡ Some placed) × (content_status u.fault ≡ 7)
+    → (placed : Placed) × (wide ≡ Some placed) × (flaw_status u.flaw ≡ 7)
 translatable_unfit name db (Some placed) u e = (placed, refl, sym (ap status_in e))
 translatable_unfit name db None u e = absurd cc
 
@@ -255,18 +255,18 @@ module _ (laws : Laws) (files : Files) (texts : Texts) (main draws : Option Load
 
   no_draws : (source : DrawSource) → draws ≡ draws_load source → (u : Unfit)
       → draws_from source texts.draws ≡ Err u
-      → (content_status u.fault ≡ 5) × AreNoDraws files source
+      → (flaw_status u.flaw ≡ 5) × AreNoDraws files source
   no_draws (seeded seed) m u e = absurd cc
   no_draws (listed file) m u e = by (listed_draws texts.draws) refl e
     where
       by : (read : Result (List ℕ) ℕ) → listed_draws texts.draws ≡ read
           → draws_or_unfit file read ≡ Err u
-          → (content_status u.fault ≡ 5) × AreNoDraws files (listed file)
+          → (flaw_status u.flaw ≡ 5) × AreNoDraws files (listed file)
       by (Ok ds) f g = absurd cc
       by (Err at) f g = (sym (ap status_in g), (texts.draws, at, draws_there _ m, f))
 
   pub refused_first : (p : Plan) → Made p → (u : Unfit) → followed p texts ≡ Err u
-      → IsRefused files p (content_status u.fault)
+      → IsRefused files p (flaw_status u.flaw)
   refused_first (of_game file next) (m, more) u w = (
     texts.main,
     main_there (database_load file) m,

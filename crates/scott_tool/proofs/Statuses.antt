@@ -1,9 +1,7 @@
 -- The statuses that an expected task or refusal can have.
 use Rattle.std.proofs.Common.{◌≡◌, ◌∙◌, ◌<◌, ℕ, zero, suc, [], ◌∷◌, get_or, Result, Ok, Err, refl, sym, subst, inl, inr, arith, lit<}
 use Rattle.std.specs.Prelude.{Contains}
-use Rattle.scott_tool.specs.declared.refusals.ContentFault.{ContentFault}
-use Rattle.scott_tool.specs.declared.refusals.ContentFault.TheVariants.{NoDatabase, NoSource, NoMeaning, NoDraws, NoProgram, NoTranslation}
-use Rattle.scott_tool.specs.Refusal.{Refusal, Unfit, no_request, unread, too_long, unfit, unwritten, refusing, content_status, status_of}
+use Rattle.scott_tool.specs.Refusal.{Flaw, bad_database, bad_text, bad_program, bad_width, Refusal, Unfit, no_request, unread, too_long, unfit, unwritten, refusing, flaw_status, status_of}
 use Rattle.scott_tool.specs.Outcome.{statuses}
 use Rattle.scott_tool.specs.Work.{Task, saying, storing, running, playing, task_statuses}
 use Rattle.scott_tool.specs.Plan.{statuses_of}
@@ -22,27 +20,23 @@ is_3 = (3, lit< tt, refl)
 pub is_9 : Contains statuses 9
 is_9 = (9, lit< tt, refl)
 
-pub is_content : (fault : ContentFault) → Contains statuses (content_status fault)
-is_content (NoDatabase fault) = (4, lit< tt, refl)
-is_content (NoSource fault) = (5, lit< tt, refl)
-is_content (NoMeaning fault) = (5, lit< tt, refl)
-is_content (NoDraws fault) = (5, lit< tt, refl)
-is_content (NoProgram fault) = (6, lit< tt, refl)
-is_content (NoTranslation fault) = (7, lit< tt, refl)
+pub is_content : (flaw : Flaw) → Contains statuses (flaw_status flaw)
+is_content bad_database = (4, lit< tt, refl)
+is_content bad_text = (5, lit< tt, refl)
+is_content bad_program = (6, lit< tt, refl)
+is_content bad_width = (7, lit< tt, refl)
 
-pub of_content : (fault : ContentFault) → IsOfContent (content_status fault)
-of_content (NoDatabase fault) = inl refl
-of_content (NoSource fault) = inr (inl refl)
-of_content (NoMeaning fault) = inr (inl refl)
-of_content (NoDraws fault) = inr (inl refl)
-of_content (NoProgram fault) = inr (inr (inl refl))
-of_content (NoTranslation fault) = inr (inr (inr refl))
+pub of_content : (flaw : Flaw) → IsOfContent (flaw_status flaw)
+of_content bad_database = inl refl
+of_content bad_text = inr (inl refl)
+of_content bad_program = inr (inr (inl refl))
+of_content bad_width = inr (inr (inr refl))
 
 pub is_known : (refusal : Refusal) → Contains statuses (status_of refusal)
 is_known no_request = (1, lit< tt, refl)
 is_known (unread name) = (2, lit< tt, refl)
 is_known (too_long name limit) = (11, lit< tt, refl)
-is_known (unfit u) = is_content u.fault
+is_known (unfit u) = is_content u.flaw
 is_known (unwritten name) = (2, lit< tt, refl)
 
 pub is_2 : Contains statuses 2
@@ -68,7 +62,7 @@ pub data Tells (ShelfFailed ConsoleFailed : Type 0) (expected : Result Task Unfi
     (status : ℕ) : Type 0 where
   of_task : (task : Task) → expected ≡ Ok task → Contains (task_statuses task) status
       → Tells ShelfFailed ConsoleFailed expected status
-  of_fault : (u : Unfit) → expected ≡ Err u → status ≡ content_status u.fault
+  of_fault : (u : Unfit) → expected ≡ Err u → status ≡ flaw_status u.flaw
       → Tells ShelfFailed ConsoleFailed expected status
   of_memory : status ≡ 9 → Tells ShelfFailed ConsoleFailed expected status
   of_console : status ≡ 3 → ConsoleFailed → Tells ShelfFailed ConsoleFailed expected status
@@ -106,7 +100,7 @@ is_end status (inr (inr e)) = subst (Contains statuses) (sym e) (10, lit< tt, re
 by_expected : (S F : Type 0) (expected : Result Task Unfit) (status : ℕ) → Contains
     (statuses_of (refusing expected)) status → Tells S F expected status
 by_expected S F (Ok task) status h = of_task task refl h
-by_expected S F (Err u) status h = of_fault u refl (sym (only (content_status u.fault) status h))
+by_expected S F (Err u) status h = of_fault u refl (sym (only (flaw_status u.flaw) status h))
 
 pub tells : (S F : Type 0) (expected : Result Task Unfit) (status : ℕ) → Stands S F
     (statuses_of (refusing expected)) status → Tells S F expected status

@@ -6,7 +6,7 @@ use Rattle.adv_io.specs.Faults.{Rose}
 use Rattle.adv_io.specs.History.{grown}
 use Rattle.adv_io.specs.Shelf.{Files, ShelfView}
 use Rattle.scott_requests.specs.Request.{Request}
-use Rattle.scott_tool.specs.Refusal.{Refusal, Unfit, unfit, refusing, content_status}
+use Rattle.scott_tool.specs.Refusal.{Refusal, Unfit, unfit, refusing, flaw_status}
 use Rattle.scott_tool.specs.Outcome.{Outcome, statuses, Ends, whole, unsaid, unstored, cut_short}
 use Rattle.scott_tool.specs.Loading.{main_of, draws_of, stores, late_statuses, Texts, texts_of}
 use Rattle.scott_tool.specs.Work.{IsText, Task, saying, storing, running, playing, Does, status_with, stored_by, late_of}
@@ -139,7 +139,7 @@ module _ (shelf shelf' : ShelfView) (console console' : ConsoleView) (status : �
         reached laws files texts (main_of request) (draws_of request) (stores request)
         (late_statuses request) l.0 l.1 Done (plan request) (made request) task w (was_done task (obeys_task task w) end)) there
 
-    refused_by : (u : Unfit) → work request texts ≡ Err u → status ≡ content_status u.fault
+    refused_by : (u : Unfit) → work request texts ≡ Err u → status ≡ flaw_status u.flaw
         → IfSome shelf.files (λ files. IsRefused files (plan request) status)
     refused_by u w s =
         from_files shelf.files (λ files. texts_of files request ≡ Ok texts)
@@ -159,7 +159,7 @@ module _ (shelf shelf' : ShelfView) (console console' : ConsoleView) (status : �
         (plan request) h) done
 
     -- no content is refused with the status of a task
-    unfit_not_end : (u : Unfit) → status ≡ content_status u.fault → IsEnd status → ⊥
+    unfit_not_end : (u : Unfit) → status ≡ flaw_status u.flaw → IsEnd status → ⊥
     unfit_not_end u s (inl e) = refusal_not (unfit u) status (inl e) (sym s)
     unfit_not_end u s (inr (inl e)) = refusal_not (unfit u) status (inr (inr (inr (inl e)))) (sym s)
     unfit_not_end u s (inr (inr e)) = refusal_not (unfit u) status (inr (inr (inr (inr e)))) (sym s)
@@ -169,7 +169,7 @@ module _ (shelf shelf' : ShelfView) (console console' : ConsoleView) (status : �
 
     known : Answered → Contains statuses status
     known (of_task task e h) = is_end status (task_end task status h)
-    known (of_fault u e is) = subst (Contains statuses) (sym is) (is_content u.fault)
+    known (of_fault u e is) = subst (Contains statuses) (sym is) (is_content u.flaw)
     known (of_memory nine) = subst (Contains statuses) (sym nine) is_9
     known (of_console three failed) = subst (Contains statuses) (sym three) is_3
     known (of_shelf two failed) = subst (Contains statuses) (sym two) is_2
@@ -180,7 +180,7 @@ module _ (shelf shelf' : ShelfView) (console console' : ConsoleView) (status : �
         let ended = run_ended (done_by task w end) in
         elim end [ inl zero ↦ by_task zero | inr other ↦ by_run other ended ]
     cause (of_fault u w s) =
-        by_content (subst IsOfContent (sym s) (of_content u.fault)) (refused_by u w s)
+        by_content (subst IsOfContent (sym s) (of_content u.flaw)) (refused_by u w s)
     cause (of_memory nine) = by_memory nine refl
     cause (of_console three failed) = by_console three failed
     cause (of_shelf two failed) = by_shelf two (inl failed)

@@ -8,7 +8,7 @@ use Rattle.scott_format.specs.declared.faults.FormatFault.TheVariants as answer
 use Rattle.scott_requests.specs.Request.{Request}
 use Rattle.scott_tool.specs.declared.refusals.ContentFault.TheVariants.{NoDatabase}
 use Rattle.scott_tool.specs.declared.refusals.Refusal.{Refusal as HeldRefusal}
-use Rattle.scott_tool.specs.Refusal.{Refusal, Unfit, no_request, unread, too_long, unfit, unwritten, refusing}
+use Rattle.scott_tool.specs.Refusal.{Refusal, Unfit, unfit_by, no_request, unread, too_long, unfit, unwritten, refusing}
 use Rattle.scott_tool.specs.Outcome.{Outcome, refused, Concludes, Silent, Loses, Ends}
 use Rattle.scott_tool.specs.Loading.{Load, Texts, main_of, IsLoad, texts_of}
 use Rattle.scott_tool.specs.Work.{Text, IsText, Task, saying, storing, running, playing}
@@ -117,7 +117,7 @@ Gives view (Err refusal) expected = Declines expected (refusal_of refusal)
 -- the refusal of a fault of the format; want of memory is none
 abbrev pub database_refusal : List ℕ → FormatFault → Option Refusal
 database_refusal name answer.Memory = None
-database_refusal name fault = Some (unfit (record { name = name; fault = NoDatabase fault }))
+database_refusal name fault = Some (unfit (unfit_by name (NoDatabase fault)))
 
 -- bytes are a text that is expected to be said
 abbrev pub Makes : {A : Type 0} → Result (Vec ℕ A) HeldRefusal → Result Task Unfit → Type 0

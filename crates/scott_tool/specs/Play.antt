@@ -14,13 +14,13 @@ use Rattle.adv_io.specs.Steps.{trace_of}
 use Rattle.scott_types.specs.declared.styles.Style.{Style}
 use Rattle.scott_types.specs.Database.{Database}
 use Rattle.scott_types.specs.Style.{in_style}
-use Rattle.scott_tool.specs.Refusal.{Unfit}
+use Rattle.scott_tool.specs.Refusal.{Unfit, unfit_by}
 use Rattle.scott_tool.specs.declared.refusals.ContentFault.TheVariants.{NoDraws}
 
 -- the draws that a file lists, or the place of its first run that is none
 abbrev pub draws_or_unfit : List ℕ → Result (List ℕ) ℕ → Result (List ℕ) Unfit
 draws_or_unfit name (Ok draws) = Ok draws
-draws_or_unfit name (Err at) = Err (record { name = name; fault = NoDraws (NotADraw at) })
+draws_or_unfit name (Err at) = Err (unfit_by name (NoDraws (NotADraw at)))
 
 -- the draws of a play, by the bytes of their file
 abbrev pub draws_from : DrawSource → List ℕ → Result (List ℕ) Unfit

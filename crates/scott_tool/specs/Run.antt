@@ -18,7 +18,7 @@ use Rattle.inform_meaning.specs.Worlds as w
 use Rattle.inform_reader.specs.Reading.{Fault, IsProgram, program_in}
 use Rattle.inform_reader.specs.Views.{fault_answer}
 use Rattle.scott_requests.specs.Settings.{DrawSource}
-use Rattle.scott_tool.specs.Refusal.{Unfit, whole}
+use Rattle.scott_tool.specs.Refusal.{Unfit, unfit_by, whole}
 use Rattle.scott_tool.specs.Play.{DrawsAre}
 use Rattle.scott_tool.specs.declared.refusals.ContentFault.TheVariants.{NoProgram}
 
@@ -28,7 +28,7 @@ abbrev pub program_or_unfit : List ℕ → Result (List DirectiveTree) Fault
     → Result (List DirectiveTree) Unfit
 program_or_unfit name (Ok p) = Ok p
 program_or_unfit name (Err fault) =
-    Err (record { name = name; fault = NoProgram (fault_answer fault) })
+    Err (unfit_by name (NoProgram (fault_answer fault)))
 
 abbrev pub program_of_file : Width → List ℕ → List ℕ → Result (List DirectiveTree) Unfit
 program_of_file width name bytes = program_or_unfit name (program_in width bytes)

@@ -4,7 +4,7 @@ use Rattle.scott_tool.specs.declared.loads.Load.{Load as HeldLoad}
 use Rattle.scott_tool.specs.declared.loads.Texts.{Texts as HeldTexts}
 use Rattle.scott_tool.specs.declared.refusals.Refusal.{Refusal as HeldRefusal}
 use Rattle.scott_tool.specs.declared.refusals.Refusal.TheVariants.{NoRequest, Unread, TooLong, Unfit, Unwritten, Memory}
-use Rattle.scott_tool.specs.Refusal.{Refusal, no_request, unread, too_long, unfit, unwritten}
+use Rattle.scott_tool.specs.Refusal.{Refusal, unfit_by, no_request, unread, too_long, unfit, unwritten}
 use Rattle.scott_tool.specs.Loading.{Load, Texts}
 
 -- want of memory is no refusal
@@ -12,7 +12,7 @@ abbrev pub refusal_of : HeldRefusal → Option Refusal
 refusal_of NoRequest = Some no_request
 refusal_of (Unread name) = Some (unread name.now)
 refusal_of (TooLong name limit) = Some (too_long name.now limit)
-refusal_of (Unfit name fault) = Some (unfit (record { name = name.now; fault = fault }))
+refusal_of (Unfit name fault) = Some (unfit (unfit_by name.now fault))
 refusal_of (Unwritten name) = Some (unwritten name.now)
 refusal_of Memory = None
 

@@ -3,7 +3,7 @@ ghost use Rattle.std.specs.Prelude.{◌≡◌, ◌≤◌, [], ◌∷◌, ◌++�
 ghost use Rattle.adv_io.specs.History.{says};
 ghost use Rattle.adv_io.specs.Console.{Speaks};
 ghost use Rattle.scott_tool.specs.declared.refusals.ContentFault.TheVariants.{NoDatabase, NoSource, NoMeaning, NoDraws, NoProgram, NoTranslation};
-ghost use Rattle.scott_tool.specs.Refusal.{no_request, unread, too_long, unfit, unwritten, content_status, whole, after_name, line_end, line_of};
+ghost use Rattle.scott_tool.specs.Refusal.{no_request, unread, too_long, unfit, unfit_by, unwritten, whole, after_name, line_end, line_of};
 
 use crate::refusal_texts::{
     after_name, bytes_end, cannot_read, cannot_write, line_end, longer_than, usage,
@@ -79,7 +79,7 @@ fn say_no_database<C: Console>(
     console: &mut C,
 ) -> Result<(), ConsoleFault>
     ensures { Speaks (C.seen console.old) (C.seen console.new) result
-        (says (line_of (unfit (record { name = name.now; fault = NoDatabase fault })))) }
+        (says (line_of (unfit (unfit_by name.now (NoDatabase fault))))) }
 {
     let mut digits = Buffer::new();
     let [opening, number, closing] = fault.pieces(&mut digits);
@@ -102,7 +102,7 @@ fn say_no_source<C: Console>(
     console: &mut C,
 ) -> Result<(), ConsoleFault>
     ensures { Speaks (C.seen console.old) (C.seen console.new) result
-        (says (line_of (unfit (record { name = name.now; fault = NoSource fault })))) }
+        (says (line_of (unfit (unfit_by name.now (NoSource fault))))) }
 {
     let mut digits = Buffer::new();
     let [opening, place] = fault.pieces(&mut digits);
@@ -118,7 +118,7 @@ fn say_no_meaning<C: Console>(
     console: &mut C,
 ) -> Result<(), ConsoleFault>
     ensures { Speaks (C.seen console.old) (C.seen console.new) result
-        (says (line_of (unfit (record { name = name.now; fault = NoMeaning fault })))) }
+        (says (line_of (unfit (unfit_by name.now (NoMeaning fault))))) }
 {
     let mut number_digits = Buffer::new();
     let mut place_digits = Buffer::new();
@@ -150,7 +150,7 @@ fn say_no_draws<C: Console>(
     console: &mut C,
 ) -> Result<(), ConsoleFault>
     ensures { Speaks (C.seen console.old) (C.seen console.new) result
-        (says (line_of (unfit (record { name = name.now; fault = NoDraws fault })))) }
+        (says (line_of (unfit (unfit_by name.now (NoDraws fault))))) }
 {
     let mut digits = Buffer::new();
     let [opening, number] = fault.pieces(&mut digits);
@@ -190,7 +190,7 @@ fn say_no_program<C: Console>(
     console: &mut C,
 ) -> Result<(), ConsoleFault>
     ensures { Speaks (C.seen console.old) (C.seen console.new) result
-        (says (line_of (unfit (record { name = name.now; fault = NoProgram fault.now })))) }
+        (says (line_of (unfit (unfit_by name.now (NoProgram fault.now))))) }
 {
     let mut digits = Buffer::new();
     say_pieces(name, fault.pieces(&mut digits), console)
@@ -202,7 +202,7 @@ fn say_no_translation<C: Console>(
     console: &mut C,
 ) -> Result<(), ConsoleFault>
     ensures { Speaks (C.seen console.old) (C.seen console.new) result
-        (says (line_of (unfit (record { name = name.now; fault = NoTranslation fault })))) }
+        (says (line_of (unfit (unfit_by name.now (NoTranslation fault))))) }
 {
     let mut line_digits = Buffer::new();
     let mut part_digits = Buffer::new();
@@ -238,11 +238,11 @@ pub fn concluded(said: Result<(), ConsoleFault>, status: u8) -> u8
 }
 
 impl ContentFault {
-    ghost use Rattle.scott_tool.specs.Refusal.{content_status, unfit, line_of};
+    ghost use Rattle.scott_tool.specs.Refusal.{flaw_of, flaw_status, unfit, unfit_by, line_of};
 
     // The status of a request that reads such a content.
     fn status(&self) -> u8
-        ensures { result ≡ content_status self.now }
+        ensures { result ≡ flaw_status (flaw_of self.now) }
     {
         match self {
             ContentFault::NoDatabase(_) => 4,
@@ -257,7 +257,7 @@ impl ContentFault {
     // Says it of the file of this name.
     fn say<C: Console>(&self, name: &str, console: &mut C) -> Result<(), ConsoleFault>
         ensures { Speaks (C.seen console.old) (C.seen console.new) result
-            (says (line_of (unfit (record { name = name.now; fault = self.now })))) }
+            (says (line_of (unfit (unfit_by name.now self.now)))) }
     {
         match self {
             ContentFault::NoDatabase(fault) => say_no_database(name, *fault, console),
