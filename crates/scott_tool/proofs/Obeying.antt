@@ -3,12 +3,12 @@ use Rattle.std.proofs.Common.{◌≡◌, ◌∙◌, ◌≤◌, Bool, true, false
 use Rattle.std.specs.Prelude.{Contains, nat_eq, ◌||◌}
 use mathlib.Core.Bool.{true≢false}
 use Rattle.adv_io.specs.declared.events.Event.{Event}
-use Rattle.adv_io.specs.Console.{ConsoleView}
+use Rattle.adv_io.specs.Console.{ConsoleView, Speaks}
 use Rattle.adv_io.specs.Faults.{Rose, HasCause}
-use Rattle.adv_io.specs.History.{grown, GrewByPrefix}
+use Rattle.adv_io.specs.History.{says, grown, GrewByPrefix}
 use Rattle.adv_io.specs.Shelf.{ShelfView, with_file}
 use Rattle.adv_io.proofs.Sayings.{grown-nil}
-use Rattle.scott_tool.specs.Refusal.{Flaw, bad_database, bad_text, bad_program, bad_width, Refusal, Unfit, no_request, unread, too_long, unfit, unwritten, refusing, flaw_status, status_of}
+use Rattle.scott_tool.specs.Refusal.{Flaw, bad_database, bad_text, bad_program, bad_width, Refusal, Unfit, no_request, unread, too_long, unfit, unwritten, refusing, flaw_status, status_of, line_of}
 use Rattle.scott_tool.specs.Outcome.{Outcome, done, keeping, refused, unkept, kept, Concludes, Loses, Ends, whole, unsaid, unstored}
 use Rattle.scott_tool.specs.Work.{Text, IsText, Task, saying, storing, running, playing, Does, task_statuses}
 use Rattle.scott_tool.specs.Obeying.{Stands, Answers, Leaves, Obeys, Refuses, FailsToStore, Declines}
@@ -128,6 +128,24 @@ unkept_not_end old new status o name said (inr (inl e)) =
 unkept_not_end old new status o name said (inr (inr e)) =
     concluded_not old new status (unkept o name) 10 refl (inr (inr (inr (inr refl))))
     (λ f. omega arith) said e
+
+-- a refusal whose line was said, or the console failed
+pub refuses-said : {T E : Type 0} (old new : ConsoleView) (refusal : Refusal) (said : Result T E)
+    (status : ℕ) → Speaks old new said (says (line_of refusal))
+    → MatchResult said (λ _. status ≡ status_of refusal) (λ _. status ≡ 3)
+    → Refuses old new (Some refusal) status
+refuses-said old new refusal (Ok x) status s is = record {
+  ended = inl (is, s.said);
+  lines = s.lines_stay;
+  later = s.cause.later;
+  console_stays = inr s.cause.steady;
+}
+refuses-said old new refusal (Err fault) status s is = record {
+  ended = inr (is, s.cause.failed, s.part);
+  lines = s.lines_stay;
+  later = s.cause.later;
+  console_stays = inl is;
+}
 
 module _ (old new : ConsoleView) (status : ℕ) where
   -- a request that is refused isn't done, and memory didn't run out

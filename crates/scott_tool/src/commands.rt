@@ -2,7 +2,7 @@
 ghost use Rattle.scott_requests.specs.Views.{request_of};
 ghost use Rattle.scott_tool.specs.Refusal.{refusing};
 ghost use Rattle.scott_tool.specs.Plan.{work};
-ghost use Rattle.scott_tool.specs.Views.{texts_in};
+ghost use Rattle.scott_tool.specs.Views.{texts_in, number_of};
 ghost use Rattle.scott_tool.specs.Obeying.{Obeys, MainFits};
 
 mod check;
@@ -15,6 +15,7 @@ mod storing;
 mod translate;
 
 use crate::loads::Texts;
+use crate::status::Status;
 use adv_io::{Console, Shelf};
 use check::check;
 use compile::compile;
@@ -32,10 +33,10 @@ pub fn work<S: Shelf, C: Console>(
     texts: &Texts,
     shelf: &mut S,
     console: &mut C,
-) -> u8
+) -> Status
     requires { MainFits (request_of request) (texts_in texts.now) }
     ensures { Obeys (S.seen shelf.old) (S.seen shelf.new) (C.seen console.old) (C.seen console.new)
-        (refusing (work (request_of request.entry) (texts_in texts.now))) result }
+        (refusing (work (request_of request.entry) (texts_in texts.now))) (number_of result) }
 {
     match request {
         Request::Check(game) => check(alloc, game, texts, console),

@@ -2,13 +2,14 @@
 ghost use Rattle.scott_requests.specs.Request.{compile};
 ghost use Rattle.scott_tool.specs.Refusal.{refusing};
 ghost use Rattle.scott_tool.specs.Plan.{work};
-ghost use Rattle.scott_tool.specs.Views.{texts_in};
+ghost use Rattle.scott_tool.specs.Views.{texts_in, number_of};
 ghost use Rattle.scott_tool.specs.Obeying.{MakesFile, Obeys};
 
 use super::storing::store_made;
 use crate::contents::compiled;
 use crate::loads::Texts;
 use crate::refusals::Refusal;
+use crate::status::Status;
 use adv_io::{Console, Shelf};
 use scott_format::write_db;
 use std::alloc::Global;
@@ -41,9 +42,9 @@ pub fn compile<S: Shelf, C: Console>(
     texts: &Texts,
     shelf: &mut S,
     console: &mut C,
-) -> u8
+) -> Status
     ensures { Obeys (S.seen shelf.old) (S.seen shelf.new) (C.seen console.old) (C.seen console.new)
-        (refusing (work (compile source.now game.now) (texts_in texts.now))) result }
+        (refusing (work (compile source.now game.now) (texts_in texts.now))) (number_of result) }
 {
     let made = database_text(alloc, source, game, texts);
     store_made(alloc, game, made, shelf, console)

@@ -3,13 +3,14 @@ ghost use Rattle.std.specs.Prelude.{◌≤◌, length};
 ghost use Rattle.scott_requests.specs.Request.{decompile};
 ghost use Rattle.scott_tool.specs.Refusal.{refusing};
 ghost use Rattle.scott_tool.specs.Plan.{work};
-ghost use Rattle.scott_tool.specs.Views.{texts_in};
+ghost use Rattle.scott_tool.specs.Views.{texts_in, number_of};
 ghost use Rattle.scott_tool.specs.Obeying.{MakesFile, Obeys};
 
 use super::storing::store_made;
 use crate::contents::database;
 use crate::loads::Texts;
 use crate::refusals::Refusal;
+use crate::status::Status;
 use adv_decompiler::decompile as plain_text;
 use adv_io::{Console, Shelf};
 use scott_format::DATABASE_LIMIT;
@@ -41,10 +42,10 @@ pub fn decompile<S: Shelf, C: Console>(
     texts: &Texts,
     shelf: &mut S,
     console: &mut C,
-) -> u8
+) -> Status
     requires { length texts.now.main.items ≤ DATABASE_LIMIT }
     ensures { Obeys (S.seen shelf.old) (S.seen shelf.new) (C.seen console.old) (C.seen console.new)
-        (refusing (work (decompile game.now source.now) (texts_in texts.now))) result }
+        (refusing (work (decompile game.now source.now) (texts_in texts.now))) (number_of result) }
 {
     let made = source_text(alloc, game, source, texts);
     store_made(alloc, source, made, shelf, console)

@@ -4,13 +4,14 @@ ghost use Rattle.scott_requests.specs.Request.{translate};
 ghost use Rattle.scott_requests.specs.Views.{asked_translation};
 ghost use Rattle.scott_tool.specs.Refusal.{refusing};
 ghost use Rattle.scott_tool.specs.Plan.{work};
-ghost use Rattle.scott_tool.specs.Views.{texts_in};
+ghost use Rattle.scott_tool.specs.Views.{texts_in, number_of};
 ghost use Rattle.scott_tool.specs.Obeying.{MakesFile, Obeys};
 
 use super::storing::store_made;
 use crate::contents::{database, translated};
 use crate::loads::Texts;
 use crate::refusals::Refusal;
+use crate::status::Status;
 use adv_io::{Console, Shelf};
 use scott_format::DATABASE_LIMIT;
 use scott_requests::TranslationRequest;
@@ -37,10 +38,10 @@ pub fn translate<S: Shelf, C: Console>(
     texts: &Texts,
     shelf: &mut S,
     console: &mut C,
-) -> u8
+) -> Status
     requires { length texts.now.main.items ≤ DATABASE_LIMIT }
     ensures { Obeys (S.seen shelf.old) (S.seen shelf.new) (C.seen console.old) (C.seen console.new)
-        (refusing (work (translate (asked_translation asked.entry)) (texts_in texts.now))) result }
+        (refusing (work (translate (asked_translation asked.entry)) (texts_in texts.now))) (number_of result) }
 {
     let made = program_text(alloc, asked, texts);
     store_made(alloc, asked.program, made, shelf, console)

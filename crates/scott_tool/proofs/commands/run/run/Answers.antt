@@ -10,7 +10,7 @@ use Rattle.scott_tool.specs.Run.{program_of_file}
 use Rattle.scott_tool.specs.Play.{draws_from}
 use Rattle.scott_tool.specs.Work.{Task}
 use Rattle.scott_tool.specs.Plan.{running_from, work}
-use Rattle.scott_tool.specs.Views.{refusal_of, texts_in}
+use Rattle.scott_tool.specs.Views.{refusal_of, texts_in, number_of}
 use Rattle.scott_tool.specs.Obeying.{Obeys}
 use Rattle.scott_tool.proofs.Declining.{declined-first}
 use Rattle.scott_tool.proofs.Obeying.{obeys-declined}
@@ -24,14 +24,14 @@ returns g c = λ shelf.
     let wide = ap (λ (width : Width). running_from width
     (directives_of c.in-Ok.accepted) c.args.asked.steps drawn) c.in-Ok.ensures.width in
     subst (λ (r : Result Task Unfit). Obeys shelf shelf (g.C.Console.seen c.args.console.now)
-    (g.C.Console.seen c.run_from-status.new.console) (refusing r) c.run_from-status.result)
+    (g.C.Console.seen c.run_from-status.new.console) (refusing r) (number_of c.run_from-status.result))
     (wide ∙ sym given) (c.run_from-status.ensures shelf)
 
 pub returns-in-Err : goal.returns-in-Err
 returns-in-Err g c = λ shelf.
     let drawn = draws_from (source_of c.args.asked.source) c.args.texts.now.draws.items in
     obeys-declined (g.C.Console.seen c.args.console.now)
-    (g.C.Console.seen c.end.new.console) c.end.result shelf
+    (g.C.Console.seen c.end.new.console) (number_of c.end.result) shelf
     (work (run (asked_run c.args.asked))
     (texts_in c.args.texts.now)) (refusal_of c.in-Err.refusal)
     (declined-first (program_of_file c.args.asked.width c.args.asked.program.now c.args.texts.now.main.items)
