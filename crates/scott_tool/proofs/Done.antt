@@ -85,7 +85,8 @@ module _ (shelf shelf' : ShelfView) (console console' : ConsoleView) (asked : Op
 
   pub translated : status ≡ 0 → HasTranslated shelf shelf' asked
   translated zero t is = done_for (translate t) is _
-      (λ files known (bytes, db, there, text, (no_wide, d)). let kept = d.files.stored zero in record {
+      (λ files known (bytes, db, there, text, (no_wide, d)).
+      let kept = d.files.stored zero in record {
         bytes = bytes;
         db = db;
         out = kept.0;

@@ -108,8 +108,8 @@ obeys-stored shelf shelf' view text name bytes is files faults = record {
   console_stays = inr refl;
 }
 
--- what ends with a refusal's status doesn't end with that of something done, of want of memory, or of
--- a run
+-- what ends with a refusal's status doesn't end with that of something done, of want of memory, or
+-- of a run
 concluded_not : (old new : ConsoleView) (status : ℕ) (o : Outcome) (n : ℕ)
     → is_refused o.status ≡ true → NoRefusal n → (n ≡ 3 → ⊥)
     → Concludes old new o status → status ≡ n → ⊥
@@ -277,8 +277,8 @@ module _ (old new : ConsoleView) (status : ℕ) where
           → Obeys shelf shelf' old new (Ok task) status
       obeys-not_stored None h more r = obeys-unkept h.0 h.1 r
       obeys-not_stored (Some (unwritten other)) h more r =
-          obeys-unstored h.1 more (subst (λ (n : List ℕ). Refuses old new (Some (unwritten n)) status)
-          h.0 r)
+          obeys-unstored h.1 more
+          (subst (λ (n : List ℕ). Refuses old new (Some (unwritten n)) status) h.0 r)
       obeys-not_stored (Some no_request) h more r = absurd h
       obeys-not_stored (Some (unread other)) h more r = absurd h
       obeys-not_stored (Some (too_long other limit)) h more r = absurd h

@@ -167,7 +167,8 @@ task_made main draws name late texts (narrow width file db next) m task w =
     let d = bind-ok (translatable file width db) (λ _. followed next texts) task w in
     task_made main draws name late texts next m task d.2
 task_made main draws name late texts (doing other) m task w =
-    let same : other ≡ task = cc in subst (λ (t : Task). (stored_by t ≡ name) × (late_of t ≡ late)) same m
+    let same : other ≡ task = cc in
+    subst (λ (t : Task). (stored_by t ≡ name) × (late_of t ≡ late)) same m
 
 same_file : (files : Files) (name : List ℕ) {a b : List ℕ} → get files name ≡ Some a
     → get files name ≡ Some b → a ≡ b
@@ -210,7 +211,8 @@ module _ (laws : Laws) (files : Files) (texts : Texts) (main draws : Option Load
   pub reached : (P : Task → Type 0) (p : Plan) → Made p → (task : Task)
       → followed p texts ≡ Ok task → P task → Reaches files p P
   reached P (of_game file next) (m, more) task w h =
-      let d = bind-ok (database_of_file file texts.main) (λ db. followed (next db) texts) task w in (
+      let d = bind-ok (database_of_file file texts.main) (λ db. followed (next db) texts) task w
+      in (
         texts.main,
         d.0,
         main_there (database_load file) m,

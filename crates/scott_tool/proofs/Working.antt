@@ -137,7 +137,8 @@ module _ (shelf shelf' : ShelfView) (console console' : ConsoleView) (status : �
         from_files shelf.files (λ files. texts_of files request ≡ Ok texts) DoneIn
         (λ files e. let l = texts-loaded files request texts e in
         reached laws files texts (main_of request) (draws_of request) (stores request)
-        (late_statuses request) l.0 l.1 Done (plan request) (made request) task w (was_done task (obeys_task task w) end)) there
+        (late_statuses request) l.0 l.1 Done (plan request) (made request) task w
+        (was_done task (obeys_task task w) end)) there
 
     refused_by : (u : Unfit) → work request texts ≡ Err u → status ≡ flaw_status u.flaw
         → IfSome shelf.files (λ files. IsRefused files (plan request) status)

@@ -40,8 +40,8 @@ EndsWith files left asked status =
     (λ task. IfSome left (λ lines. status_with task lines ≡ status)))
 
 -- Each status comes only with its cause: the task was done; the words were no request; the shelf
--- or the console failed; a content was refused; a run ended otherwise; memory ran out; or a file was
--- too long.
+-- or the console failed; a content was refused; a run ended otherwise; memory ran out; or a file
+-- was too long.
 pub data HasCause (shelf shelf' : ShelfView) (console console' : ConsoleView)
     (asked : Option Request) (status : ℕ) : Type 0 where
   by_task : status ≡ 0 → HasCause shelf shelf' console console' asked status

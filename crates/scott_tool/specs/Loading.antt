@@ -55,8 +55,8 @@ stores (play p) = None
 stores (translate t) = Some t.program
 stores (run r) = None
 
--- the statuses, besides 0, 3, 8 and 10, with which a request may have worked on the console: 2 where
--- a file is stored after that, and 9 where memory is wanted after it
+-- the statuses, besides 0, 3, 8 and 10, with which a request may have worked on the console: 2
+-- where a file is stored after that, and 9 where memory is wanted after it
 abbrev pub late_statuses : Request → List ℕ
 late_statuses request = []
 

@@ -49,8 +49,8 @@ Leaves shelf shelf' (Ok (playing show (Some save))) status =
     (λ out. (lines : List (List ℕ)) × (save.text lines ≡ Some out)) status
 Leaves shelf shelf' (Err refusal) status = shelf'.files ≡ shelf.files
 
--- only what is done, is a run that ends otherwise, or fails at the console, may take a line; and what
--- ends with one of these other statuses
+-- only what is done, is a run that ends otherwise, or fails at the console, may take a line; and
+-- what ends with one of these other statuses
 abbrev pub MayTake : (late : List ℕ) → (status : ℕ) → Type 0
 MayTake late status =
     (status ≡ 0) ⊎ (status ≡ 3) ⊎ (status ≡ 8) ⊎ (status ≡ 10) ⊎ Contains late status

@@ -8,9 +8,8 @@ use Rattle.adv_io.specs.Shelf.{Files, ShelfView, with_file, without}
 use Rattle.scott_tool.specs.Refusal.{Refusal, unwritten, status_of, line_of}
 
 -- 0: done. 1: no request. 2: a file can't be read or written. 3: the console failed. 4: no
--- database, or one with a line that can't be translated yet. 5: no source or no draws. 6: no
--- program that is accepted. 7: a number is too wide for a program. 8: a trap. 9: want of memory.
--- 10: steps spent. 11: a file is too long.
+-- database. 5: no source or no draws. 6: no program that is accepted. 7: a number is too wide for a
+-- program. 8: a trap. 9: want of memory. 10: steps spent. 11: a file is too long.
 abbrev pub statuses : List ℕ
 statuses = 0 ∷ 1 ∷ 2 ∷ 3 ∷ 4 ∷ 5 ∷ 6 ∷ 7 ∷ 8 ∷ 9 ∷ 10 ∷ 11 ∷ []
 
@@ -18,8 +17,8 @@ pub record File : Type 0 where
   pub name : List ℕ
   pub bytes : List ℕ
 
--- a status, the bytes that are said and the lines that are taken, what of them is there where memory
--- runs out after the console's work, and the file that is stored after that
+-- a status, the bytes that are said and the lines that are taken, what of them is there where
+-- memory runs out after the console's work, and the file that is stored after that
 pub record Outcome : Type 0 where
   pub status : ℕ
   pub events : List Event

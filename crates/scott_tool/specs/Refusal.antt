@@ -10,8 +10,8 @@ use Rattle.translator.specs.FaultTexts as translator
 use Rattle.scott_tool.specs.declared.refusals.ContentFault.{ContentFault}
 use Rattle.scott_tool.specs.declared.refusals.ContentFault.TheVariants.{NoDatabase, NoSource, NoMeaning, NoDraws, NoProgram, NoTranslation}
 
--- what is wrong with a content: it is no database; no source of one, or no draws; no program that is
--- accepted; or it has a number that is too wide
+-- what is wrong with a content: it is no database; no source of one, or no draws; no program that
+-- is accepted; or it has a number that is too wide
 pub data Flaw : Type 0 where
   bad_database : Flaw
   bad_text : Flaw

@@ -23,9 +23,9 @@ abbrev pub IsText : Text → List ℕ → Type 0
 IsText (exactly bytes) out = out ≡ bytes
 IsText (translation style width db) out = Faithful style width db None out
 
--- What a console sees, by the lines that are left: all events; those that are there where memory runs
--- out after them; and the statuses, besides those of what is done and of a console that failed, with
--- which it may have seen some.
+-- What a console sees, by the lines that are left: all events; those that are there where memory
+-- runs out after them; and the statuses, besides those of what is done and of a console that
+-- failed, with which it may have seen some.
 pub record Show : Type 0 where
   pub events : List (List ℕ) → List Event
   pub starved : List (List ℕ) → List Event

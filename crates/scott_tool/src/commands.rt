@@ -17,14 +17,16 @@ mod translate;
 use crate::loads::Texts;
 use crate::status::Status;
 use adv_io::{Console, Shelf};
-use check::check;
-use compile::compile;
-use decompile::decompile;
+use check::report_on;
+use compile::database_text;
+use decompile::source_text;
 use play::play;
 use run::run;
+use saying::say_made;
 use scott_requests::Request;
 use std::alloc::Global;
-use translate::translate;
+use storing::store_made;
+use translate::program_text;
 
 /// Does what was asked for.
 pub fn work<S: Shelf, C: Console>(
@@ -39,11 +41,20 @@ pub fn work<S: Shelf, C: Console>(
         (refusing (work (request_of request.entry) (texts_in texts.now))) (number_of result) }
 {
     match request {
-        Request::Check(game) => check(alloc, game, texts, console),
-        Request::Compile(source, game) => compile(alloc, source, game, texts, shelf, console),
-        Request::Decompile(game, source) => decompile(alloc, game, source, texts, shelf, console),
+        Request::Check(game) => say_made(report_on(alloc, game, texts), console),
+        Request::Compile(source, game) => {
+            let made = database_text(alloc, source, game, texts);
+            store_made(alloc, game, made, shelf, console)
+        }
+        Request::Decompile(game, source) => {
+            let made = source_text(alloc, game, source, texts);
+            store_made(alloc, source, made, shelf, console)
+        }
         Request::Play(asked) => play(alloc, asked, texts, console),
-        Request::Translate(asked) => translate(alloc, asked, texts, shelf, console),
+        Request::Translate(asked) => {
+            let made = program_text(alloc, asked, texts);
+            store_made(alloc, asked.program, made, shelf, console)
+        }
         Request::Run(asked) => run(alloc, asked, texts, console),
     }
 }

@@ -126,7 +126,8 @@ fn run_with<C: Console>(
     console: &mut C,
 ) -> Status
     ensures { ObeysAlone (C.seen console.old) (C.seen console.new)
-        (Ok (run_task accepted.now.width (directives_of accepted.now) steps draws.left)) (number_of result) }
+        (Ok (run_task accepted.now.width (directives_of accepted.now) steps draws.left))
+        (number_of result) }
 {
     match Runner::open(alloc, accepted) {
         Ok(mut runner) => match runner.run(&mut draws, steps, console) {

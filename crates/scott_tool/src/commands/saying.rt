@@ -12,7 +12,8 @@ use adv_io::Console;
 /// Says the bytes that were made, or why there are none.
 pub fn say_made<C: Console>(made: Result<Vec<u8>, Refusal<'_>>, console: &mut C) -> Status
     ensures { (expected : Result Task Unfit) → Makes made.entry expected
-        → ObeysAlone (C.seen console.old) (C.seen console.new) (refusing expected) (number_of result) }
+        → ObeysAlone (C.seen console.old) (C.seen console.new) (refusing expected)
+        (number_of result) }
 {
     match made {
         Ok(bytes) => concluded(console.say(&bytes), Status::Done),

@@ -17,7 +17,8 @@ returns-in-Ok g c =
     worked (request_of c.args.request) (texts_in c.in-Ok.texts) refl fetched.found
     (subst (λ (s : ShelfView). Obeys s (g.S.Shelf.seen c.work.new.shelf)
     (g.C.Console.seen c.args.console.now) (g.C.Console.seen c.work.new.console)
-    (refusing (work (request_of c.args.request) (texts_in c.in-Ok.texts))) (number_of c.work.result)) same
+    (refusing (work (request_of c.args.request) (texts_in c.in-Ok.texts)))
+    (number_of c.work.result)) same
     c.work.ensures)
 
 pub returns-in-Err : goal.returns-in-Err

@@ -20,7 +20,8 @@ returns g c = λ shelf.
     let given = ap (λ r. r >>= λ db. playing_from c.args.asked.style db drawn)
     (rw c.deref.ensures.value at c.in-Ok.ensures) in
     subst (λ (r : Result Task Unfit). Obeys shelf shelf (g.C.Console.seen c.args.console.now)
-    (g.C.Console.seen c.play_from-status.new.console) (refusing r) (number_of c.play_from-status.result))
+    (g.C.Console.seen c.play_from-status.new.console) (refusing r)
+    (number_of c.play_from-status.result))
     (sym given) (c.play_from-status.ensures shelf)
 
 pub returns-in-Err : goal.returns-in-Err

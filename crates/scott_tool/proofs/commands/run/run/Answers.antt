@@ -24,7 +24,8 @@ returns g c = λ shelf.
     let wide = ap (λ (width : Width). running_from width
     (directives_of c.in-Ok.accepted) c.args.asked.steps drawn) c.in-Ok.ensures.width in
     subst (λ (r : Result Task Unfit). Obeys shelf shelf (g.C.Console.seen c.args.console.now)
-    (g.C.Console.seen c.run_from-status.new.console) (refusing r) (number_of c.run_from-status.result))
+    (g.C.Console.seen c.run_from-status.new.console) (refusing r)
+    (number_of c.run_from-status.result))
     (wide ∙ sym given) (c.run_from-status.ensures shelf)
 
 pub returns-in-Err : goal.returns-in-Err
@@ -34,7 +35,8 @@ returns-in-Err g c = λ shelf.
     (g.C.Console.seen c.end.new.console) (number_of c.end.result) shelf
     (work (run (asked_run c.args.asked))
     (texts_in c.args.texts.now)) (refusal_of c.in-Err.refusal)
-    (declined-first (program_of_file c.args.asked.width c.args.asked.program.now c.args.texts.now.main.items)
+    (declined-first
+    (program_of_file c.args.asked.width c.args.asked.program.now c.args.texts.now.main.items)
     (λ (p : List DirectiveTree). running_from c.args.asked.width p c.args.asked.steps drawn)
     (refusal_of c.in-Err.refusal)
     (rw c.deref.ensures.value at c.in-Err.ensures.given)) c.end.ensures

@@ -15,11 +15,12 @@ returns-in-Ok g c = λ expected makes shelf.
     let task = saying made.0 in
     let does : (lines : List (List ℕ)) → Does task lines (done (says bytes)) =
     λ lines. (bytes, made.2, refl) in
-    obeys-shown old new (number_of c.concluded.result) shelf task (λ lines. says bytes) does expected
+    let status = number_of c.concluded.result in
+    obeys-shown old new status shelf task (λ lines. says bytes) does expected
     c.say.result made.1
-    (known_said old new (number_of c.concluded.result) shelf task (λ lines. says bytes) does c.say.result
+    (known_said old new status shelf task (λ lines. says bytes) does c.say.result
     (says bytes) (λ lines. refl) (rw c.deref.ensures.value at c.say.ensures.said))
-    (known_part old new (number_of c.concluded.result) shelf task (λ lines. says bytes) does c.say.result
+    (known_part old new status shelf task (λ lines. says bytes) does c.say.result
     (says bytes) (λ lines. refl) (rw c.deref.ensures.value at c.say.ensures.part))
     c.say.ensures.cause c.concluded.ensures
 
