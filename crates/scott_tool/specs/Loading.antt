@@ -30,21 +30,28 @@ draws_load (seeded seed) = None
 
 -- ---- what each request loads, in this order
 
+-- its main file, and then its draws
+pub record Loads : Type 0 where
+  pub main : Option Load
+  pub draws : Option Load
+
+-- no file but the main one
+abbrev pub only : Load → Loads
+only load = record { main = Some load; draws = None }
+
+abbrev pub loads_of : Request → Loads
+loads_of (check game) = only (database_load game)
+loads_of (compile source game) = only (source_load source)
+loads_of (decompile game source) = only (database_load game)
+loads_of (play p) = record (only (database_load p.game)) { draws = draws_load p.source }
+loads_of (translate t) = only (database_load t.game)
+loads_of (run r) = record (only (program_load r.program)) { draws = draws_load r.source }
+
 abbrev pub main_of : Request → Option Load
-main_of (check game) = Some (database_load game)
-main_of (compile source game) = Some (source_load source)
-main_of (decompile game source) = Some (database_load game)
-main_of (play p) = Some (database_load p.game)
-main_of (translate t) = Some (database_load t.game)
-main_of (run r) = Some (program_load r.program)
+main_of request = (loads_of request).main
 
 abbrev pub draws_of : Request → Option Load
-draws_of (check game) = None
-draws_of (compile source game) = None
-draws_of (decompile game source) = None
-draws_of (play p) = draws_load p.source
-draws_of (translate t) = None
-draws_of (run r) = draws_load r.source
+draws_of request = (loads_of request).draws
 
 -- the name of the file that a request stores
 abbrev pub stores : Request → Option (List ℕ)
