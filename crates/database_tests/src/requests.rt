@@ -1,6 +1,6 @@
 //! What no clause says: each form of words once.
 use crate::expect;
-use scott_requests::{DrawSource, Request, request_in};
+use scott_requests::{DrawSource, PlayRequest, Request, request_in};
 use scott_types::Style;
 use std::process::Abort;
 
@@ -10,24 +10,36 @@ const PLAIN: Style = Style {
     vanish: false,
 };
 
-const SEEDED: Request<'static> = Request::Play("t.dat", DrawSource::Seeded(1), PLAIN);
+const SEEDED: Request<'static> = Request::Play(PlayRequest {
+    game: "t.dat",
+    source: DrawSource::Seeded(1),
+    style: PLAIN,
+});
 
-const MOST_SEED: Request<'static> = Request::Play("t.dat", DrawSource::Seeded(u64::MAX), PLAIN);
+const MOST_SEED: Request<'static> = Request::Play(PlayRequest {
+    game: "t.dat",
+    source: DrawSource::Seeded(u64::MAX),
+    style: PLAIN,
+});
 
-const LISTED: Request<'static> = Request::Play("t.dat", DrawSource::Listed("d.txt"), PLAIN);
+const LISTED: Request<'static> = Request::Play(PlayRequest {
+    game: "t.dat",
+    source: DrawSource::Listed("d.txt"),
+    style: PLAIN,
+});
 
 // A play in a style: whether the player is spoken to, the light counted, and a spent one gone.
 macro_rules! played {
     ($you:literal, $counted:literal, $vanish:literal) => {
-        Some(Request::Play(
-            "t.dat",
-            DrawSource::Seeded(1),
-            Style {
+        Some(Request::Play(PlayRequest {
+            game: "t.dat",
+            source: DrawSource::Seeded(1),
+            style: Style {
                 you: $you,
                 counted: $counted,
                 vanish: $vanish,
             },
-        ))
+        }))
     };
 }
 
@@ -43,6 +55,13 @@ const WORDS: &[(&str, Option<Request<'static>>)] = &[
     ("check ", None),
     ("demo 7", None),
     ("check t.dat seed=1", None),
+    // A form refuses the kinds of settings that it doesn't name.
+    ("play t.dat steps=1", None),
+    ("play t.dat words=16", None),
+    ("translate t.dat g.inf seed=1", None),
+    ("translate t.dat g.inf draws=d.txt", None),
+    ("translate t.dat g.inf steps=1", None),
+    ("run g.inf style=y", None),
     ("play t.dat seed=1 seed=2", None),
     ("play t.dat seed=1 draws=d.txt", None),
     ("play t.dat seed=", None),

@@ -11,28 +11,34 @@ pub prefix_missing : (p s : List ℕ) → FindsTextPrefix p s None → after_pre
 prefix_missing p s h = rw (sym (starts_text false p s h)) refl
 
 -- a text that begins so, and what follows
-pub prefix_there : (p s rest : List ℕ) → (n : ℕ) × FindsTextPrefix p s (Some n) × (rest ≡ drop n s) × (length rest + n ≡ length s) → after_prefix p s ≡ Some rest
+pub prefix_there : (p s rest : List ℕ) → (n : ℕ) × FindsTextPrefix p s (Some n) × (rest
+    ≡ drop n s) × (length rest + n ≡ length s) → after_prefix p s ≡ Some rest
 prefix_there p s rest h =
     rw (sym (starts_text true p s (h.0, h.1, rw (h.1.0) (h.1.2))), h.2, h.1.0) refl
 
 module _ (a b c : Option (List ℕ)) where
-  pub by_draws : (name : List ℕ) → a ≡ Some name → option_map (λ n. draws (listed n)) (file_name name) ≡ play_setting a b c
+  pub by_draws : (name : List ℕ) → a ≡ Some name
+      → option_map (λ n. draws (listed n)) (file_name name) ≡ play_setting a b c
   by_draws name first = rw first refl
 
-  pub by_seed : (digits : List ℕ) → a ≡ None → b ≡ Some digits → option_map (λ n. draws (seeded n)) (number_of digits) ≡ play_setting a b c
+  pub by_seed : (digits : List ℕ) → a ≡ None → b ≡ Some digits
+      → option_map (λ n. draws (seeded n)) (number_of digits) ≡ play_setting a b c
   by_seed digits first second = rw (first, second) refl
 
-  pub by_style : (letters : List ℕ) → a ≡ None → b ≡ None → c ≡ Some letters → option_map style (style_named letters) ≡ play_setting a b c
+  pub by_style : (letters : List ℕ) → a ≡ None → b ≡ None → c ≡ Some letters
+      → option_map style (style_named letters) ≡ play_setting a b c
   by_style letters first second third = rw (first, second, third) refl
 
   pub by_no_prefix : a ≡ None → b ≡ None → c ≡ None → None ≡ play_setting a b c
   by_no_prefix first second third = rw (first, second, third) refl
 
 module _ (a b : Option (List ℕ)) where
-  pub by_steps : (digits : List ℕ) → a ≡ Some digits → option_map most_steps (steps_of digits) ≡ run_setting a b
+  pub by_steps : (digits : List ℕ) → a ≡ Some digits
+      → option_map most_steps (steps_of digits) ≡ run_setting a b
   by_steps digits first = rw first refl
 
-  pub by_words : (text : List ℕ) → a ≡ None → b ≡ Some text → option_map word_width (width_of text) ≡ run_setting a b
+  pub by_words : (text : List ℕ) → a ≡ None → b ≡ Some text
+      → option_map word_width (width_of text) ≡ run_setting a b
   by_words text first second = rw (first, second) refl
 
   pub by_neither : a ≡ None → b ≡ None → None ≡ run_setting a b

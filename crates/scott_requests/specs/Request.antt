@@ -1,26 +1,47 @@
 -- What the words of the command line ask for.
-use Rattle.std.specs.Prelude.{ℕ, ◌||◌, is_some, List, [], ◌∷◌, map, String, string_bytes, Option, Some, None, option_map, unwrap_or, bytes_eq, codes, if◌then◌else◌}
+use Rattle.std.specs.Prelude.{ℕ, true, List, [], ◌∷◌, map, String, string_bytes, Option, None, option_map, unwrap_or, bytes_eq, codes, if◌then◌else◌}
 use Rattle.std.specs.Option.{option_and_then}
+use Rattle.scott_requests.specs.declared.settings.Kinds.{Kinds}
 use Rattle.scott_requests.specs.declared.settings.TheConstants.{FIRST_SEED, USUAL_STEPS}
 use Rattle.inform_tree.specs.declared.widths.Width.{Width}
 use Rattle.inform_tree.specs.declared.widths.Width.TheVariants.{W16}
 use Rattle.scott_types.specs.declared.styles.Style.{Style}
 use Rattle.scott_types.specs.Style.{plain_style}
 use Rattle.scott_requests.specs.Parts.{file_name}
-use Rattle.scott_requests.specs.Settings.{DrawSource, seeded, Settings, no_settings, settings_from}
+use Rattle.scott_requests.specs.Settings.{DrawSource, seeded, Settings, no_kinds, no_settings, settings_from}
 
--- the database of this name is to be checked, or to be played with these draws in this style; a
--- source is to be compiled to a database, or a database decompiled to a source, from the file of
--- the first name to that of the second; the database of the first name is to be translated into an
--- Inform program under the second, in this style and for words of this width; an Inform program is
--- to be run with these draws, for so many steps at most, with words of this width
+-- what is to be played: the database of this name, with these draws, in this style
+pub record PlayRequest : Type 0 where
+  pub game : List ℕ
+  pub source : DrawSource
+  pub style : Style
+
+-- what is to be translated: the database of the first name, into an Inform program under the
+-- second, in this style and for words of this width
+pub record TranslationRequest : Type 0 where
+  pub game : List ℕ
+  pub program : List ℕ
+  pub style : Style
+  pub width : Width
+
+-- what is to be run: the Inform program of this name, with these draws, for so many steps at most,
+-- with words of this width
+pub record RunRequest : Type 0 where
+  pub program : List ℕ
+  pub source : DrawSource
+  pub steps : ℕ
+  pub width : Width
+
+-- the database of this name is to be checked; a source is to be compiled to a database, or a
+-- database decompiled to a source, from the file of the first name to that of the second; a
+-- database is to be played or translated, or a program run
 pub data Request : Type 0 where
   check : List ℕ → Request
   compile : List ℕ → List ℕ → Request
   decompile : List ℕ → List ℕ → Request
-  play : List ℕ → DrawSource → Style → Request
-  translate : List ℕ → List ℕ → Style → Width → Request
-  run : List ℕ → DrawSource → ℕ → Width → Request
+  play : PlayRequest → Request
+  translate : TranslationRequest → Request
+  run : RunRequest → Request
 
 -- ---- the forms of the commands: what the words after a command ask for
 
@@ -42,12 +63,12 @@ compile_form words = option_map (λ names. compile names.0 names.1) (two_names w
 abbrev pub decompile_form : List (List ℕ) → Option Request
 decompile_form words = option_map (λ names. decompile names.0 names.1) (two_names words)
 
--- one file, and the settings after it
-abbrev pub file_and_settings : List (List ℕ) → Option (List ℕ × Settings)
-file_and_settings [] = None
-file_and_settings (file ∷ words) =
+-- one file, and the settings after it, where all are of these kinds
+abbrev pub file_and_settings : Kinds → List (List ℕ) → Option (List ℕ × Settings)
+file_and_settings kinds [] = None
+file_and_settings kinds (file ∷ words) =
     option_and_then
-    (λ name. option_map (λ settings. (name, settings)) (settings_from no_settings words))
+    (λ name. option_map (λ settings. (name, settings)) (settings_from kinds no_settings words))
     (file_name file)
 
 -- where the draws come from
@@ -62,39 +83,62 @@ style_in settings = unwrap_or settings.play_style plain_style
 abbrev pub width_in : Settings → Width
 width_in settings = unwrap_or settings.width W16
 
--- a play has draws and a style
-abbrev pub play_by : List ℕ → Settings → Option Request
-play_by name settings =
-    if is_some settings.steps || is_some settings.width then None
-    else Some (play name (source_in settings) (style_in settings))
+-- for how many steps at most
+abbrev pub steps_in : Settings → ℕ
+steps_in settings = unwrap_or settings.steps USUAL_STEPS
+
+-- a play is given draws and a style
+abbrev pub play_kinds : Kinds
+play_kinds = record no_kinds { draws = true; style = true }
+
+abbrev pub play_of : List ℕ → Settings → PlayRequest
+play_of name settings =
+    record { game = name; source = source_in settings; style = style_in settings }
 
 abbrev pub play_form : List (List ℕ) → Option Request
-play_form words = option_and_then (λ p. play_by p.0 p.1) (file_and_settings words)
+play_form words = option_map (λ p. play (play_of p.0 p.1)) (file_and_settings play_kinds words)
 
 -- two files, and the settings after them
-abbrev pub files_and_settings : List (List ℕ) → Option (List ℕ × List ℕ × Settings)
-files_and_settings [] = None
-files_and_settings (file ∷ words) =
-    option_and_then (λ first. option_map (λ p. (first, p.0, p.1)) (file_and_settings words))
+abbrev pub files_and_settings : Kinds → List (List ℕ) → Option (List ℕ × List ℕ × Settings)
+files_and_settings kinds [] = None
+files_and_settings kinds (file ∷ words) =
+    option_and_then
+    (λ first. option_map (λ p. (first, p.0, p.1)) (file_and_settings kinds words))
     (file_name file)
 
--- a translation has a style and a width
-abbrev pub translate_by : List ℕ → List ℕ → Settings → Option Request
-translate_by game program settings =
-    if is_some settings.source || is_some settings.steps then None
-    else Some (translate game program (style_in settings) (width_in settings))
+-- a translation is given a style and a width
+abbrev pub translation_kinds : Kinds
+translation_kinds = record no_kinds { style = true; words = true }
+
+abbrev pub translation_of : List ℕ → List ℕ → Settings → TranslationRequest
+translation_of game program settings =
+    record {
+      game = game;
+      program = program;
+      style = style_in settings;
+      width = width_in settings;
+    }
 
 abbrev pub translate_form : List (List ℕ) → Option Request
-translate_form words = option_and_then (λ p. translate_by p.0 p.1 p.2) (files_and_settings words)
+translate_form words =
+    option_map (λ p. translate (translation_of p.0 p.1 p.2))
+    (files_and_settings translation_kinds words)
 
--- a run has draws, a number of steps and a width
-abbrev pub run_by : List ℕ → Settings → Option Request
-run_by name settings =
-    if is_some settings.play_style then None else Some
-    (run name (source_in settings) (unwrap_or settings.steps USUAL_STEPS) (width_in settings))
+-- a run is given draws, a number of steps and a width
+abbrev pub run_kinds : Kinds
+run_kinds = record no_kinds { draws = true; steps = true; words = true }
+
+abbrev pub run_of : List ℕ → Settings → RunRequest
+run_of name settings =
+    record {
+      program = name;
+      source = source_in settings;
+      steps = steps_in settings;
+      width = width_in settings;
+    }
 
 abbrev pub run_form : List (List ℕ) → Option Request
-run_form words = option_and_then (λ p. run_by p.0 p.1) (file_and_settings words)
+run_form words = option_map (λ p. run (run_of p.0 p.1)) (file_and_settings run_kinds words)
 
 -- ---- requests
 

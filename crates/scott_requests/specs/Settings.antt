@@ -4,6 +4,7 @@ use Rattle.std.specs.Option.{option_and_then, option_or}
 use Rattle.inform_tree.specs.declared.widths.Width.{Width}
 use Rattle.inform_tree.specs.declared.widths.Width.TheVariants.{W16, W32}
 use Rattle.scott_types.specs.declared.styles.Style.{Style}
+use Rattle.scott_requests.specs.declared.settings.Kinds.{Kinds}
 use Rattle.scott_requests.specs.declared.settings.TheConstants.{MOST_STEPS}
 use Rattle.scott_requests.specs.Parts.{file_name, after_prefix, number_of}
 
@@ -76,6 +77,23 @@ run_setting_in word =
 abbrev pub setting_in : List ℕ → Option Setting
 setting_in word = option_or (play_setting_in word) (run_setting_in word)
 
+-- ---- which kinds of settings a form allows; what it doesn't name it refuses
+
+abbrev pub no_kinds : Kinds
+no_kinds = record { draws = false; style = false; steps = false; words = false }
+
+abbrev pub allows : Kinds → Setting → Bool
+allows kinds (draws source) = kinds.draws
+allows kinds (style value) = kinds.style
+allows kinds (most_steps n) = kinds.steps
+allows kinds (word_width value) = kinds.words
+
+-- the setting that a word is, where its kind is allowed
+abbrev pub allowed_in : Kinds → List ℕ → Option Setting
+allowed_in kinds word =
+    option_and_then (λ setting. if allows kinds setting then Some setting else None)
+    (setting_in word)
+
 -- ---- several settings
 
 -- a place for each kind
@@ -104,10 +122,10 @@ with_setting settings (most_steps n) =
 with_setting settings (word_width value) =
     option_map (λ place. record settings { width = place }) (filled settings.width value)
 
--- the settings that words are, after some
-abbrev pub settings_from : Settings → List (List ℕ) → Option Settings
-settings_from settings [] = Some settings
-settings_from settings (word ∷ words) =
+-- the settings that words are, after some, where all are of these kinds
+abbrev pub settings_from : Kinds → Settings → List (List ℕ) → Option Settings
+settings_from kinds settings [] = Some settings
+settings_from kinds settings (word ∷ words) =
     option_and_then
-    (λ setting. option_and_then (λ more. settings_from more words)
-    (with_setting settings setting)) (setting_in word)
+    (λ setting. option_and_then (λ more. settings_from kinds more words)
+    (with_setting settings setting)) (allowed_in kinds word)

@@ -5,10 +5,13 @@ use Rattle.scott_requests.specs.declared.settings.DrawSource.TheVariants.{Listed
 use Rattle.scott_requests.specs.declared.settings.Setting.{Setting as HeldSetting}
 use Rattle.scott_requests.specs.declared.settings.Setting.TheVariants.{Draws, Style as StyleSetting, Steps, Words}
 use Rattle.scott_requests.specs.declared.settings.Settings.{Settings as HeldSettings}
+use Rattle.scott_requests.specs.declared.requests.PlayRequest.{PlayRequest as HeldPlay}
+use Rattle.scott_requests.specs.declared.requests.TranslationRequest.{TranslationRequest as HeldTranslation}
+use Rattle.scott_requests.specs.declared.requests.RunRequest.{RunRequest as HeldRun}
 use Rattle.scott_requests.specs.declared.requests.Request.{Request as HeldRequest}
 use Rattle.scott_requests.specs.declared.requests.Request.TheVariants.{Check, Compile, Decompile, Play, Translate, Run}
 use Rattle.scott_requests.specs.Settings.{DrawSource, listed, seeded, Setting, draws, style, most_steps, word_width, Settings}
-use Rattle.scott_requests.specs.Request.{Request, check, compile, decompile, play, translate, run}
+use Rattle.scott_requests.specs.Request.{PlayRequest, TranslationRequest, RunRequest, Request, check, compile, decompile, play, translate, run}
 
 abbrev pub source_of : HeldSource → DrawSource
 source_of (Listed name) = listed name.now
@@ -29,10 +32,26 @@ settings_of settings =
       width = settings.width;
     }
 
+abbrev pub asked_play : HeldPlay → PlayRequest
+asked_play p = record { game = p.game.now; source = source_of p.source; style = p.style }
+
+abbrev pub asked_translation : HeldTranslation → TranslationRequest
+asked_translation t =
+    record { game = t.game.now; program = t.program.now; style = t.style; width = t.width }
+
+abbrev pub asked_run : HeldRun → RunRequest
+asked_run r =
+    record {
+      program = r.program.now;
+      source = source_of r.source;
+      steps = r.steps;
+      width = r.width;
+    }
+
 abbrev pub request_of : HeldRequest → Request
 request_of (Check game) = check game.now
 request_of (Compile source game) = compile source.now game.now
 request_of (Decompile game source) = decompile game.now source.now
-request_of (Play game source value) = play game.now (source_of source) value
-request_of (Translate game program value width) = translate game.now program.now value width
-request_of (Run program source steps width) = run program.now (source_of source) steps width
+request_of (Play p) = play (asked_play p)
+request_of (Translate t) = translate (asked_translation t)
+request_of (Run r) = run (asked_run r)

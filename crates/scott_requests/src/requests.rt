@@ -1,32 +1,57 @@
 //! Requests: a command, the names of its files, and its settings.
 ghost use Rattle.std.specs.Prelude.{◌≡◌, map, string_bytes, option_map};
-ghost use Rattle.scott_requests.specs.Request.{check_form, two_names, compile_form, decompile_form, file_and_settings, source_in, style_in, width_in, play_form, files_and_settings, translate_form, run_form, asked_by};
+ghost use Rattle.scott_requests.specs.Request.{check_form, two_names, compile_form, decompile_form, file_and_settings, source_in, style_in, width_in, steps_in, play_form, files_and_settings, translate_form, run_form, asked_by};
 ghost use Rattle.scott_requests.specs.Views.{source_of, settings_of, request_of};
 
 use crate::parts::file_name;
-use crate::settings::{DrawSource, FIRST_SEED, Settings, USUAL_STEPS, settings_in};
+use crate::settings::{
+    DrawSource, FIRST_SEED, Kinds, Settings, USUAL_STEPS, no_kinds, settings_in,
+};
 use inform_tree::Width;
 use scott_types::Style;
+
+/// What is to be played: the database of this name, with these draws, in this style.
+#[derive(Clone, Copy, PartialEq, Eq)]
+pub struct PlayRequest<'a> {
+    pub game: &'a str,
+    pub source: DrawSource<'a>,
+    pub style: Style,
+}
+
+/// What is to be translated: the database of the first name, into an Inform program that is stored
+/// under the second one, in this style and for words of this width.
+#[derive(Clone, Copy, PartialEq, Eq)]
+pub struct TranslationRequest<'a> {
+    pub game: &'a str,
+    pub program: &'a str,
+    pub style: Style,
+    pub width: Width,
+}
+
+/// What is to be run: the Inform program of this name, with these draws, for so many steps at most
+/// (1 to `MOST_STEPS`), with words of this width.
+#[derive(Clone, Copy, PartialEq, Eq)]
+pub struct RunRequest<'a> {
+    pub program: &'a str,
+    pub source: DrawSource<'a>,
+    pub steps: u64,
+    pub width: Width,
+}
 
 /// What is asked for.
 ///
 /// - `Check`: the database of this name is to be reported on.
 /// - `Compile`: the source of the first name is to be stored as a database under the second one.
 /// - `Decompile`: the database of the first name is to be stored as a source under the second one.
-/// - `Play`: the database of this name is to be played with these draws, in this style.
-/// - `Translate`: the database of the first name is to be translated into an Inform program, which
-///   is stored under the second one, in this style and for words of this width.
-/// - `Run`: the Inform program of this name is to be run with these draws, for so many steps at
-///   most (1 to
-///   `MOST_STEPS`), with words of this width.
+/// - `Play`, `Translate`, `Run`: a database is to be played or translated, a program to be run.
 #[derive(Clone, Copy, PartialEq, Eq)]
 pub enum Request<'a> {
     Check(&'a str),
     Compile(&'a str, &'a str),
     Decompile(&'a str, &'a str),
-    Play(&'a str, DrawSource<'a>, Style),
-    Translate(&'a str, &'a str, Style, Width),
-    Run(&'a str, DrawSource<'a>, u64, Width),
+    Play(PlayRequest<'a>),
+    Translate(TranslationRequest<'a>),
+    Run(RunRequest<'a>),
 }
 
 // `check` with the words after it.
@@ -70,13 +95,13 @@ fn decompile_form(words: &[String]) -> Option<Request<'_>>
     }
 }
 
-// The name of a file, and the settings after it.
-fn file_and_settings(words: &[String]) -> Option<(&str, Settings<'_>)>
+// The name of a file, and the settings after it, if all are of these kinds.
+fn file_and_settings(words: &[String], kinds: Kinds) -> Option<(&str, Settings<'_>)>
     ensures { option_map (λ p. (p.0.now, settings_of p.1)) result
-        ≡ file_and_settings (map string_bytes words.now) }
+        ≡ file_and_settings kinds (map string_bytes words.now) }
 {
     let (file, rest) = words.split_first()?;
-    file_name(file.as_str()).zip(settings_in(rest))
+    file_name(file.as_str()).zip(settings_in(rest, kinds))
 }
 
 // Where the draws come from.
@@ -100,51 +125,74 @@ fn width_in(settings: Settings<'_>) -> Width
     settings.width.unwrap_or(Width::W16)
 }
 
+// For how many steps at most.
+fn steps_in(settings: Settings<'_>) -> u64
+    ensures { result ≡ steps_in (settings_of settings.entry) }
+{
+    settings.steps.unwrap_or(USUAL_STEPS)
+}
+
 // `play` with the words after it.
 fn play_form(words: &[String]) -> Option<Request<'_>>
     ensures { option_map request_of result ≡ play_form (map string_bytes words.now) }
 {
-    let (game, settings) = file_and_settings(words)?;
-    if settings.steps.is_some() || settings.width.is_some() {
-        return None;
-    }
-    Some(Request::Play(game, source_in(settings), style_in(settings)))
+    let kinds = Kinds {
+        draws: true,
+        style: true,
+        ..no_kinds()
+    };
+    let (game, settings) = file_and_settings(words, kinds)?;
+    Some(Request::Play(PlayRequest {
+        game,
+        source: source_in(settings),
+        style: style_in(settings),
+    }))
 }
 
 // The name of a file, and after it one more with its settings.
-fn files_and_settings(words: &[String]) -> Option<(&str, (&str, Settings<'_>))>
+fn files_and_settings(words: &[String], kinds: Kinds) -> Option<(&str, (&str, Settings<'_>))>
     ensures { option_map (λ p. (p.0.now, p.1.0.now, settings_of p.1.1)) result
-        ≡ files_and_settings (map string_bytes words.now) }
+        ≡ files_and_settings kinds (map string_bytes words.now) }
 {
     let (file, rest) = words.split_first()?;
-    file_name(file.as_str()).zip(file_and_settings(rest))
+    file_name(file.as_str()).zip(file_and_settings(rest, kinds))
 }
 
 // `translate` with the words after it.
 fn translate_form(words: &[String]) -> Option<Request<'_>>
     ensures { option_map request_of result ≡ translate_form (map string_bytes words.now) }
 {
-    let (game, (program, settings)) = files_and_settings(words)?;
-    if settings.draws.is_some() || settings.steps.is_some() {
-        return None;
-    }
-    Some(Request::Translate(game, program, style_in(settings), width_in(settings)))
+    let kinds = Kinds {
+        style: true,
+        words: true,
+        ..no_kinds()
+    };
+    let (game, (program, settings)) = files_and_settings(words, kinds)?;
+    Some(Request::Translate(TranslationRequest {
+        game,
+        program,
+        style: style_in(settings),
+        width: width_in(settings),
+    }))
 }
 
 // `run` with the words after it.
 fn run_form(words: &[String]) -> Option<Request<'_>>
     ensures { option_map request_of result ≡ run_form (map string_bytes words.now) }
 {
-    let (program, settings) = file_and_settings(words)?;
-    if settings.style.is_some() {
-        return None;
-    }
-    Some(Request::Run(
+    let kinds = Kinds {
+        draws: true,
+        steps: true,
+        words: true,
+        ..no_kinds()
+    };
+    let (program, settings) = file_and_settings(words, kinds)?;
+    Some(Request::Run(RunRequest {
         program,
-        source_in(settings),
-        settings.steps.unwrap_or(USUAL_STEPS),
-        width_in(settings),
-    ))
+        source: source_in(settings),
+        steps: steps_in(settings),
+        width: width_in(settings),
+    }))
 }
 
 /// What the words ask for, if they are a request. docs/GUIDE.md has the words of each.

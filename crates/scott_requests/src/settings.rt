@@ -2,7 +2,7 @@
 ghost use Rattle.std.specs.Prelude.{◌≡◌, Some, map, string_bytes, option_map};
 ghost use Rattle.std.specs.Option.{option_and_then};
 ghost use Rattle.scott_requests.specs.Parts.{file_name, number_of};
-ghost use Rattle.scott_requests.specs.Settings.{draws, listed, seeded, style, some_style, style_named, most_steps, word_width, steps_of, width_of, play_setting_in, run_setting_in, setting_in, no_settings, with_setting, settings_from};
+ghost use Rattle.scott_requests.specs.Settings.{draws, listed, seeded, style, some_style, style_named, most_steps, word_width, steps_of, width_of, play_setting_in, run_setting_in, setting_in, no_kinds, allows, allowed_in, no_settings, with_setting, settings_from};
 ghost use Rattle.scott_requests.specs.Views.{source_of, setting_of, settings_of};
 
 use crate::parts::{file_name, number_of};
@@ -161,6 +161,49 @@ fn setting_in(word: &str) -> Option<Setting<'_>>
     }
 }
 
+/// The kinds of settings that a form allows.
+#[derive(Clone, Copy)]
+pub struct Kinds {
+    pub draws: bool,
+    pub style: bool,
+    pub steps: bool,
+    pub words: bool,
+}
+
+/// No kind: a form names those that it allows.
+pub fn no_kinds() -> Kinds
+    ensures { result ≡ no_kinds }
+{
+    Kinds {
+        draws: false,
+        style: false,
+        steps: false,
+        words: false,
+    }
+}
+
+// Whether the kind of a setting is one of these.
+fn allows(kinds: Kinds, setting: Setting<'_>) -> bool
+    ensures { result ≡ allows kinds (setting_of setting.entry) }
+{
+    match setting {
+        Setting::Draws(_) => kinds.draws,
+        Setting::Style(_) => kinds.style,
+        Setting::Steps(_) => kinds.steps,
+        Setting::Words(_) => kinds.words,
+    }
+}
+
+// The setting that a word is, where its kind is allowed.
+fn allowed_in(word: &str, kinds: Kinds) -> Option<Setting<'_>>
+    ensures { option_map setting_of result ≡ allowed_in kinds word.now }
+{
+    match setting_in(word) {
+        Some(setting) if allows(kinds, setting) => Some(setting),
+        _ => None,
+    }
+}
+
 impl<'a> Settings<'a> {
     // Draws, where none are there.
     fn with_draws(self, source: DrawSource<'a>) -> Option<Settings<'a>>
@@ -232,9 +275,9 @@ impl<'a> Settings<'a> {
     }
 }
 
-/// The settings that words are, if each is one and no place is taken twice.
-pub fn settings_in(words: &[String]) -> Option<Settings<'_>>
-    ensures { option_map settings_of result ≡ settings_from no_settings
+/// The settings that words are, if each is one of these kinds and no place is taken twice.
+pub fn settings_in(words: &[String], kinds: Kinds) -> Option<Settings<'_>>
+    ensures { option_map settings_of result ≡ settings_from kinds no_settings
         (map string_bytes words.now) }
 {
     let mut settings = Settings {
@@ -244,7 +287,7 @@ pub fn settings_in(words: &[String]) -> Option<Settings<'_>>
         width: None,
     };
     for word in words {
-        settings = settings.with(setting_in(word.as_str())?)?;
+        settings = settings.with(allowed_in(word.as_str(), kinds)?)?;
     }
     Some(settings)
 }

@@ -11,7 +11,7 @@ use Rattle.scott_format.specs.Canon.{canon}
 use Rattle.scott_format.specs.File.{DatText}
 use Rattle.scott_format.specs.Laws.{OneDatabase, WrittenTextIsText}
 use Rattle.scott_requests.specs.Settings.{DrawSource, seeded}
-use Rattle.scott_requests.specs.Request.{play, asked_by, request_in}
+use Rattle.scott_requests.specs.Request.{PlayRequest, play, asked_by, request_in}
 use Rattle.scott_rules.specs.Games.{hill}
 use Rattle.scott_rules.specs.Play as rules
 use Rattle.scott_rules.specs.Play.{go}
@@ -49,6 +49,10 @@ module _ (one : OneDatabase) (written : WrittenTextIsText) (keeps : KeepsLimits 
       (rules.play (plain d) hill_lines p.draws).events))) db ∙ ap
       (λ steps. grown old.history (shown (trace_of steps))) (hill_play p.draws)
 
+  -- what the words of the command ask for
+  abbrev asked_play : PlayRequest
+  asked_play = record { game = codes "t.dat"; source = seeded 1; style = plain_style }
+
   -- what the clause of `play` says of these words, this game and these lines
   pub hill_seen : {Z : Type 0} (words : List (String Z)) (shelf shelf' : Shelved)
       (console console' : Recorded) (status : ℕ)
@@ -56,9 +60,9 @@ module _ (one : OneDatabase) (written : WrittenTextIsText) (keeps : KeepsLimits 
       → (status ≡ 0 → HasPlayed (stock_of shelf) (seen_of console) (seen_of console')
       (asked_by words)) → status ≡ 0 → console'.history ≡ console.history ++ hill_history
   hill_seen words shelf shelf' console console' status is there lines played zero =
-      let asks : asked_by words ≡ Some (play (codes "t.dat") (seeded 1) plain_style) = ap request_in
+      let asks : asked_by words ≡ Some (play asked_play) = ap request_in
       is in
-      let p = played zero (codes "t.dat") (seeded 1) plain_style asks in
+      let p = played zero asked_play asks in
       let q = subst (λ (ls : List (List ℕ)). Played shelf.files ls (codes "t.dat")
       (seeded 1) plain_style (seen_of console) (seen_of console')) lines p in
       some_same console'.history (console.history ++ hill_history)

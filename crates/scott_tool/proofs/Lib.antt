@@ -9,6 +9,7 @@ pub mod Promised
 pub mod Refusing
 pub mod Working
 pub mod Promises
+pub mod Done
 pub mod Replaying
 pub mod Hill
 pub mod Playing

@@ -1,21 +1,19 @@
 -- That what is expected is done, or refused.
 use Rattle.std.proofs.Common.{◌≡◌, ◌∙◌, ◌≤◌, Bool, true, false, ℕ, List, [], ◌∷◌, Option, Some, None, IfSome, Result, Ok, Err, MatchResult, OnOk, OnErr, refl, sym, ap, subst, inl, inr, ◌⊎◌, arith}
-use Rattle.std.specs.Prelude.{Contains, nat_eq, ◌||◌, unwrap_or}
+use Rattle.std.specs.Prelude.{Contains, nat_eq, ◌||◌}
 use mathlib.Core.Bool.{true≢false}
 use Rattle.adv_io.specs.declared.events.Event.{Event}
-use Rattle.adv_io.specs.Console.{ConsoleView}
+use Rattle.adv_io.specs.Console.{ConsoleView, Speaks}
 use Rattle.adv_io.specs.Faults.{Rose, HasCause}
-use Rattle.adv_io.specs.History.{grown, GrewByPrefix}
+use Rattle.adv_io.specs.History.{says, grown, GrewByPrefix}
 use Rattle.adv_io.specs.Shelf.{ShelfView, with_file}
 use Rattle.adv_io.proofs.Sayings.{grown-nil}
-use Rattle.scott_tool.specs.declared.refusals.ContentFault.{ContentFault}
-use Rattle.scott_tool.specs.declared.refusals.ContentFault.TheVariants.{NoDatabase, NoSource, NoMeaning, NoDraws, NoProgram, NoTranslation}
-use Rattle.translator.specs.Faithful.{Faithful}
-use Rattle.scott_tool.specs.Refusal.{Refusal, Unfit, no_request, unread, too_long, unfit, unwritten, refusing, content_status, status_of}
-use Rattle.scott_tool.specs.Outcome.{File, Outcome, done, keeping, refused, kept, Concludes, Loses, Ends, whole, unsaid, unstored}
-use Rattle.scott_tool.specs.Work.{Task, reporting, storing, playing, translating, running, Does, task_statuses}
-use Rattle.scott_tool.specs.Obeying.{Keeps, Stands, Answers, Leaves, Obeys, Refuses, FailsToStore, Declines}
-use Rattle.scott_tool.proofs.Statuses.{IsEnd, first, task_has_0}
+use Rattle.scott_tool.specs.Refusal.{Flaw, bad_database, bad_text, bad_program, bad_width, Refusal, Unfit, no_request, unread, too_long, unfit, unwritten, refusing, flaw_status, status_of, line_of}
+use Rattle.scott_tool.specs.Outcome.{Outcome, done, keeping, refused, unkept, kept, Concludes, Loses, Ends, whole, unsaid, unstored}
+use Rattle.scott_tool.specs.Work.{Text, IsText, Task, saying, storing, running, playing, Does, task_statuses}
+use Rattle.scott_tool.specs.Obeying.{Stands, Answers, Leaves, Obeys, Refuses, FailsToStore, Declines}
+use Rattle.scott_tool.specs.Promises.{IsEnd}
+use Rattle.scott_tool.proofs.Statuses.{first, task_has_0}
 
 whatever : (P : List (List ℕ) → Type 0) → ((lines : List (List ℕ)) → P lines) →
     (o : Option (List (List ℕ))) → IfSome o P
@@ -32,19 +30,17 @@ abbrev is_refused : ℕ → Bool
 is_refused n = nat_eq n 1 || (nat_eq n 2 || (nat_eq n 4 ||
     (nat_eq n 5 || (nat_eq n 6 || (nat_eq n 7 || nat_eq n 11)))))
 
-content_is : (fault : ContentFault) → is_refused (content_status fault) ≡ true
-content_is (NoDatabase fault) = refl
-content_is (NoSource fault) = refl
-content_is (NoMeaning fault) = refl
-content_is (NoDraws fault) = refl
-content_is (NoProgram fault) = refl
-content_is (NoTranslation fault) = refl
+content_is : (flaw : Flaw) → is_refused (flaw_status flaw) ≡ true
+content_is bad_database = refl
+content_is bad_text = refl
+content_is bad_program = refl
+content_is bad_width = refl
 
 refusal_is : (refusal : Refusal) → is_refused (status_of refusal) ≡ true
 refusal_is no_request = refl
 refusal_is (unread name) = refl
 refusal_is (too_long name limit) = refl
-refusal_is (unfit u) = content_is u.fault
+refusal_is (unfit u) = content_is u.flaw
 refusal_is (unwritten name) = refl
 
 -- no refusal has the status of something done, of want of memory, of a console that failed, or of a
@@ -66,25 +62,23 @@ refusal_not refusal n h f = true≢false (sym (refusal_is refusal) ∙ ap is_ref
 -- the files stay where nothing was done
 nothing_done : (shelf : ShelfView) (expected : Result Task Refusal) (status : ℕ) → (status ≡ 0 → ⊥)
     → Leaves shelf shelf expected status
-nothing_done shelf (Ok (reporting db)) status not_0 = refl
-nothing_done shelf (Ok (storing name bytes)) status not_0 = record
+nothing_done shelf (Ok (saying text)) status not_0 = refl
+nothing_done shelf (Ok (storing name text)) status not_0 = record
     { stored = λ e. absurd (not_0 e); stay = inr (inl refl) }
-nothing_done shelf (Ok (playing style db draws)) status not_0 = refl
-nothing_done shelf (Ok (translating name style width db)) status not_0 = record
-    { stored = λ e. absurd (not_0 e); stay = inr (inl refl) }
-nothing_done shelf (Ok (running width p draws steps)) status not_0 = refl
+nothing_done shelf (Ok (running ends show)) status not_0 = refl
+nothing_done shelf (Ok (playing show None)) status not_0 = refl
+nothing_done shelf (Ok (playing show (Some save))) status not_0 = inl refl
 nothing_done shelf (Err refusal) status not_0 = refl
 
 -- and where what was done is all said
 said_stays : (shelf : ShelfView) (task : Task) (status : ℕ) (events : List Event)
     (lines : List (List ℕ)) → Does task lines (done events) → Leaves shelf shelf (Ok task) status
-said_stays shelf (reporting db) status events lines does = refl
-said_stays shelf (storing name bytes) status events lines does = absurd
-    (let stored = ap (λ o. o.stored) does in cc)
-said_stays shelf (playing style db draws) status events lines does = refl
-said_stays shelf (translating name style width db) status events lines (out, faithful, e) = absurd
+said_stays shelf (saying text) status events lines does = refl
+said_stays shelf (storing name text) status events lines (out, is, e) = absurd
     (let stored = ap (λ o. o.stored) e in cc)
-said_stays shelf (running width p draws steps) status events lines does = refl
+said_stays shelf (running ends show) status events lines does = refl
+said_stays shelf (playing show None) status events lines does = refl
+said_stays shelf (playing show (Some save)) status events lines does = inl refl
 
 -- what concludes and stores nothing ends so
 concluded : (shelf : ShelfView) (old new : ConsoleView) (o : Outcome) (status : ℕ) → o.stored ≡ None
@@ -92,67 +86,65 @@ concluded : (shelf : ShelfView) (old new : ConsoleView) (o : Outcome) (status : 
 concluded shelf old new o status none (inl h) = whole h.0 h.1 (sym (ap (kept shelf.files) none))
 concluded shelf old new o status none (inr h) = unsaid h.0 h.1 h.2 refl
 
--- what is done is to store these bytes under this name, whatever lines are left
-abbrev StoresFile : Task → List ℕ → List ℕ → Type 0
-StoresFile task name bytes = (lines : List (List ℕ)) → Does task lines (keeping name bytes)
-
--- the file that an outcome stores
-abbrev file_of : Outcome → File
-file_of o = unwrap_or o.stored (record { name = []; bytes = [] })
-
-module _ (shelf shelf' : ShelfView) (name bytes : List ℕ) (status : ℕ) where
-  -- the file is stored with status 0, and else it stays or is lost
-  abbrev WasKept : List ℕ → Type 0
-  WasKept other = (status ≡ 0) ⊎ (shelf'.files ≡ shelf.files) ⊎ Loses shelf shelf' other
-
-  keeps : (MayBe : List ℕ → Type 0) (other : List ℕ) → name ≡ other → MayBe bytes →
-      (status ≡ 0 → shelf'.files ≡ with_file shelf.files name bytes) → WasKept name
-      → Keeps shelf shelf' other MayBe status
-  keeps MayBe other same may stored stay = record {
-    stored = λ zero. (bytes, may, stored zero ∙ ap (λ n. with_file shelf.files n bytes) same);
-    stay = subst WasKept same stay;
-  }
-
-  -- the files after a task that stores bytes
-  leaves_file : (task : Task) → StoresFile task name bytes →
-      (status ≡ 0 → shelf'.files ≡ with_file shelf.files name bytes) → WasKept name
-      → Leaves shelf shelf' (Ok task) status
-  leaves_file (reporting db) does stored stay = absurd (let none = ap (λ o. o.stored)
-      (does []) in cc)
-  leaves_file (storing other more) does stored stay =
-      keeps (λ out. out ≡ more) other (ap (λ o. (file_of o).name) (does []))
-      (ap (λ o. (file_of o).bytes) (does [])) stored stay
-  leaves_file (playing style db draws) does stored stay = absurd
-      (let none = ap (λ o. o.stored) (does []) in cc)
-  leaves_file (translating other style width db) does stored stay =
-      let made = does [] in
-      keeps (Faithful style width db None) other (ap (λ o. (file_of o).name) made.2)
-      (subst (Faithful style width db None) (sym (ap (λ o. (file_of o).bytes) made.2)) made.1)
-      stored stay
-  leaves_file (running width p draws steps) does stored stay = absurd
-      (let none = ap (λ o. o.stored) (does []) in cc)
-
 -- the file was stored, and nothing is said
-pub obeys-stored : (shelf shelf' : ShelfView) (view : ConsoleView) (task : Task)
-    (name bytes : List ℕ) → StoresFile task name bytes
+pub obeys-stored : (shelf shelf' : ShelfView) (view : ConsoleView) (text : Text)
+    (name bytes : List ℕ) → IsText text bytes
     → shelf'.files ≡ with_file shelf.files name bytes → shelf'.faults ≡ shelf.faults
-    → Obeys shelf shelf' view view (Ok task) 0
-obeys-stored shelf shelf' view task name bytes does files faults = record {
-  answered = whatever (λ lines. Answers shelf shelf' view view lines (Ok task) 0)
+    → Obeys shelf shelf' view view (Ok (storing name text)) 0
+obeys-stored shelf shelf' view text name bytes is files faults = record {
+  answered = whatever (λ lines. Answers shelf shelf' view view lines (Ok (storing name text)) 0)
       (λ lines. inl (
         keeping name bytes,
-        does lines,
-        whole refl
-            (sym (grown-nil view.history)) files,
+        (bytes, is, refl),
+        whole refl (sym (grown-nil view.history)) files,
       )) view.left;
-  stands = inl (task_has_0 task);
-  silent = λ e. refl;
+  stands = inl (first 0);
+  silent = λ quiet e. refl;
   lines = inl (inl refl);
-  files = leaves_file shelf shelf' name bytes 0 task does (λ e. files) (inl refl);
+  files = record { stored = λ e. (bytes, is, files); stay = inl refl };
   shelf_later = omega arith;
   later = omega arith;
   shelf_stays = inr (inr faults);
   console_stays = inr refl;
+}
+
+-- what ends with a refusal's status doesn't end with that of something done, of want of memory, or
+-- of a run
+concluded_not : (old new : ConsoleView) (status : ℕ) (o : Outcome) (n : ℕ)
+    → is_refused o.status ≡ true → NoRefusal n → (n ≡ 3 → ⊥)
+    → Concludes old new o status → status ≡ n → ⊥
+concluded_not old new status o n is free not_3 (inl h) e =
+    true≢false (sym is ∙ ap is_refused (sym h.0 ∙ e) ∙ not_refused n free)
+concluded_not old new status o n is free not_3 (inr h) e = not_3 (sym e ∙ h.0)
+
+-- nor does a store that failed
+pub unkept_not_end : (old new : ConsoleView) (status : ℕ) (o : Outcome) (name : List ℕ)
+    → Concludes old new (unkept o name) status → IsEnd status → ⊥
+unkept_not_end old new status o name said (inl e) =
+    concluded_not old new status (unkept o name) 0 refl (inl refl) (λ f. omega arith) said e
+unkept_not_end old new status o name said (inr (inl e)) =
+    concluded_not old new status (unkept o name) 8 refl (inr (inr (inr (inl refl))))
+    (λ f. omega arith) said e
+unkept_not_end old new status o name said (inr (inr e)) =
+    concluded_not old new status (unkept o name) 10 refl (inr (inr (inr (inr refl))))
+    (λ f. omega arith) said e
+
+-- a refusal whose line was said, or the console failed
+pub refuses-said : {T E : Type 0} (old new : ConsoleView) (refusal : Refusal) (said : Result T E)
+    (status : ℕ) → Speaks old new said (says (line_of refusal))
+    → MatchResult said (λ _. status ≡ status_of refusal) (λ _. status ≡ 3)
+    → Refuses old new (Some refusal) status
+refuses-said old new refusal (Ok x) status s is = record {
+  ended = inl (is, s.said);
+  lines = s.lines_stay;
+  later = s.cause.later;
+  console_stays = inr s.cause.steady;
+}
+refuses-said old new refusal (Err fault) status s is = record {
+  ended = inr (is, s.cause.failed, s.part);
+  lines = s.lines_stay;
+  later = s.cause.later;
+  console_stays = inl is;
 }
 
 module _ (old new : ConsoleView) (status : ℕ) where
@@ -191,7 +183,7 @@ module _ (old new : ConsoleView) (status : ℕ) where
       answered = whatever (λ lines. Answers shelf shelf old new lines expected status)
           (λ lines. inr r.ended) old.left;
       stands = inr (inl r.ended.0);
-      silent = λ e. r.ended.1;
+      silent = λ quiet e. r.ended.1;
       lines = inr r.lines;
       files = nothing_done shelf expected status (λ e. let nine = r.ended.0 in omega arith);
       shelf_later = omega arith;
@@ -211,7 +203,7 @@ module _ (old new : ConsoleView) (status : ℕ) where
                 (refused (unfit u)) status refl r.ended,
           )) old.left;
       stands = refused_stands (Rose shelf.faults shelf.faults) (unfit u) r.ended;
-      silent = λ e. absurd (refused_not_9 (unfit u) r.ended e);
+      silent = λ quiet e. absurd (refused_not_9 (unfit u) r.ended e);
       lines = inr r.lines;
       files = refl;
       shelf_later = omega arith;
@@ -235,57 +227,62 @@ module _ (old new : ConsoleView) (status : ℕ) where
 
   -- ---- what is stored
 
-  module _ (shelf shelf' : ShelfView) (task : Task) (name bytes : List ℕ)
-      (does : StoresFile task name bytes) where
-    -- the shelf failed
-    obeys-unstored : Loses shelf shelf' name → shelf.faults ≤ shelf'.faults → Refuses old new
-        (Some (unwritten name)) status
-        → Obeys shelf shelf' old new (Ok task) status
-    obeys-unstored loses more r = record {
-      answered = whatever (λ lines. Answers shelf shelf' old new lines (Ok task) status)
-          (λ lines. inl (
-            keeping name bytes,
-            does lines,
-            unstored
-                (record { name = name; bytes = bytes }) refl loses r.ended,
-          )) old.left;
-      stands = elim r.ended [
-        | inl h ↦ inr (inr (inr (h.0, loses.0)))
-        | inr h ↦ inr
-            (inr (inl (h.0, h.1)))
-      ];
-      silent = λ e. absurd (refused_not_9 (unwritten name) r.ended e);
-      lines = inr r.lines;
-      files = leaves_file shelf shelf' name bytes status task does
-          (λ e. absurd (refused_not_0 (unwritten name) r.ended e)) (inr (inr loses));
-      shelf_later = more;
-      later = r.later;
-      shelf_stays = elim r.ended [ inl h ↦ inl h.0 | inr h ↦ inr (inl h.0) ];
-      console_stays = r.console_stays;
-    }
+  module _ (shelf shelf' : ShelfView) (text : Text) (name bytes : List ℕ) (is : IsText text bytes)
+    where
+      abbrev task : Task
+      task = storing name text
 
-    -- memory ran out as it stored
-    obeys-unkept : shelf'.files ≡ shelf.files → shelf'.faults ≡ shelf.faults
-        → Refuses old new None status
-        → Obeys shelf shelf' old new (Ok task) status
-    obeys-unkept files faults r =
-        let same : record { files = shelf'.files; faults = shelf'.faults }
-        ≡ shelf = λ i. record { files = files i; faults = faults i } in
-        subst (λ (s : ShelfView). Obeys shelf s old new (Ok task) status) (sym same)
-        (obeys-starved shelf (Ok task) r)
+      -- the shelf failed
+      obeys-unstored : Loses shelf shelf' name → shelf.faults ≤ shelf'.faults → Refuses old new
+          (Some (unwritten name)) status
+          → Obeys shelf shelf' old new (Ok task) status
+      obeys-unstored loses more r = record {
+        answered = whatever (λ lines. Answers shelf shelf' old new lines (Ok task) status)
+            (λ lines. inl (
+              keeping name bytes,
+              (bytes, is, refl),
+              unstored
+                  (record { name = name; bytes = bytes }) refl loses r.ended,
+            )) old.left;
+        stands = elim r.ended [
+          | inl h ↦ inr (inr (inr (h.0, loses.0)))
+          | inr h ↦ inr
+              (inr (inl (h.0, h.1)))
+        ];
+        silent = λ quiet e. absurd (refused_not_9 (unwritten name) r.ended e);
+        lines = inr r.lines;
+        files = record {
+          stored = λ e. absurd (refused_not_0 (unwritten name) r.ended e);
+          stay = inr (inr loses);
+        };
+        shelf_later = more;
+        later = r.later;
+        shelf_stays = elim r.ended [ inl h ↦ inl h.0 | inr h ↦ inr (inl h.0) ];
+        console_stays = r.console_stays;
+      }
 
-    -- the file wasn't stored
-    pub obeys-not_stored : (refusal : Option Refusal) → FailsToStore shelf shelf' name refusal
-        → shelf.faults ≤ shelf'.faults → Refuses old new refusal status
-        → Obeys shelf shelf' old new (Ok task) status
-    obeys-not_stored None h more r = obeys-unkept h.0 h.1 r
-    obeys-not_stored (Some (unwritten other)) h more r =
-        obeys-unstored h.1 more (subst (λ (n : List ℕ). Refuses old new (Some (unwritten n)) status)
-        h.0 r)
-    obeys-not_stored (Some no_request) h more r = absurd h
-    obeys-not_stored (Some (unread other)) h more r = absurd h
-    obeys-not_stored (Some (too_long other limit)) h more r = absurd h
-    obeys-not_stored (Some (unfit u)) h more r = absurd h
+      -- memory ran out as it stored
+      obeys-unkept : shelf'.files ≡ shelf.files → shelf'.faults ≡ shelf.faults
+          → Refuses old new None status
+          → Obeys shelf shelf' old new (Ok task) status
+      obeys-unkept files faults r =
+          let same : record { files = shelf'.files; faults = shelf'.faults }
+          ≡ shelf = λ i. record { files = files i; faults = faults i } in
+          subst (λ (s : ShelfView). Obeys shelf s old new (Ok task) status) (sym same)
+          (obeys-starved shelf (Ok task) r)
+
+      -- the file wasn't stored
+      pub obeys-not_stored : (refusal : Option Refusal) → FailsToStore shelf shelf' name refusal
+          → shelf.faults ≤ shelf'.faults → Refuses old new refusal status
+          → Obeys shelf shelf' old new (Ok task) status
+      obeys-not_stored None h more r = obeys-unkept h.0 h.1 r
+      obeys-not_stored (Some (unwritten other)) h more r =
+          obeys-unstored h.1 more
+          (subst (λ (n : List ℕ). Refuses old new (Some (unwritten n)) status) h.0 r)
+      obeys-not_stored (Some no_request) h more r = absurd h
+      obeys-not_stored (Some (unread other)) h more r = absurd h
+      obeys-not_stored (Some (too_long other limit)) h more r = absurd h
+      obeys-not_stored (Some (unfit u)) h more r = absurd h
 
   -- ---- what is shown
 
@@ -306,7 +303,7 @@ module _ (old new : ConsoleView) (status : ℕ) where
           (λ lines. Answers shelf shelf old new lines (Ok task) status)
           (λ lines h. inl (done (events lines), does lines, whole e h refl)) old.left said;
       stands = inl (subst (Contains (task_statuses task)) (sym e) (task_has_0 task));
-      silent = λ f. absurd (omega arith);
+      silent = λ quiet f. absurd (omega arith);
       lines = inl (inl e);
       files = stays;
       shelf_later = omega arith;
@@ -320,7 +317,7 @@ module _ (old new : ConsoleView) (status : ℕ) where
           (λ lines h. inl (done (events lines), does lines, unsaid e cause.failed h refl)) old.left
           part;
       stands = inr (inr (inl (e, cause.failed)));
-      silent = λ f. absurd (omega arith);
+      silent = λ quiet f. absurd (omega arith);
       lines = inl (inr (inl e));
       files = stays;
       shelf_later = omega arith;

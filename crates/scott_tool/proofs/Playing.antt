@@ -18,7 +18,7 @@ use Rattle.scott_types.specs.declared.endings.Ending.{Ending}
 use Rattle.scott_types.specs.declared.endings.Position.{Position}
 use Rattle.scott_types.specs.declared.endings.Position.TheVariants.{Fresh}
 use Rattle.scott_types.specs.declared.states.State.{State}
-use Rattle.scott_tool.specs.Work.{playing}
+use Rattle.scott_tool.specs.Work.{play_task}
 use Rattle.scott_tool.specs.Obeying.{Obeys}
 use Rattle.scott_tool.proofs.Obeying.{where_known, obeys-shown}
 
@@ -30,12 +30,12 @@ pub obeys-played : (shelf : ShelfView) (old new : ConsoleView) (status : ℕ) (s
     → IfSome old.left (λ lines. Plays old new result (go game position state lines draws) after
     before now)
     → HasCause old.faults new.faults result → MatchResult result (λ _. status ≡ 0) (λ _. status ≡ 3)
-    → Obeys shelf shelf old new (Ok (playing style db draws)) status
+    → Obeys shelf shelf old new (Ok (play_task style db draws)) status
 obeys-played shelf old new status style db draws result game position state after before now is
     at_fresh at_start plays cause status_is =
-    obeys-shown old new status shelf (playing style db draws)
+    obeys-shown old new status shelf (play_task style db draws)
     (λ lines. shown (trace_of (play (in_style style db) lines draws).events)) (λ lines. refl)
-    (Ok (playing style db draws)) result refl
+    (Ok (play_task style db draws)) result refl
     (where_known (λ lines. Plays old new result (go game position state lines draws) after before
     now)
     (λ lines. OnOk result (new.history ≡ grown old.history

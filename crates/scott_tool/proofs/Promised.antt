@@ -8,17 +8,15 @@ use Rattle.scott_requests.specs.Request.{Request}
 use Rattle.scott_tool.specs.Steps.{◌>>=◌}
 use Rattle.scott_tool.specs.Refusal.{Refusal, unread, refusing}
 use Rattle.scott_tool.specs.Loading.{Texts, texts_of}
-use Rattle.scott_tool.specs.Work.{Task, reporting, storing, playing, translating, running, work, expected, task_statuses, statuses_of}
+use Rattle.scott_tool.specs.Work.{Show, Task, saying, storing, running, playing, task_statuses}
+use Rattle.scott_tool.specs.Plan.{work, expected, statuses_of}
 use Rattle.scott_tool.specs.Obeying.{Stands, Answers}
-use Rattle.scott_tool.specs.Causes.{OneLoaded, IsAccepted}
-use Rattle.scott_tool.specs.Outcome.{refused, Concludes, whole, unsaid, unstored}
-use Rattle.scott_tool.specs.Run.{stop_after, stop_status}
-use Rattle.inform_tree.specs.declared.widths.Width.{Width}
-use Rattle.inform_tree.specs.Programs.{DirectiveTree}
-use Rattle.scott_tool.specs.Promises.{HasStatus, Completes, IsSeen, NameKeeps, KeepsFiles, HasChecked, HasCompiled, HasDecompiled, HasPlayed, HasTranslated, HasRun, IfKnown, SaysUnread, Counts}
-use Rattle.scott_tool.proofs.Statuses.{IsEnd, first}
+use Rattle.scott_tool.specs.Causes.{OneLoaded, EndsWith0, IsAccepted}
+use Rattle.scott_tool.specs.Outcome.{refused, Concludes, whole, unsaid, unstored, cut_short}
+use Rattle.scott_tool.specs.Promises.{HasStatus, Completes, IsSeen, NameKeeps, KeepsFiles, IsEnd, HasDone, IfKnown, SaysUnread, Counts}
+use Rattle.scott_tool.proofs.Statuses.{first}
 use Rattle.scott_tool.specs.Laws.{Laws}
-use Rattle.scott_tool.proofs.Readings.{EndsWith0, accepted}
+use Rattle.scott_tool.proofs.Readings.{accepted}
 
 -- all clauses of the program
 pub record Promises (shelf shelf' : ShelfView) (console console' : ConsoleView)
@@ -27,12 +25,7 @@ pub record Promises (shelf shelf' : ShelfView) (console console' : ConsoleView)
   pub seen : IsSeen shelf shelf' console console' asked status
   pub files : KeepsFiles shelf shelf' asked status
   pub complete : Completes shelf shelf' console console' asked status
-  pub checked : status ≡ 0 → HasChecked shelf console console' asked
-  pub compiled : status ≡ 0 → HasCompiled shelf shelf' asked
-  pub decompiled : status ≡ 0 → HasDecompiled shelf shelf' asked
-  pub played : status ≡ 0 → HasPlayed shelf console console' asked
-  pub translated : status ≡ 0 → HasTranslated shelf shelf' asked
-  pub ran : IsEnd status → HasRun shelf console console' asked status
+  pub done : IsEnd status → HasDone shelf shelf' console console' asked status
   pub counts : Counts shelf shelf' console console' status
 
 -- what holds of the files that are known
@@ -88,17 +81,18 @@ module _ (shelf shelf' : ShelfView) (console console' : ConsoleView) (status : �
       ⊎ SaysUnread shelf shelf' console console' asked status
 
   -- a run that ends with 0 did so, unless something failed
-  run_0 : (width : Width) (p : List DirectiveTree) (draws : List ℕ) (steps : ℕ)
-      (lines : List (List ℕ)) → stop_status (stop_after width p steps lines draws) ≡ 0
-      → Answers shelf shelf' console console' lines (Ok (running width p draws steps)) status
+  run_0 : (ends : List (List ℕ) → ℕ) (show : Show)
+      (lines : List (List ℕ)) → ends lines ≡ 0
+      → Answers shelf shelf' console console' lines (Ok (running ends show)) status
       → Stand (0 ∷ [])
-  run_0 width p draws steps lines zero (inl (o, does, whole is grew files)) =
+  run_0 ends show lines zero (inl (o, does, whole is grew files)) =
       inl (subst (Contains (0 ∷ [])) (sym (is ∙ ap (λ x. x.status) does ∙ zero)) (first 0))
-  run_0 width p draws steps lines zero (inl (o, does, unsaid three failed part files)) = inr
+  run_0 ends show lines zero (inl (o, does, unsaid three failed part files)) = inr
       (inr (inl (three, failed)))
-  run_0 width p draws steps lines zero (inl (o, does, unstored file is loses said)) = absurd
+  run_0 ends show lines zero (inl (o, does, unstored file is loses said)) = absurd
       (let none = sym (ap (λ x. x.stored) does) ∙ is in cc)
-  run_0 width p draws steps lines zero (inr silent) = inr (inl silent.0)
+  run_0 ends show lines zero (inl (o, does, cut_short nine grew files)) = inr (inl nine)
+  run_0 ends show lines zero (inr silent) = inr (inl silent.0)
 
   unread_stands : (asked : Option Request) → SaysUnread shelf shelf' console console' asked status
       → Stand (0 ∷ [])
@@ -120,14 +114,13 @@ module _ (shelf shelf' : ShelfView) (console console' : ConsoleView) (status : �
       ≡ Ok task → EndsWith0 task console.left
       → Stand (task_statuses task) → IfSome console.left (Seen (Some request) files) → Stand
       (0 ∷ [])
-  stand_0 request files (reporting db) is ends stand seen = stand
-  stand_0 request files (storing name bytes) is ends stand seen = stand
-  stand_0 request files (playing style db draws) is ends stand seen = stand
-  stand_0 request files (translating name style width db) is ends stand seen = stand
-  stand_0 request files (running width p draws steps) is (lines, left, zero) stand seen =
+  stand_0 request files (saying text) is ends stand seen = stand
+  stand_0 request files (storing name text) is ends stand seen = stand
+  stand_0 request files (playing show save) is ends stand seen = stand
+  stand_0 request files (running ends show) is (lines, left, zero) stand seen =
       elim (seen_with (Some request) files lines console.left left seen) [
         | inl h ↦
-            run_0 width p draws steps lines zero
+            run_0 ends show lines zero
             (subst (λ (r : Result Task Refusal). Answers shelf shelf' console console' lines r
             status) is h)
         | inr h ↦ unread_stands (Some request) h
@@ -145,6 +138,6 @@ module _ (shelf shelf' : ShelfView) (console console' : ConsoleView) (status : �
         → IfSome known (λ files. IsAccepted files console.left (Some request) → Stand (0 ∷ []))
     by None h seen = tt
     by (Some files) h seen = λ ok.
-        let task = accepted files laws request console.left ok in
+        let task = accepted laws files request console.left ok in
         stand_0 request files task.0 task.1 task.2 (subst
         (λ (r : Result Task Refusal). Stand (statuses_of r)) task.1 h) seen

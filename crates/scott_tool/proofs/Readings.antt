@@ -1,49 +1,46 @@
--- What the work of a request says of what was loaded for it.
-use Rattle.std.proofs.Common.{◌≡◌, ◌∙◌, ℕ, List, [], Option, Some, None, Result, Ok, Err, refl, sym, ap, inl, inr}
+-- What a plan says of what was loaded for it.
+use Rattle.std.proofs.Common.{◌≡◌, ◌∙◌, ℕ, List, [], Option, Some, None, Result, Ok, Err, refl, sym, ap, subst, inl, inr}
 use Rattle.std.specs.FinMap.{get}
-use Rattle.std.specs.Prelude.{unwrap_or, option_map}
+use Rattle.std.specs.Prelude.{unwrap_or}
 use Rattle.adv_draws.specs.Listed.{listed_draws}
 use Rattle.adv_io.specs.Shelf.{Files}
 use Rattle.scott_format.specs.Faults.{Fault}
-use Rattle.scott_format.specs.File.{DatText, database_in}
+use Rattle.scott_format.specs.File.{database_in}
 use Rattle.adv_compiler.specs.Faults as meaning
 use Rattle.adv_compiler.specs.Meaning.{meant}
-use Rattle.adv_decompiler.specs.Plain.{plain}
-use Rattle.scott_format.specs.Canon.{canon}
 use Rattle.source_reader.specs.Faults as reading
-use Rattle.source_reader.specs.Text.{SourceText, source_in}
+use Rattle.source_reader.specs.Text.{source_in}
 use Rattle.source_reader.specs.declared.tree.Source.{Source}
-use Rattle.inform_tree.specs.declared.widths.Width.{Width}
 use Rattle.inform_tree.specs.Programs.{DirectiveTree}
 use Rattle.inform_reader.specs.Reading as reader
-use Rattle.inform_reader.specs.Reading.{IsProgram, IsFaulty, program_in}
+use Rattle.inform_reader.specs.Reading.{IsProgram, program_in}
 use Rattle.scott_requests.specs.Settings.{DrawSource, listed, seeded}
 use Rattle.scott_requests.specs.Request.{Request, check, compile, decompile, play, translate, run}
-use Rattle.scott_types.specs.declared.styles.Style.{Style}
 use Rattle.scott_types.specs.Database.{Database}
 use Rattle.scott_tool.specs.Laws.{Laws}
 use Rattle.scott_tool.specs.Steps.{◌>>=◌}
-use Rattle.scott_tool.specs.Refusal.{Refusal, Unfit, refusing, content_status}
-use Rattle.scott_tool.specs.Loading.{Load, main_of, draws_of, draws_load, database_load, source_load, program_load, loaded, Texts}
+use Rattle.scott_tool.specs.Refusal.{Refusal, Unfit, refusing, flaw_status}
+use Rattle.scott_tool.specs.Loading.{Load, main_of, draws_of, stores, late_statuses, draws_load, database_load, source_load, program_load, loaded, Texts}
 use Rattle.scott_tool.specs.Check.{database_or_unfit, database_of_file}
 use Rattle.scott_tool.specs.Compile.{source_or_unfit, meaning_or_unfit, compiled_from, IsNoSource}
-use Rattle.scott_tool.specs.Play.{draws_or_unfit, draws_from, DrawsAre}
+use Rattle.scott_tool.specs.Play.{draws_or_unfit, draws_from, DrawsAre, AreNoDraws}
 use Rattle.trans_rows.specs.Wide.{Placed, wide_at}
 use Rattle.scott_tool.specs.Translate.{translatable_or_unfit, translatable}
-use Rattle.scott_tool.specs.Run.{program_or_unfit, program_of_file, stop_after, stop_status}
-use Rattle.scott_tool.specs.Work.{Task, reporting, storing, playing, translating, running, work, expected}
-use Rattle.scott_tool.specs.Causes.{game_of, IsAccepted}
+use Rattle.scott_tool.specs.Run.{program_or_unfit, program_of_file}
+use Rattle.scott_tool.specs.Work.{Task, stored_by, late_of}
+use Rattle.scott_tool.specs.Plan.{Plan, of_game, of_source, of_program, with_draws, narrow, doing, plan, followed, work, Reaches, IsRefused, expected}
+use Rattle.scott_tool.specs.Causes.{IsLoadable, EndsWith0, IsAccepted}
 use Rattle.scott_tool.proofs.Files.{bind-ok, bind-err, there-loaded, loaded-there}
 
 -- ---- why a content is refused
 
 abbrev status_in : {X : Type 0} → Result X Unfit → ℕ
 status_in (Ok x) = 0
-status_in (Err u) = content_status u.fault
+status_in (Err u) = flaw_status u.flaw
 
 database_unfit : (name : List ℕ) (read : Result Database Fault) (u : Unfit)
     → database_or_unfit name read ≡ Err u
-    → (fault : Fault) × (read ≡ Err fault) × (content_status u.fault ≡ 4)
+    → (fault : Fault) × (read ≡ Err fault) × (flaw_status u.flaw ≡ 4)
 database_unfit name (Ok db) u e = absurd cc
 database_unfit name (Err fault) u e = (fault, refl, sym (ap status_in e))
 
@@ -54,13 +51,13 @@ database_fit name (Err fault) db e = absurd cc
 
 source_unfit : (name : List ℕ) (read : Result Source reading.Fault) (u : Unfit)
     → source_or_unfit name read ≡ Err u
-    → (fault : reading.Fault) × (read ≡ Err fault) × (content_status u.fault ≡ 5)
+    → (fault : reading.Fault) × (read ≡ Err fault) × (flaw_status u.flaw ≡ 5)
 source_unfit name (Ok tree) u e = absurd cc
 source_unfit name (Err fault) u e = (fault, refl, sym (ap status_in e))
 
 meaning_unfit : (name : List ℕ) (read : Result Database meaning.Fault) (u : Unfit)
     → meaning_or_unfit name read ≡ Err u
-    → (fault : meaning.Fault) × (read ≡ Err fault) × (content_status u.fault ≡ 5)
+    → (fault : meaning.Fault) × (read ≡ Err fault) × (flaw_status u.flaw ≡ 5)
 meaning_unfit name (Ok db) u e = absurd cc
 meaning_unfit name (Err fault) u e = (fault, refl, sym (ap status_in e))
 
@@ -79,7 +76,7 @@ means name tree = meaning_or_unfit name (meant tree)
 
 -- a text that can't be compiled is no source, or one that means no database
 compiled_unfit : Laws → (name bytes : List ℕ) (u : Unfit) → compiled_from name bytes ≡ Err u
-    → IsNoSource bytes × (content_status u.fault ≡ 5)
+    → IsNoSource bytes × (flaw_status u.flaw ≡ 5)
 compiled_unfit laws name bytes u e =
     elim (bind-err (source_or_unfit name (source_in bytes)) (means name) u e) [
       | inl s ↦ (let f = source_unfit name (source_in bytes) u s in
@@ -98,245 +95,86 @@ compiled_unfit laws name bytes u e =
 
 program_unfit : (name : List ℕ) (read : Result (List DirectiveTree) reader.Fault) (u : Unfit)
     → program_or_unfit name read ≡ Err u
-    → (fault : reader.Fault) × (read ≡ Err fault) × (content_status u.fault ≡ 6)
+    → (fault : reader.Fault) × (read ≡ Err fault) × (flaw_status u.flaw ≡ 6)
 program_unfit name (Ok p) u e = absurd cc
 program_unfit name (Err fault) u e = (fault, refl, sym (ap status_in e))
-
-draws_unfit : (source : DrawSource) (bytes : List ℕ) (u : Unfit) → draws_from source bytes ≡ Err u
-    → (load : Load) × (at : ℕ) × (draws_load source ≡ Some load) × (listed_draws bytes ≡ Err at) ×
-    (content_status u.fault ≡ 5)
-draws_unfit (seeded seed) bytes u e = absurd cc
-draws_unfit (listed name) bytes u e = by (listed_draws bytes) refl e
-  where
-    by : (read : Result (List ℕ) ℕ) → listed_draws bytes ≡ read → draws_or_unfit name read ≡ Err u
-        → (load : Load) × (at : ℕ) × (draws_load (listed name) ≡ Some load) ×
-        (listed_draws bytes ≡ Err at) × (content_status u.fault ≡ 5)
-    by (Ok draws) f g = absurd cc
-    by (Err at) f g = (_, at, refl, f, sym (ap status_in g))
 
 -- why a database isn't translated
 translatable_unfit : (name : List ℕ) (db : Database) (wide : Option Placed) (u : Unfit)
     → translatable_or_unfit name db wide ≡ Err u
-    → (placed : Placed) × (wide ≡ Some placed) × (content_status u.fault ≡ 7)
+    → (placed : Placed) × (wide ≡ Some placed) × (flaw_status u.flaw ≡ 7)
 translatable_unfit name db (Some placed) u e = (placed, refl, sym (ap status_in e))
 translatable_unfit name db None u e = absurd cc
-
--- the file that a request reads as a database is its main file
-pub game_load : (request : Request) (game : List ℕ) → game_of request ≡ Some game → main_of request
-    ≡ Some (database_load game)
-game_load (check name) game is = ap (option_map database_load) is
-game_load (compile source name) game is = absurd cc
-game_load (decompile name source) game is = ap (option_map database_load) is
-game_load (play name source style) game is = ap (option_map database_load) is
-game_load (translate name program style width) game is = ap (option_map database_load) is
-game_load (run name source steps width) game is = absurd cc
-
--- the content that is refused is that of the database, of the source, of the program, or of the
--- draws; or the database has a number that is too wide
-pub data Fails (request : Request) (texts : Texts) (u : Unfit) : Type 0 where
-  bad_database : (game : List ℕ) (fault : Fault) → game_of request ≡ Some game
-      → database_in texts.main ≡ Err fault
-      → content_status u.fault ≡ 4 → Fails request texts u
-  bad_source : (source game : List ℕ) → request ≡ compile source game → IsNoSource texts.main
-      → content_status u.fault ≡ 5 → Fails request texts u
-  bad_program : (name : List ℕ) (source : DrawSource) (steps : ℕ) (width : Width)
-      (fault : reader.Fault) → request ≡ run name source steps width
-      → IsFaulty width texts.main fault → content_status u.fault ≡ 6 → Fails request texts u
-  bad_width : (game program : List ℕ) (style : Style) (width : Width) (db : Database)
-      (placed : Placed) → request ≡ translate game program style width
-      → DatText texts.main db → wide_at width db ≡ Some placed → content_status u.fault ≡ 7
-      → Fails request texts u
-  bad_draws : (load : Load) (at : ℕ) → draws_of request ≡ Some load → listed_draws texts.draws
-      ≡ Err at
-      → content_status u.fault ≡ 5 → Fails request texts u
-
-abbrev report_of : Database → Result Task Unfit
-report_of db = Ok (reporting db)
-
-abbrev store_of : List ℕ → (Database → List ℕ) → Database → Result Task Unfit
-store_of name text db = Ok (storing name (text db))
-
-abbrev play_of : Style → Database → List ℕ → Result Task Unfit
-play_of style db draws = Ok (playing style db draws)
-
-abbrev with_draws : DrawSource → List ℕ → Style → Database → Result Task Unfit
-with_draws source bytes style db = draws_from source bytes >>= play_of style db
-
-abbrev translation_of : List ℕ → Style → Width → Database → Result Task Unfit
-translation_of program style width db = Ok (translating program style width db)
-
-abbrev translate_with : List ℕ → List ℕ → Style → Width → Database → Result Task Unfit
-translate_with game program style width db = translatable game width db >>= translation_of program
-    style width
-
-abbrev run_of : Width → ℕ → List DirectiveTree → List ℕ → Result Task Unfit
-run_of width steps p draws = Ok (running width p draws steps)
-
-abbrev run_with : DrawSource → List ℕ → Width → ℕ → List DirectiveTree → Result Task Unfit
-run_with source bytes width steps p = draws_from source bytes >>= run_of width steps p
-
-pub fails : Laws → (request : Request) (texts : Texts) (u : Unfit) → work request texts ≡ Err u
-    → Fails request texts u
-fails laws (check game) texts u e =
-    elim (bind-err (database_of_file game texts.main) report_of u e) [
-      | inl d ↦ (let f = database_unfit game (database_in texts.main) u d in bad_database game f.0
-          refl f.1 f.2)
-      | inr d ↦ absurd (let g = d.2 in cc)
-    ]
-fails laws (compile source game) texts u e =
-    elim (bind-err (compiled_from source texts.main) (store_of game canon) u e) [
-      | inl d ↦ (let f = compiled_unfit laws source texts.main u d in bad_source source game refl
-          f.0 f.1)
-      | inr d ↦ absurd (let g = d.2 in cc)
-    ]
-fails laws (decompile game source) texts u e =
-    elim (bind-err (database_of_file game texts.main) (store_of source plain) u e) [
-      | inl d ↦ (let f = database_unfit game (database_in texts.main) u d in bad_database game f.0
-          refl f.1 f.2)
-      | inr d ↦ absurd (let g = d.2 in cc)
-    ]
-fails laws (play game source style) texts u e =
-    elim (bind-err (database_of_file game texts.main) (with_draws source texts.draws style) u e) [
-      | inl d ↦ (let f = database_unfit game (database_in texts.main) u d in bad_database game f.0
-          refl f.1 f.2)
-      | inr d ↦
-          elim (bind-err (draws_from source texts.draws) (play_of style d.0) u d.2) [
-            | inl r ↦ (let f = draws_unfit source texts.draws u r in bad_draws f.0 f.1 f.2 f.3 f.4)
-            | inr r ↦ absurd (let g = r.2 in cc)
-          ]
-    ]
-fails laws (translate game program style width) texts u e =
-    elim (bind-err (database_of_file game texts.main) (translate_with game program style width) u e) [
-      | inl d ↦ (let f = database_unfit game (database_in texts.main) u d in bad_database game f.0
-          refl f.1 f.2)
-      | inr d ↦
-          elim (bind-err (translatable game width d.0) (translation_of program style width) u d.2) [
-            | inl r ↦
-                (let text : DatText texts.main d.0 = (laws.database texts.main d.0).0
-                (database_fit game (database_in texts.main) d.0 d.1) in
-                let f = translatable_unfit game d.0 (wide_at width d.0) u r in
-                bad_width game program style width d.0 f.0 refl text f.1 f.2)
-            | inr r ↦ absurd (let g = r.2 in cc)
-          ]
-    ]
-fails laws (run name source steps width) texts u e =
-    elim (bind-err (program_of_file width name texts.main)
-    (run_with source texts.draws width steps) u e) [
-      | inl d ↦
-          (let f = program_unfit name (program_in width texts.main) u d in
-          bad_program name source steps width f.0 refl ((laws.program_fault width texts.main f.0).0
-          f.1) f.2)
-      | inr d ↦
-          elim (bind-err (draws_from source texts.draws) (run_of width steps d.0) u d.2) [
-            | inl r ↦ (let f = draws_unfit source texts.draws u r in bad_draws f.0 f.1 f.2 f.3 f.4)
-            | inr r ↦ absurd (let g = r.2 in cc)
-          ]
-    ]
-
--- a task that is a run comes of a request to run the program
-pub run_request : (request : Request) (texts : Texts) (width : Width) (p : List DirectiveTree)
-    (draws : List ℕ) (steps : ℕ)
-    → work request texts ≡ Ok (running width p draws steps) → (name : List ℕ) ×
-    (source : DrawSource) × (request ≡ run name source steps width)
-run_request (check game) texts width p draws steps e =
-    absurd (let d = bind-ok (database_of_file game texts.main) report_of
-    (running width p draws steps) e in let f = d.2 in cc)
-run_request (compile source game) texts width p draws steps e =
-    absurd (let d = bind-ok (compiled_from source texts.main) (store_of game canon)
-    (running width p draws steps) e in let f = d.2 in cc)
-run_request (decompile game source) texts width p draws steps e =
-    absurd (let d = bind-ok (database_of_file game texts.main) (store_of source plain)
-    (running width p draws steps) e in let f = d.2 in cc)
-run_request (play game source style) texts width p draws steps e =
-    absurd (
-    let d = bind-ok (database_of_file game texts.main) (with_draws source texts.draws style)
-    (running width p draws steps) e in
-    let r = bind-ok (draws_from source texts.draws) (play_of style d.0)
-    (running width p draws steps) d.2 in
-    let f = r.2 in
-    cc)
-run_request (translate game program style wide) texts width p draws steps e =
-    absurd (
-    let d = bind-ok (database_of_file game texts.main) (translate_with game program style wide)
-    (running width p draws steps) e in
-    let r = bind-ok (translatable game wide d.0) (translation_of program style wide)
-    (running width p draws steps) d.2 in
-    let f = r.2 in
-    cc)
-run_request (run name source most wide) texts width p draws steps e =
-    let d = bind-ok (program_of_file wide name texts.main) (run_with source texts.draws wide most)
-    (running width p draws steps) e in
-    let r = bind-ok (draws_from source texts.draws) (run_of wide most d.0)
-    (running width p draws steps) d.2 in
-    let same : running wide d.0 r.0 most ≡ running width p draws steps = (let f = r.2 in cc) in
-    let width_is : wide ≡ width = cc in
-    let steps_are : most ≡ steps = cc in
-    (name, source, ap (λ x. run name source x wide) steps_are ∙ ap (run name source steps) width_is)
-
--- ---- what is accepted
 
 program_fit : (name : List ℕ) (read : Result (List DirectiveTree) reader.Fault)
     (p : List DirectiveTree) → program_or_unfit name read ≡ Ok p → read ≡ Ok p
 program_fit name (Ok other) p e = let same : other ≡ p = cc in ap Ok same
 program_fit name (Err fault) p e = absurd cc
 
--- what can be translated is the database itself
-fit_same : (name : List ℕ) (db fit : Database) (wide : Option Placed)
-    → translatable_or_unfit name db wide ≡ Ok fit → fit ≡ db
-fit_same name db fit (Some placed) e = absurd cc
-fit_same name db fit None e = let same : db ≡ fit = cc in sym same
+-- what can be translated has no number that is too wide
+translatable_fit : (name : List ℕ) (db fit : Database) (wide : Option Placed)
+    → translatable_or_unfit name db wide ≡ Ok fit → wide ≡ None
+translatable_fit name db fit None e = refl
+translatable_fit name db fit (Some placed) e = absurd cc
 
-pub translatable_same : (name : List ℕ) (width : Width) (db fit : Database)
-    → translatable name width db ≡ Ok fit → fit ≡ db
-translatable_same name width db fit e = fit_same name db fit (wide_at width db) e
+-- ---- plans and what is loaded for them
 
--- a task that is a run ends with 0, with the lines that are left
-abbrev pub EndsWith0 : Task → Option (List (List ℕ)) → Type 0
-EndsWith0 (reporting db) left = Unit {0}
-EndsWith0 (storing name bytes) left = Unit {0}
-EndsWith0 (playing style db draws) left = Unit {0}
-EndsWith0 (translating name style width db) left = Unit {0}
-EndsWith0 (running width p draws steps) left =
-    (lines : List (List ℕ)) × (left ≡ Some lines) × (stop_status
-    (stop_after width p steps lines draws) ≡ 0)
+-- a plan reads the files that are loaded, and its task stores under this name and has these other
+-- statuses
+abbrev pub IsMade : (main draws : Option Load) → Option (List ℕ) → (late : List ℕ) → Plan
+    → Type 0
+IsMade main draws name late (of_game file next) =
+    (main ≡ Some (database_load file)) × ((db : Database) → IsMade main draws name late (next db))
+IsMade main draws name late (of_source file next) =
+    (main ≡ Some (source_load file)) × ((db : Database) → IsMade main draws name late (next db))
+IsMade main draws name late (of_program width file next) =
+    (main ≡ Some (program_load file))
+    × ((p : List DirectiveTree) → IsMade main draws name late (next p))
+IsMade main draws name late (with_draws source next) =
+    (draws ≡ draws_load source) × ((ds : List ℕ) → IsMade main draws name late (next ds))
+IsMade main draws name late (narrow width file db next) = IsMade main draws name late next
+IsMade main draws name late (doing task) = (stored_by task ≡ name) × (late_of task ≡ late)
+
+-- so are the plans of all requests
+pub made : (request : Request)
+    → IsMade (main_of request) (draws_of request) (stores request) (late_statuses request)
+    (plan request)
+made (check game) = (refl, λ db. (refl, refl))
+made (compile source game) = (refl, λ db. (refl, refl))
+made (decompile game source) = (refl, λ db. (refl, refl))
+made (play p) = (refl, λ db. (refl, λ ds. (refl, refl)))
+made (translate t) = (refl, λ db. (refl, refl))
+made (run r) = (refl, λ p. (refl, λ ds. (refl, refl)))
+
+-- the task of a plan that was followed stores under its name, and has its other statuses
+pub task_made : (main draws : Option Load) (name : Option (List ℕ)) (late : List ℕ)
+    (texts : Texts) (p : Plan)
+    → IsMade main draws name late p → (task : Task) → followed p texts ≡ Ok task
+    → (stored_by task ≡ name) × (late_of task ≡ late)
+task_made main draws name late texts (of_game file next) (m, more) task w =
+    let d = bind-ok (database_of_file file texts.main) (λ db. followed (next db) texts) task w in
+    task_made main draws name late texts (next d.0) (more d.0) task d.2
+task_made main draws name late texts (of_source file next) (m, more) task w =
+    let d = bind-ok (compiled_from file texts.main) (λ db. followed (next db) texts) task w in
+    task_made main draws name late texts (next d.0) (more d.0) task d.2
+task_made main draws name late texts (of_program width file next) (m, more) task w =
+    let d = bind-ok (program_of_file width file texts.main) (λ p. followed (next p) texts) task w in
+    task_made main draws name late texts (next d.0) (more d.0) task d.2
+task_made main draws name late texts (with_draws source next) (m, more) task w =
+    let d = bind-ok (draws_from source texts.draws) (λ ds. followed (next ds) texts) task w in
+    task_made main draws name late texts (next d.0) (more d.0) task d.2
+task_made main draws name late texts (narrow width file db next) m task w =
+    let d = bind-ok (translatable file width db) (λ _. followed next texts) task w in
+    task_made main draws name late texts next m task d.2
+task_made main draws name late texts (doing other) m task w =
+    let same : other ≡ task = cc in
+    subst (λ (t : Task). (stored_by t ≡ name) × (late_of t ≡ late)) same m
+
+same_file : (files : Files) (name : List ℕ) {a b : List ℕ} → get files name ≡ Some a
+    → get files name ≡ Some b → a ≡ b
+same_file files name {a} {b} there other = ap (λ o. unwrap_or o a) (sym there ∙ other)
 
 module _ (files : Files) where
-  -- the database of a request
-  pub main_is : (laws : Laws) (game : List ℕ) (bytes : List ℕ) (db : Database) → loaded files
-      (Some (database_load game)) ≡ Ok bytes
-      → database_of_file game bytes ≡ Ok db → (get files game ≡ Some bytes) × DatText bytes db
-  main_is laws game bytes db l e = (
-    there-loaded files (database_load game) bytes l,
-    (laws.database bytes db).0 (database_fit game (database_in bytes) db e),
-  )
-
-  -- the database that the source of a request means
-  pub meant_is : (laws : Laws) (source : List ℕ) (bytes : List ℕ) (db : Database) → loaded files
-      (Some (source_load source)) ≡ Ok bytes
-      → compiled_from source bytes ≡ Ok db → (get files source ≡ Some bytes) ×
-      ((tree : Source) × SourceText bytes tree × (meant tree ≡ Ok db))
-  meant_is laws source bytes db l e =
-      let s = bind-ok (source_or_unfit source (source_in bytes)) (means source) db e in (
-        there-loaded files (source_load source) bytes l,
-        (
-          s.0,
-          (laws.source bytes s.0).0 (source_fit source (source_in bytes) s.0 s.1),
-          meaning_fit
-              source (meant s.0) db s.2,
-        ),
-      )
-
-  -- the program of a request
-  pub program_is : (laws : Laws) (width : Width) (name bytes : List ℕ) (p : List DirectiveTree)
-      → loaded files (Some (program_load name)) ≡ Ok bytes
-      → program_of_file width name bytes ≡ Ok p → (get files name ≡ Some bytes)
-      × IsProgram width bytes p
-  program_is laws width name bytes p l e = (
-    there-loaded files (program_load name) bytes l,
-    (laws.program width bytes p).0
-        (program_fit name (program_in width bytes) p e),
-  )
-
   -- the draws of a request
   pub draws_are : (source : DrawSource) (bytes draws : List ℕ) → loaded files (draws_load source)
       ≡ Ok bytes → draws_from source bytes ≡ Ok draws
@@ -354,106 +192,234 @@ module _ (files : Files) where
       by (Ok other) f g = let same : other ≡ draws = cc in f ∙ ap Ok same
       by (Err at) f g = absurd cc
 
-  -- ---- a request that is accepted has a task
+module _ (laws : Laws) (files : Files) (texts : Texts) (main draws : Option Load)
+    (name : Option (List ℕ)) (late : List ℕ) (main_is : loaded files main ≡ Ok texts.main)
+    (draws_is : loaded files draws ≡ Ok texts.draws) where
+  abbrev Made : Plan → Type 0
+  Made p = IsMade main draws name late p
 
-  abbrev Comes : Request → Option (List (List ℕ)) → Type 0
-  Comes request left = (task : Task) × (expected files (Some request) ≡ Ok task)
-      × EndsWith0 task left
+  main_there : (load : Load) → main ≡ Some load → get files load.name ≡ Some texts.main
+  main_there load is =
+      there-loaded files load texts.main (ap (λ l. loaded files l) (sym is) ∙ main_is)
 
-  abbrev rest : Request → List ℕ → Result Texts Refusal
-  rest request main = loaded files (draws_of request) >>= λ draws. Ok
-      (record { main = main; draws = draws })
+  draws_there : (load : Load) → draws ≡ Some load → get files load.name ≡ Some texts.draws
+  draws_there load is =
+      there-loaded files load texts.draws (ap (λ l. loaded files l) (sym is) ∙ draws_is)
 
-  abbrev come : Request → Result Texts Refusal → Result Task Refusal
-  come request r = r >>= λ t. refusing (work request t)
+  -- ---- the task of a plan that was followed
 
-  comes : (request : Request) (left : Option (List (List ℕ))) (texts : Texts) (task : Task)
-      → loaded files (main_of request) ≡ Ok texts.main → loaded files (draws_of request)
-      ≡ Ok texts.draws
-      → work request texts ≡ Ok task → EndsWith0 task left → Comes request left
-  comes request left texts task m d w ends = (task, loads_main ∙ loads_draws ∙ ap refusing w, ends)
+  pub reached : (P : Task → Type 0) (p : Plan) → Made p → (task : Task)
+      → followed p texts ≡ Ok task → P task → Reaches files p P
+  reached P (of_game file next) (m, more) task w h =
+      let d = bind-ok (database_of_file file texts.main) (λ db. followed (next db) texts) task w
+      in (
+        texts.main,
+        d.0,
+        main_there (database_load file) m,
+        (laws.database texts.main d.0).0 (database_fit file (database_in texts.main) d.0 d.1),
+        reached P (next d.0) (more d.0) task d.2 h,
+      )
+  reached P (of_source file next) (m, more) task w h =
+      let d = bind-ok (compiled_from file texts.main) (λ db. followed (next db) texts) task w in
+      let s = bind-ok (source_or_unfit file (source_in texts.main)) (means file) d.0 d.1 in (
+        texts.main,
+        s.0,
+        d.0,
+        main_there (source_load file) m,
+        (laws.source texts.main s.0).0 (source_fit file (source_in texts.main) s.0 s.1),
+        meaning_fit file (meant s.0) d.0 s.2,
+        reached P (next d.0) (more d.0) task d.2 h,
+      )
+  reached P (of_program width file next) (m, more) task w h =
+      let d = bind-ok (program_of_file width file texts.main) (λ p. followed (next p) texts) task w
+      in (
+        texts.main,
+        d.0,
+        main_there (program_load file) m,
+        (laws.program width texts.main d.0).0
+            (program_fit file (program_in width texts.main) d.0 d.1),
+        reached P (next d.0) (more d.0) task d.2 h,
+      )
+  reached P (with_draws source next) (m, more) task w h =
+      let d = bind-ok (draws_from source texts.draws) (λ ds. followed (next ds) texts) task w in (
+        d.0,
+        draws_are files source texts.draws d.0 (ap (λ l. loaded files l) (sym m) ∙ draws_is) d.1,
+        reached P (next d.0) (more d.0) task d.2 h,
+      )
+  reached P (narrow width file db next) m task w h =
+      let d = bind-ok (translatable file width db) (λ _. followed next texts) task w in (
+        translatable_fit file db d.0 (wide_at width db) d.1,
+        reached P next m task d.2 h,
+      )
+  reached P (doing other) m task w h = let same : task ≡ other = cc in subst P same h
+
+  -- ---- the first content that is refused
+
+  no_draws : (source : DrawSource) → draws ≡ draws_load source → (u : Unfit)
+      → draws_from source texts.draws ≡ Err u
+      → (flaw_status u.flaw ≡ 5) × AreNoDraws files source
+  no_draws (seeded seed) m u e = absurd cc
+  no_draws (listed file) m u e = by (listed_draws texts.draws) refl e
     where
-      loads_main : expected files (Some request) ≡ come request (rest request texts.main)
-      loads_main = ap (λ r. come request (r >>= rest request)) m
+      by : (read : Result (List ℕ) ℕ) → listed_draws texts.draws ≡ read
+          → draws_or_unfit file read ≡ Err u
+          → (flaw_status u.flaw ≡ 5) × AreNoDraws files (listed file)
+      by (Ok ds) f g = absurd cc
+      by (Err at) f g = (sym (ap status_in g), (texts.draws, at, draws_there _ m, f))
 
-      loads_draws : come request (rest request texts.main) ≡ refusing (work request texts)
-      loads_draws = ap (λ r. come request (r >>= λ draws. Ok
-          (record { main = texts.main; draws = draws }))) d
+  pub refused_first : (p : Plan) → Made p → (u : Unfit) → followed p texts ≡ Err u
+      → IsRefused files p (flaw_status u.flaw)
+  refused_first (of_game file next) (m, more) u w = (
+    texts.main,
+    main_there (database_load file) m,
+    elim (bind-err (database_of_file file texts.main) (λ db. followed (next db) texts) u w) [
+      | inl d ↦ (let f = database_unfit file (database_in texts.main) u d in
+          inl (f.2, (f.0, (laws.database_fault texts.main f.0).0 f.1)))
+      | inr d ↦ inr (
+        d.0,
+        (laws.database texts.main d.0).0 (database_fit file (database_in texts.main) d.0 d.1),
+        refused_first (next d.0) (more d.0) u d.2,
+      )
+    ],
+  )
+  refused_first (of_source file next) (m, more) u w = (
+    texts.main,
+    main_there (source_load file) m,
+    elim (bind-err (compiled_from file texts.main) (λ db. followed (next db) texts) u w) [
+      | inl d ↦ (let f = compiled_unfit laws file texts.main u d in inl (f.1, f.0))
+      | inr d ↦ (let s = bind-ok (source_or_unfit file (source_in texts.main)) (means file) d.0 d.1
+          in inr (
+            s.0,
+            d.0,
+            (laws.source texts.main s.0).0 (source_fit file (source_in texts.main) s.0 s.1),
+            meaning_fit file (meant s.0) d.0 s.2,
+            refused_first (next d.0) (more d.0) u d.2,
+          ))
+    ],
+  )
+  refused_first (of_program width file next) (m, more) u w = (
+    texts.main,
+    main_there (program_load file) m,
+    elim (bind-err (program_of_file width file texts.main) (λ p. followed (next p) texts) u w) [
+      | inl d ↦ (let f = program_unfit file (program_in width texts.main) u d in
+          inl (f.2, (f.0, (laws.program_fault width texts.main f.0).0 f.1)))
+      | inr d ↦ inr (
+        d.0,
+        (laws.program width texts.main d.0).0
+            (program_fit file (program_in width texts.main) d.0 d.1),
+        refused_first (next d.0) (more d.0) u d.2,
+      )
+    ],
+  )
+  refused_first (with_draws source next) (m, more) u w =
+      elim (bind-err (draws_from source texts.draws) (λ ds. followed (next ds) texts) u w) [
+        | inl d ↦ inl (no_draws source m u d)
+        | inr d ↦ inr (
+          d.0,
+          draws_are files source texts.draws d.0 (ap (λ l. loaded files l) (sym m) ∙ draws_is)
+              d.1,
+          refused_first (next d.0) (more d.0) u d.2,
+        )
+      ]
+  refused_first (narrow width file db next) m u w =
+      elim (bind-err (translatable file width db) (λ _. followed next texts) u w) [
+        | inl d ↦ (let f = translatable_unfit file db (wide_at width db) u d in
+            inl (f.2, (f.0, f.1)))
+        | inr d ↦ inr (
+          translatable_fit file db d.0 (wide_at width db) d.1,
+          refused_first next m u d.2,
+        )
+      ]
+  refused_first (doing task) m u w = absurd cc
 
-  game_reads : (laws : Laws) (name bytes : List ℕ) (db : Database) → DatText bytes db
-      → database_of_file name bytes ≡ Ok db
-  game_reads laws name bytes db text = ap (database_or_unfit name) ((laws.database bytes db).1 text)
+  -- ---- a plan whose contents are what they should be
 
-  source_compiles : (laws : Laws) (name bytes : List ℕ) (tree : Source) (db : Database)
-      → SourceText bytes tree → meant tree ≡ Ok db → compiled_from name bytes ≡ Ok db
-  source_compiles laws name bytes tree db text e =
-      ap (λ r. source_or_unfit name r >>= means name) ((laws.source bytes tree).1 text) ∙ ap
-      (meaning_or_unfit name) e
+  draws_read : (source : DrawSource) → draws ≡ draws_load source → (ds : List ℕ)
+      → DrawsAre files source ds → draws_from source texts.draws ≡ Ok ds
+  draws_read (seeded seed) m ds is = ap Ok (sym is)
+  draws_read (listed file) m ds (bytes, there, lists) =
+      ap (draws_or_unfit file)
+      (ap listed_draws (same_file files file (draws_there _ m) there) ∙ lists)
 
-  program_reads : (laws : Laws) (width : Width) (name bytes : List ℕ) (p : List DirectiveTree)
-      → IsProgram width bytes p → program_of_file width name bytes ≡ Ok p
-  program_reads laws width name bytes p is = ap (program_or_unfit name)
-      ((laws.program width bytes p).1 is)
+  pub comes : (P : Task → Type 0) (p : Plan) → Made p → Reaches files p P
+      → (task : Task) × (followed p texts ≡ Ok task) × P task
+  comes P (of_game file next) (m, more) (bytes, db, there, text, h) =
+      let same = same_file files file (main_there (database_load file) m) there in
+      let reads : database_of_file file texts.main ≡ Ok db = ap (database_of_file file) same
+      ∙ ap (database_or_unfit file) ((laws.database bytes db).1 text) in
+      let rest = comes P (next db) (more db) h in
+      (rest.0, ap (λ r. r >>= λ d. followed (next d) texts) reads ∙ rest.1, rest.2)
+  comes P (of_source file next) (m, more) (bytes, tree, db, there, text, is, h) =
+      let same = same_file files file (main_there (source_load file) m) there in
+      let reads : compiled_from file texts.main ≡ Ok db = ap (compiled_from file) same
+      ∙ ap (λ r. source_or_unfit file r >>= means file) ((laws.source bytes tree).1 text) ∙ ap
+      (meaning_or_unfit file) is in
+      let rest = comes P (next db) (more db) h in
+      (rest.0, ap (λ r. r >>= λ d. followed (next d) texts) reads ∙ rest.1, rest.2)
+  comes P (of_program width file next) (m, more) (bytes, p, there, text, h) =
+      let same = same_file files file (main_there (program_load file) m) there in
+      let reads : program_of_file width file texts.main ≡ Ok p = ap (program_of_file width file)
+      same ∙ ap (program_or_unfit file) ((laws.program width bytes p).1 text) in
+      let rest = comes P (next p) (more p) h in
+      (rest.0, ap (λ r. r >>= λ q. followed (next q) texts) reads ∙ rest.1, rest.2)
+  comes P (with_draws source next) (m, more) (ds, are, h) =
+      let rest = comes P (next ds) (more ds) h in (
+        rest.0,
+        ap (λ r. r >>= λ d. followed (next d) texts) (draws_read source m ds are) ∙ rest.1,
+        rest.2,
+      )
+  comes P (narrow width file db next) m (no_wide, h) =
+      let rest = comes P next m h in (
+        rest.0,
+        ap (λ r. translatable_or_unfit file db r >>= λ _. followed next texts) no_wide ∙ rest.1,
+        rest.2,
+      )
+  comes P (doing task) m h = (task, refl, h)
 
-  can_translate : (name : List ℕ) (width : Width) (db : Database) → wide_at width db ≡ None
-      → translatable name width db ≡ Ok db
-  can_translate name width db no_wide = ap (translatable_or_unfit name db) no_wide
+-- what is reached has whatever follows
+pub reaches_more : (files : Files) (P Q : Task → Type 0) → ((task : Task) → P task → Q task)
+    → (p : Plan) → Reaches files p P → Reaches files p Q
+reaches_more files P Q f (of_game file next) (bytes, db, there, text, h) =
+    (bytes, db, there, text, reaches_more files P Q f (next db) h)
+reaches_more files P Q f (of_source file next) (bytes, tree, db, there, text, is, h) =
+    (bytes, tree, db, there, text, is, reaches_more files P Q f (next db) h)
+reaches_more files P Q f (of_program width file next) (bytes, p, there, text, h) =
+    (bytes, p, there, text, reaches_more files P Q f (next p) h)
+reaches_more files P Q f (with_draws source next) (ds, are, h) =
+    (ds, are, reaches_more files P Q f (next ds) h)
+reaches_more files P Q f (narrow width file db next) (no_wide, h) =
+    (no_wide, reaches_more files P Q f next h)
+reaches_more files P Q f (doing task) h = f task h
 
-  same_file : (name : List ℕ) {a b : List ℕ} → get files name ≡ Some a → get files name ≡ Some b → a
-      ≡ b
-  same_file name {a} {b} there other = ap (λ o. unwrap_or o a) (sym there ∙ other)
+-- ---- a request that is accepted has a task
 
-  pub accepted : (laws : Laws) (request : Request) (left : Option (List (List ℕ)))
-      → IsAccepted files left (Some request) → Comes request left
-  accepted laws (check game) left h =
-      comes (check game) left (record { main = h.0; draws = [] }) (reporting h.1)
-      (loaded-there files (database_load game) h.0 h.2) refl
-      (ap (λ r. r >>= report_of) (game_reads laws game h.0 h.1 h.3)) tt
-  accepted laws (compile source game) left h =
-      comes (compile source game) left (record { main = h.0; draws = [] })
-      (storing game (canon h.2))
-      (loaded-there files (source_load source) h.0 h.3) refl
-      (ap (λ r. r >>= store_of game canon) (source_compiles laws source h.0 h.1 h.2 h.4 h.5)) tt
-  accepted laws (decompile game source) left h =
-      comes (decompile game source) left (record { main = h.0; draws = [] })
-      (storing source (plain h.1))
-      (loaded-there files (database_load game) h.0 h.2) refl
-      (ap (λ r. r >>= store_of source plain) (game_reads laws game h.0 h.1 h.3)) tt
-  accepted laws (play game (seeded seed) style) left h =
-      let g = h.0 in
-      comes (play game (seeded seed) style) left (record { main = g.0; draws = [] }) _
-      (loaded-there files (database_load game) g.0 g.2) refl
-      (ap (λ r. r >>= with_draws (seeded seed) [] style) (game_reads laws game g.0 g.1 g.3)) tt
-  accepted laws (play game (listed name) style) left h =
-      let g = h.0 in
-      let d = h.1 in
-      comes (play game (listed name) style) left (record { main = g.0; draws = d.0 })
-      (playing style g.1 d.1)
-      (loaded-there files (database_load game) g.0 g.2) (loaded-there files _ d.0 d.2)
-      (ap (λ r. r >>= with_draws (listed name) d.0 style) (game_reads laws game g.0 g.1 g.3) ∙ ap
-      (λ r. draws_or_unfit name r >>= play_of style g.1) d.3) tt
-  accepted laws (translate game program style width) left (bytes, db, loads, text, no_wide) =
-      comes (translate game program style width) left (record { main = bytes; draws = [] })
-      (translating program style width db)
-      (loaded-there files (database_load game) bytes loads) refl
-      (ap (λ r. r >>= translate_with game program style width) (game_reads laws game bytes db text)
-      ∙ ap (λ r. r >>= translation_of program style width) (can_translate game width db no_wide)) tt
-  accepted laws (run name (seeded seed) steps width) left
-      ((bytes, p, draws, lines, loads, is, from_seed, lines_are, zero), h) =
-      comes (run name (seeded seed) steps width) left (record { main = bytes; draws = [] })
-      (running width p draws steps)
-      (loaded-there files (program_load name) bytes loads) refl
-      (ap (λ r. r >>= run_with (seeded seed) [] width steps)
-      (program_reads laws width name bytes p is) ∙ ap (λ d. Ok (running width p d steps))
-      (sym from_seed))
-      (lines, lines_are, zero)
-  accepted laws (run name (listed file) steps width) left
-      ((bytes, p, draws, lines, loads, is, (more, there, lists), lines_are, zero), h) =
-      comes (run name (listed file) steps width) left (record { main = bytes; draws = h.0 })
-      (running width p draws steps)
-      (loaded-there files (program_load name) bytes loads) (loaded-there files _ h.0 h.2)
-      (ap (λ r. r >>= run_with (listed file) h.0 width steps)
-      (program_reads laws width name bytes p is)
-      ∙ ap (λ r. draws_or_unfit file r >>= run_of width steps p)
-      (ap listed_draws (same_file file h.2.0 there) ∙ lists))
-      (lines, lines_are, zero)
+module _ (laws : Laws) (files : Files) (request : Request) where
+  -- the bytes of a file that is to be loaded
+  text_for : (asked : Option Load)
+      → ((load : Load) → asked ≡ Some load → (bytes : List ℕ) × IsLoadable files load bytes)
+      → (bytes : List ℕ) × (loaded files asked ≡ Ok bytes)
+  text_for None all = ([], refl)
+  text_for (Some load) all =
+      let h = all load refl in (h.0, loaded-there files load h.0 h.1)
+
+  abbrev rest : List ℕ → Result Texts Refusal
+  rest bytes = loaded files (draws_of request) >>= λ ds. Ok
+      (record { main = bytes; draws = ds })
+
+  abbrev come : Result Texts Refusal → Result Task Refusal
+  come r = r >>= λ t. refusing (work request t)
+
+  pub accepted : (left : Option (List (List ℕ))) → IsAccepted files left (Some request)
+      → (task : Task) × (expected files (Some request) ≡ Ok task) × EndsWith0 task left
+  accepted left (all, reaches) =
+      let m = text_for (main_of request) (λ load is. all load (inl is)) in
+      let d = text_for (draws_of request) (λ load is. all load (inr is)) in
+      let texts : Texts = record { main = m.0; draws = d.0 } in
+      let c = comes laws files texts (main_of request) (draws_of request) (stores request)
+      (late_statuses request) m.1 d.1
+      (λ task. EndsWith0 task left) (plan request) (made request) reaches in (
+        c.0,
+        ap (λ r. come (r >>= rest)) m.1 ∙ ap (λ r. come (r >>= λ ds. Ok
+            (record { main = m.0; draws = ds }))) d.1 ∙ ap refusing c.1,
+        c.2,
+      )

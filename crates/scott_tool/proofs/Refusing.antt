@@ -8,13 +8,14 @@ use Rattle.scott_requests.specs.Request.{Request}
 use Rattle.scott_tool.specs.Refusal.{Refusal, no_request, unread, too_long, unfit, unwritten, status_of}
 use Rattle.scott_tool.specs.Outcome.{refused, statuses, Concludes, Ends, whole, unsaid}
 use Rattle.scott_tool.specs.Loading.{IsLoad, texts_of, stores}
-use Rattle.scott_tool.specs.Work.{Task, expected, statuses_of}
+use Rattle.scott_tool.specs.Work.{Task}
+use Rattle.scott_tool.specs.Plan.{expected, statuses_of}
 use Rattle.scott_tool.specs.Obeying.{Stands, Answers, Refuses, Misses, ShelfStays}
-use Rattle.scott_tool.specs.Causes.{OneLoaded, IsTooLong, HasCause}
+use Rattle.scott_tool.specs.Causes.{OneLoaded, IsTooLong, HasCause, by_words, by_shelf, by_console, by_memory, by_length}
 use Rattle.scott_tool.specs.Promises.{IfKnown, SaysUnread}
 use Rattle.scott_tool.proofs.Files.{long_one}
 use Rattle.scott_tool.proofs.Statuses.{is_3, is_9, is_known, first, not_end}
-use Rattle.scott_tool.proofs.Obeying.{refusal_not, refused_not_0, refused_not_9, refused_not_end}
+use Rattle.scott_tool.proofs.Obeying.{refused_not_9, refused_not_end}
 use Rattle.scott_tool.specs.Laws.{Laws}
 use Rattle.scott_tool.proofs.Promised.{Promises, for_files, from_files, for_lines, expected-err, name_keeps, complete_from}
 
@@ -35,17 +36,6 @@ module _ (shelf shelf' : ShelfView) (console console' : ConsoleView) (status : �
     known_refused = elim ended [
       | inl h ↦ subst (Contains statuses) (sym h.0) (is_known refusal)
       | inr h ↦ subst (Contains statuses) (sym h.0) is_3
-    ]
-
-    -- a status other than 3 is the refusal's
-    own : (n : ℕ) → (n ≡ 3 → ⊥) → status ≡ n → status_of refusal ≡ n
-    own n not_3 e = elim ended [ inl h ↦ sym h.0 ∙ e | inr h ↦ absurd (not_3 (sym e ∙ h.0)) ]
-
-    broke : status ≡ 3 → Broke
-    broke e = elim ended [
-      | inl h ↦ absurd (refusal_not refusal 3 (inr (inr (inl refl)))
-          (sym h.0 ∙ e))
-      | inr h ↦ h.1
     ]
 
     stand_refused : Stand (status_of refusal ∷ [])
@@ -97,43 +87,21 @@ module _ (shelf shelf' : ShelfView) (console console' : ConsoleView) (status : �
       record {
         status_is = record {
           known = known_refused no_request r.ended;
-          cause = record {
-            no_request = λ e. refl;
-            unread = λ e. absurd (let f = own no_request r.ended 2
-                (λ e. omega arith) e in omega arith);
-            unsaid = broke no_request r.ended;
-            no_database = λ e. absurd (let f = own no_request r.ended 4
-                (λ e. omega arith) e in omega arith);
-            no_source_or_draws = λ e. absurd (let f = own no_request r.ended 5
-                (λ e. omega arith) e in omega arith);
-            no_program = λ e. absurd (let f = own no_request r.ended 6
-                (λ e. omega arith) e in omega arith);
-            too_wide = λ e. absurd (let f = own no_request r.ended 7
-                (λ e. omega arith) e in omega arith);
-            trapped = λ e. absurd (let f = own no_request r.ended 8
-                (λ e. omega arith) e in omega arith);
-            spent = λ e. absurd (let f = own no_request r.ended 10
-                (λ e. omega arith) e in omega arith);
-            memory = λ e. absurd (refused_not_9 console console' status no_request r.ended e);
-            too_long = λ e. absurd (let f = own no_request r.ended 11
-                (λ e. omega arith) e in omega arith);
-          };
+          cause = elim r.ended [
+            | inl h ↦ by_words h.0 refl
+            | inr h ↦ by_console h.0 h.1
+          ];
           first = stands;
         };
         seen = record {
           all = seen;
           usage = λ e. r.ended;
-          silent = λ e. absurd (refused_not_9 console console' status no_request r.ended e);
+          silent = λ quiet e. absurd (refused_not_9 console console' status no_request r.ended e);
           lines = inr r.lines;
         };
         files = same;
         complete = complete_from shelf shelf' console console' status laws None stands seen;
-        checked = λ zero game e. absurd cc;
-        compiled = λ zero source game e. absurd cc;
-        decompiled = λ zero game source e. absurd cc;
-        played = λ zero game source style e. absurd cc;
-        translated = λ zero game program style width e. absurd cc;
-        ran = λ end name source steps width e. absurd cc;
+        done = λ end. absurd (refused_not_end console console' status no_request r.ended end);
         counts = record {
           shelf_later = omega arith;
           console_later = r.later;
@@ -195,23 +163,13 @@ module _ (shelf shelf' : ShelfView) (console console' : ConsoleView) (status : �
       seen = record {
         all = seen;
         usage = λ e. absurd cc;
-        silent = λ e. absurd
+        silent = λ quiet e. absurd
             (refused_not_9 console console' status refusal r.ended e);
         lines = inr r.lines;
       };
       files = name_keeps shelf shelf' console console' status (stores request) same;
       complete = complete_from shelf shelf' console console' status laws (Some request) stands seen;
-      checked = λ zero game e. absurd (refused_not_0 console console' status refusal r.ended zero);
-      compiled = λ zero source game e. absurd (refused_not_0 console console' status refusal r.ended
-          zero);
-      decompiled = λ zero game source e. absurd (refused_not_0 console console' status refusal
-          r.ended zero);
-      played = λ zero game source style e. absurd (refused_not_0 console console' status refusal
-          r.ended zero);
-      translated = λ zero game program style width e. absurd
-          (refused_not_0 console console' status refusal r.ended zero);
-      ran = λ end name source steps width e. absurd (refused_not_end console console' status refusal
-          r.ended end);
+      done = λ end. absurd (refused_not_end console console' status refusal r.ended end);
       counts = record {
         shelf_later = later;
         console_later = r.later;
@@ -220,52 +178,11 @@ module _ (shelf shelf' : ShelfView) (console console' : ConsoleView) (status : �
       };
     }
 
-    unread_cause : (name : List ℕ) → Concludes console console' (refused (unread name)) status
-        → Lost ⊎ OneLoaded (Some request) (λ load. Lacks shelf.files load.name) → Cause
-    unread_cause name ended lost = record {
-      no_request = λ e. absurd (let f = own (unread name) ended 1
-          (λ e. omega arith) e in omega arith);
-      unread = λ e. lost;
-      unsaid = broke (unread name) ended;
-      no_database = λ e. absurd (let f = own (unread name) ended 4
-          (λ e. omega arith) e in omega arith);
-      no_source_or_draws = λ e. absurd (let f = own (unread name) ended 5
-          (λ e. omega arith) e in omega arith);
-      no_program = λ e. absurd (let f = own (unread name) ended 6
-          (λ e. omega arith) e in omega arith);
-      too_wide = λ e. absurd (let f = own (unread name) ended 7
-          (λ e. omega arith) e in omega arith);
-      trapped = λ e. absurd (let f = own (unread name) ended 8 (λ e. omega arith) e in omega arith);
-      spent = λ e. absurd (let f = own (unread name) ended 10 (λ e. omega arith) e in omega arith);
-      memory = λ e. refl;
-      too_long = λ e. absurd (let f = own (unread name) ended 11
-          (λ e. omega arith) e in omega arith);
-    }
-
-    long_cause : (name : List ℕ) (limit : ℕ) → Concludes console console'
-        (refused (too_long name limit)) status
-        → IfSome shelf.files (λ files. OneLoaded (Some request) (IsTooLong files)) → Cause
-    long_cause name limit ended long = record {
-      no_request = λ e. absurd (let f = own (too_long name limit) ended 1
-          (λ e. omega arith) e in omega arith);
-      unread = λ e. absurd (let f = own (too_long name limit) ended 2
-          (λ e. omega arith) e in omega arith);
-      unsaid = broke (too_long name limit) ended;
-      no_database = λ e. absurd (let f = own (too_long name limit) ended 4
-          (λ e. omega arith) e in omega arith);
-      no_source_or_draws = λ e. absurd (let f = own (too_long name limit) ended 5
-          (λ e. omega arith) e in omega arith);
-      no_program = λ e. absurd (let f = own (too_long name limit) ended 6
-          (λ e. omega arith) e in omega arith);
-      too_wide = λ e. absurd (let f = own (too_long name limit) ended 7
-          (λ e. omega arith) e in omega arith);
-      trapped = λ e. absurd (let f = own (too_long name limit) ended 8
-          (λ e. omega arith) e in omega arith);
-      spent = λ e. absurd (let f = own (too_long name limit) ended 10
-          (λ e. omega arith) e in omega arith);
-      memory = λ e. refl;
-      too_long = λ e. long;
-    }
+    -- the cause of a refusal's own status, or the console failed
+    cause_of : (refusal : Refusal) → Concludes console console' (refused refusal) status
+        → (status ≡ status_of refusal → Cause) → Cause
+    cause_of refusal ended own =
+        elim ended [ inl h ↦ own h.0 | inr h ↦ by_console h.0 h.1 ]
 
     memory_promised : (laws : Laws) → shelf'.files ≡ shelf.files → shelf'.faults ≡ shelf.faults
         → Refuses console console' None status → Promised
@@ -277,38 +194,21 @@ module _ (shelf shelf' : ShelfView) (console console' : ConsoleView) (status : �
         record {
           status_is = record {
             known = subst (Contains statuses) (sym nine) is_9;
-            cause = record {
-              no_request = λ e. absurd (omega arith);
-              unread = λ e. absurd (omega arith);
-              unsaid = λ e. absurd (omega arith);
-              no_database = λ e. absurd (omega arith);
-              no_source_or_draws = λ e. absurd (omega arith);
-              no_program = λ e. absurd (omega arith);
-              too_wide = λ e. absurd (omega arith);
-              trapped = λ e. absurd (omega arith);
-              spent = λ e. absurd (omega arith);
-              memory = λ e. refl;
-              too_long = λ e. absurd (omega arith);
-            };
+            cause = by_memory nine refl;
             first = stands;
           };
           seen = record {
             all = all;
             usage = λ e. absurd cc;
-            silent = λ e. r.ended.1;
+            silent = λ quiet e. r.ended.1;
             lines = inr
                 r.lines;
           };
           files = name_keeps shelf shelf' console console' status (stores request) same;
           complete = complete_from shelf shelf' console console' status laws
               (Some request) stands all;
-          checked = λ zero game e. absurd (omega arith);
-          compiled = λ zero source game e. absurd (omega arith);
-          decompiled = λ zero game source e. absurd (omega arith);
-          played = λ zero game source style e. absurd (omega arith);
-          translated = λ zero game program style width e. absurd (omega arith);
-          ran = λ end name source steps width e. absurd (not_end status 9 end (λ f. omega arith)
-              (λ f. omega arith) (λ f. omega arith) nine);
+          done = λ end. absurd (not_end status 9 end (λ f. omega arith) (λ f. omega arith)
+              (λ f. omega arith) nine);
           counts = record {
             shelf_later = omega arith;
             console_later = r.later;
@@ -330,10 +230,10 @@ module _ (shelf shelf' : ShelfView) (console console' : ConsoleView) (status : �
     not_loaded_promised laws (Some (unwritten name)) missed same later r = absurd missed
     not_loaded_promised laws (Some (too_long name limit)) missed same later r =
         refused_promised laws (too_long name limit) same later (inr (inr missed.1)) r
-        (long_cause name limit r.ended
+        (cause_of (too_long name limit) r.ended (λ e. by_length e
         (from_files shelf.files (λ files. texts_of files request ≡ Err (too_long name limit))
         (λ files. OneLoaded (Some request) (IsTooLong files))
-        (λ files e. long_one files request name limit e) missed.0))
+        (λ files e. long_one files request name limit e) missed.0)))
         (stands_at (too_long name limit) r.ended missed.0)
         (seen_at same (too_long name limit) r.ended missed.0)
     not_loaded_promised laws (Some (unread name)) missed same later r =
@@ -344,7 +244,7 @@ module _ (shelf shelf' : ShelfView) (console console' : ConsoleView) (status : �
         elim missed.1 [
           | inl lost ↦
               refused_promised laws (unread name) same later stays r
-              (unread_cause name r.ended (inl lost))
+              (cause_of (unread name) r.ended (λ e. by_shelf e (inl lost)))
               (for_files shelf.files (λ files. Stand (statuses_of (expected files (Some request))))
               (λ files. stand_lost (unread name) r.ended
               (statuses_of (expected files (Some request))) refl lost))
@@ -360,11 +260,10 @@ module _ (shelf shelf' : ShelfView) (console console' : ConsoleView) (status : �
               )))
           | inr lacks ↦
               refused_promised laws (unread name) same later stays r
-              (unread_cause name r.ended (inr (
+              (cause_of (unread name) r.ended (λ e. by_shelf e (inr (
                 load,
                 missed.0.1,
-                subst
-                    (λ (n : List ℕ). Lacks shelf.files n) (sym is) lacks.0,
-              )))
+                subst (λ (n : List ℕ). Lacks shelf.files n) (sym is) lacks.0,
+              ))))
               (stands_at (unread name) r.ended lacks.1) (seen_at same (unread name) r.ended lacks.1)
         ]

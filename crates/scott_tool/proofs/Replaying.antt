@@ -1,5 +1,5 @@
 -- That the run of a faithful program is the play of its database.
-use Rattle.std.proofs.Common.{◌≡◌, ◌∙◌, ◌++◌, ℕ, zero, suc, Bool, true, false, ◌&&◌, List, [], ◌∷◌, Option, Some, None, IfSome, Result, Ok, Err, refl, sym, ap, subst, inl, arith}
+use Rattle.std.proofs.Common.{◌≡◌, ◌∙◌, ◌++◌, ℕ, zero, suc, Bool, true, false, ◌&&◌, List, [], ◌∷◌, Option, Some, None, IfSome, Result, Ok, Err, refl, sym, ap, subst, inl, inr, arith}
 use Rattle.std.specs.Prelude.{if◌then◌else◌}
 use Rattle.std.specs.List.{list_all}
 use Rattle.std.specs.Char.{is_ascii_digit}
@@ -19,7 +19,7 @@ use Rattle.inform_reader.specs.Reading.{IsProgram}
 use Rattle.inform_tree.specs.declared.widths.Width.{Width}
 use Rattle.inform_tree.specs.Programs.{DirectiveTree}
 use Rattle.scott_requests.specs.Settings.{DrawSource, listed, seeded}
-use Rattle.scott_requests.specs.Request.{Request, run}
+use Rattle.scott_requests.specs.Request.{RunRequest, Request}
 use Rattle.scott_rules.specs.Play as rules
 use Rattle.scott_rules.specs.Play.{ending_of}
 use Rattle.scott_types.specs.declared.endings.Ending.{Ending}
@@ -33,9 +33,7 @@ use Rattle.scott_tool.specs.Laws.{Laws}
 use Rattle.scott_tool.specs.Play.{DrawsAre}
 use Rattle.scott_tool.specs.Run.{Ran, ran, stop_after, stop_status, stop_line}
 use Rattle.scott_tool.specs.Replay.{IsReplay, SawPlay, Replayed}
-use Rattle.scott_tool.specs.Causes.{RunEnds, HasCause}
-use Rattle.scott_tool.specs.Promises.{HasRun, HasReplayed}
-use Rattle.scott_tool.proofs.Statuses.{IsEnd}
+use Rattle.scott_tool.specs.Promises.{IsEnd, HasRun, HasReplayed}
 
 -- ---- the draws of a source are draws
 
@@ -125,11 +123,12 @@ module _ (laws : Laws) (files : Files) (lines : List (List ℕ)) (name : List �
       h.enough_steps)
 
   -- it ends with 0
-  run_ends_0 : (n : ℕ) → RunEnds files lines (Some (run name source steps width)) n → n ≡ 0
-  run_ends_0 n (bytes, p, draws, there, text, are, ends) =
-      let a = alike bytes p draws there text are in
-      sym ends ∙ ends_0 (ending_of (rules.play (in_style style db) lines draws).value.position)
-      (stop_after width p steps lines draws) _ a.same.ends
+  run_ends_0 : (old new : ConsoleView) (status : ℕ)
+      → Ran files lines name source steps width old new status → status ≡ 0
+  run_ends_0 old new status r =
+      let a = alike r.bytes r.program r.draws r.there r.text r.draws_are in
+      r.ends ∙ ends_0 (ending_of (rules.play (in_style style db) lines r.draws).value.position)
+      (stop_after width r.program steps lines r.draws) _ a.same.ends
 
   -- and has shown the play
   saw_play : (old new : ConsoleView) (status : ℕ)
@@ -145,40 +144,31 @@ module _ (laws : Laws) (files : Files) (lines : List (List ℕ)) (name : List �
       (shown (trace_of t.1.past)) ∙ ap shown (sym a.same.traces) in
       (r.draws, r.draws_are, r.seen ∙ ap (grown old.history) events)
 
--- the run ends so, where files and lines are known
-abbrev Ended : Option Request → Option Files → Option (List (List ℕ)) → ℕ → Type 0
-Ended asked known left n = IfSome known (λ files. IfSome left
-    (λ lines. RunEnds files lines asked n))
-
-module _ (laws : Laws) (name : List ℕ) (source : DrawSource) (steps : ℕ) (width : Width)
-    (style : Style) (db : Database) (asked : Option Request)
-    (is : asked ≡ Some (run name source steps width)) (old new : ConsoleView) (status : ℕ) where
+module _ (laws : Laws) (r : RunRequest) (style : Style) (db : Database) (old new : ConsoleView)
+    (status : ℕ) where
   replayed : (known : Option Files) (left : Option (List (List ℕ)))
-      → (status ≡ 8 → Ended asked known left 8) → (status ≡ 10 → Ended asked known left 10)
       → (IsEnd status → IfSome known (λ files. IfSome left
-      (λ lines. Ran files lines name source steps width old new status)))
+      (λ lines. Ran files lines r.program r.source r.steps r.width old new status)))
       → IfSome known (λ files. IfSome left
-      (λ lines. IsReplay files lines name steps width style db
-      → Replayed files lines source style db old new status))
-  replayed None left trapped spent went = tt
-  replayed (Some files) None trapped spent went = tt
-  replayed (Some files) (Some lines) trapped spent went = λ h. record {
-    no_trap = λ e. absurd (let f = ends h 8 (trapped e) in omega arith);
-    not_spent = λ e. absurd (let f = ends h 10 (spent e) in omega arith);
+      (λ lines. IsReplay files lines r.program r.steps r.width style db
+      → Replayed files lines r.source style db old new status))
+  replayed None left went = tt
+  replayed (Some files) None went = tt
+  replayed (Some files) (Some lines) went = λ h. record {
+    no_trap = λ e. absurd (let f = ends h (inr (inl e)) in omega arith);
+    not_spent = λ e. absurd (let f = ends h (inr (inr e)) in omega arith);
     seen = λ e.
-        saw_play laws files lines name source steps width style db h old new status (went (inl e));
+        saw_play laws files lines r.program r.source r.steps r.width style db h old new status
+        (went (inl e));
   } where
-    ends : IsReplay files lines name steps width style db → (n : ℕ)
-        → RunEnds files lines asked n → n ≡ 0
-    ends h n e = run_ends_0 laws files lines name source steps width style db h n
-        (subst (λ (a : Option Request). RunEnds files lines a n) is e)
+    ends : IsReplay files lines r.program r.steps r.width style db → IsEnd status → status ≡ 0
+    ends h end = run_ends_0 laws files lines r.program r.source r.steps r.width style db h old new
+        status (went end)
 
-pub replays : (laws : Laws) (shelf shelf' : ShelfView) (console console' : ConsoleView)
+pub replays : (laws : Laws) (shelf : ShelfView) (console console' : ConsoleView)
     (asked : Option Request) (status : ℕ)
-    → HasCause shelf shelf' console console' asked status
     → (IsEnd status → HasRun shelf console console' asked status)
     → HasReplayed shelf console console' asked status
-replays laws shelf shelf' console console' asked status cause has_run name source steps width style
-    db is = replayed laws name source steps width style db asked is console console' status
-    shelf.files console.left cause.trapped cause.spent
-    (λ end. has_run end name source steps width is)
+replays laws shelf console console' asked status has_run r style db is =
+    replayed laws r style db console console' status shelf.files console.left
+    (λ end. has_run end r is)

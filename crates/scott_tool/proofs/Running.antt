@@ -25,40 +25,41 @@ use Rattle.adv_io.specs.History.{grown, GrewByPrefix}
 use Rattle.adv_io.specs.Shelf.{ShelfView}
 use Rattle.inform_tree.specs.declared.widths.Width.{Width}
 use Rattle.inform_tree.specs.Programs.{DirectiveTree}
-use Rattle.scott_tool.specs.Outcome.{whole, unsaid}
-use Rattle.scott_tool.specs.Run.{ran, stop_status, stop_line, run_outcome}
-use Rattle.scott_tool.specs.Work.{running}
+use Rattle.scott_tool.specs.Outcome.{ended, whole, unsaid}
+use Rattle.scott_tool.specs.Run.{ran, stop_after, stop_status, stop_line, run_events}
+use Rattle.scott_tool.specs.Work.{run_task}
 use Rattle.scott_tool.specs.Obeying.{Obeys, Answers}
-use Rattle.scott_tool.proofs.Statuses.{IsEnd, end_is, not_end}
+use Rattle.scott_tool.specs.Promises.{IsEnd}
+use Rattle.scott_tool.proofs.Statuses.{end_is, not_end}
 use Rattle.scott_tool.proofs.Obeying.{where_known}
 
 module _ (shelf : ShelfView) (old new : ConsoleView) (status : ℕ) (width : Width)
     (p : List DirectiveTree) (draws : List ℕ) (steps : ℕ) where
   abbrev events : List (List ℕ) → List Event
-  events lines = (run_outcome p (ran width p steps lines draws)).events
+  events lines = run_events p (ran width p steps lines draws)
 
   abbrev ending : List (List ℕ) → ℕ
-  ending lines = (run_outcome p (ran width p steps lines draws)).status
+  ending lines = stop_status (stop_after width p steps lines draws)
 
   -- all was shown
   pub obeys-ran : IsEnd status → IfSome old.left (λ lines. (status ≡ ending lines) ×
       (new.history ≡ grown old.history (events lines)))
       → new.faults ≡ old.faults → Obeys shelf shelf old new
-      (Ok (running width p draws steps)) status
+      (Ok (run_task width p steps draws)) status
   obeys-ran end shown same = record {
     answered = where_known (λ lines. (status ≡ ending lines) ×
         (new.history ≡ grown old.history (events lines)))
-        (λ lines. Answers shelf shelf old new lines (Ok (running width p draws steps)) status)
-        (λ lines h. inl (run_outcome p (ran width p steps lines draws), refl, whole h.0 h.1 refl))
+        (λ lines. Answers shelf shelf old new lines (Ok (run_task width p steps draws)) status)
+        (λ lines h. inl (ended (ending lines) (events lines), refl, whole h.0 h.1 refl))
         old.left shown;
     stands = inl (end_is status end);
-    silent = λ e. absurd (not_end status 9 end (λ f. omega arith) (λ f. omega arith)
+    silent = λ quiet e. absurd (not_end status 9 end (λ f. omega arith) (λ f. omega arith)
         (λ f. omega arith) e);
     lines = inl (elim end [
       | inl e ↦ inl e
       | inr (inl e) ↦ inr (inr (inl e))
       | inr (inr e) ↦ inr
-          (inr (inr e))
+          (inr (inr (inl e)))
     ]);
     files = refl;
     shelf_later = omega arith;
@@ -70,18 +71,18 @@ module _ (shelf : ShelfView) (old new : ConsoleView) (status : ℕ) (width : Wid
   -- the console failed
   pub obeys-broke : status ≡ 3 → Rose old.faults new.faults → old.faults ≤ new.faults
       → IfSome old.left (λ lines. GrewByPrefix old.history new.history (events lines))
-      → Obeys shelf shelf old new (Ok (running width p draws steps)) status
+      → Obeys shelf shelf old new (Ok (run_task width p steps draws)) status
   obeys-broke three failed later part = record {
     answered = where_known (λ lines. GrewByPrefix old.history new.history (events lines))
-        (λ lines. Answers shelf shelf old new lines (Ok (running width p draws steps)) status)
+        (λ lines. Answers shelf shelf old new lines (Ok (run_task width p steps draws)) status)
         (λ lines h. inl (
-          run_outcome p (ran width p steps lines draws),
+          ended (ending lines) (events lines),
           refl,
           unsaid three failed h
               refl,
         )) old.left part;
     stands = inr (inr (inl (three, failed)));
-    silent = λ e. absurd (omega arith);
+    silent = λ quiet e. absurd (omega arith);
     lines = inl (inr (inl three));
     files = refl;
     shelf_later = omega arith;
@@ -115,7 +116,7 @@ module _ (shelf : ShelfView) (old new : ConsoleView) (status : ℕ) (width : Wid
     pub obeys-concluded : {T E : Type 0} (said : Result T E) → IfSome old.left Showed → mid.faults
         ≡ old.faults → Speaks mid new said line
         → MatchResult said (λ _. status ≡ stop_status stop) (λ _. status ≡ 3)
-        → Obeys shelf shelf old new (Ok (running width p draws steps)) status
+        → Obeys shelf shelf old new (Ok (run_task width p steps draws)) status
     obeys-concluded (Ok x) showed same speaks is =
         obeys-ran (subst IsEnd (sym is) (end_of_stop stop))
         (where_known Showed (λ lines. (status ≡ ending lines) ×
@@ -138,7 +139,7 @@ module _ (shelf : ShelfView) (old new : ConsoleView) (status : ℕ) (width : Wid
   -- the console failed as it ran
   pub obeys-failed : status ≡ 3 → Rose old.faults new.faults → old.faults ≤ new.faults
       → IfSome old.left (λ lines. GrewByPrefix old.history new.history (seen_of lines))
-      → Obeys shelf shelf old new (Ok (running width p draws steps)) status
+      → Obeys shelf shelf old new (Ok (run_task width p steps draws)) status
   obeys-failed three failed later part =
       obeys-broke three failed later
       (where_known (λ lines. GrewByPrefix old.history new.history (seen_of lines))
@@ -190,7 +191,7 @@ module _ (shelf : ShelfView) (old mid : ConsoleView) (status : ℕ) (a : Accepte
       → IfSome old.left (Went (Ok stop)) → Caused (Ok stop)
       → Speaks mid new said (says (stop_line p (stop_seen stop)))
       → MatchResult said (λ _. status ≡ stop_status (stop_seen stop)) (λ _. status ≡ 3)
-      → Obeys shelf shelf old new (Ok (running a.width p before.left steps)) status
+      → Obeys shelf shelf old new (Ok (run_task a.width p steps before.left)) status
   obeys-stopped new stop said went cause speaks is =
       obeys-concluded shelf old new status a.width p before.left steps mid (stop_seen stop) said
       (where_known (Went (Ok stop))
@@ -206,7 +207,7 @@ module _ (shelf : ShelfView) (old mid : ConsoleView) (status : ℕ) (a : Accepte
   -- the console failed as it ran
   pub obeys-broken : (fault : ConsoleFault) → IfSome old.left (Went (Err fault)) → Caused
       (Err fault) → status ≡ 3
-      → Obeys shelf shelf old mid (Ok (running a.width p before.left steps)) status
+      → Obeys shelf shelf old mid (Ok (run_task a.width p steps before.left)) status
   obeys-broken fault went cause three =
       obeys-failed shelf old mid status a.width p before.left steps three cause.failed cause.later
       (where_known (Went (Err fault)) (λ lines. GrewByPrefix old.history mid.history

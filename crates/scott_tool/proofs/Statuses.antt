@@ -1,11 +1,12 @@
 -- The statuses that an expected task or refusal can have.
-use Rattle.std.proofs.Common.{◌≡◌, ◌∙◌, ◌<◌, ℕ, zero, suc, [], ◌∷◌, get_or, Result, Ok, Err, refl, sym, subst, inl, inr, ◌⊎◌, arith, lit<}
+use Rattle.std.proofs.Common.{◌≡◌, ◌∙◌, ◌<◌, ℕ, zero, suc, [], ◌∷◌, get_or, Result, Ok, Err, refl, sym, subst, inl, inr, arith, lit<}
 use Rattle.std.specs.Prelude.{Contains}
-use Rattle.scott_tool.specs.declared.refusals.ContentFault.{ContentFault}
-use Rattle.scott_tool.specs.declared.refusals.ContentFault.TheVariants.{NoDatabase, NoSource, NoMeaning, NoDraws, NoProgram, NoTranslation}
-use Rattle.scott_tool.specs.Refusal.{Refusal, Unfit, no_request, unread, too_long, unfit, unwritten, refusing, content_status, status_of}
+use Rattle.scott_tool.specs.Refusal.{Flaw, bad_database, bad_text, bad_program, bad_width, Refusal, Unfit, no_request, unread, too_long, unfit, unwritten, refusing, flaw_status, status_of}
 use Rattle.scott_tool.specs.Outcome.{statuses}
-use Rattle.scott_tool.specs.Work.{Task, reporting, storing, playing, translating, running, task_statuses, statuses_of}
+use Rattle.scott_tool.specs.Work.{Task, saying, storing, running, playing, task_statuses}
+use Rattle.scott_tool.specs.Plan.{statuses_of}
+use Rattle.scott_tool.specs.Causes.{IsOfContent}
+use Rattle.scott_tool.specs.Promises.{IsEnd}
 use Rattle.scott_tool.specs.Obeying.{Stands}
 
 -- ---- each is one of the twelve
@@ -19,19 +20,23 @@ is_3 = (3, lit< tt, refl)
 pub is_9 : Contains statuses 9
 is_9 = (9, lit< tt, refl)
 
-pub is_content : (fault : ContentFault) → Contains statuses (content_status fault)
-is_content (NoDatabase fault) = (4, lit< tt, refl)
-is_content (NoSource fault) = (5, lit< tt, refl)
-is_content (NoMeaning fault) = (5, lit< tt, refl)
-is_content (NoDraws fault) = (5, lit< tt, refl)
-is_content (NoProgram fault) = (6, lit< tt, refl)
-is_content (NoTranslation fault) = (7, lit< tt, refl)
+pub is_content : (flaw : Flaw) → Contains statuses (flaw_status flaw)
+is_content bad_database = (4, lit< tt, refl)
+is_content bad_text = (5, lit< tt, refl)
+is_content bad_program = (6, lit< tt, refl)
+is_content bad_width = (7, lit< tt, refl)
+
+pub of_content : (flaw : Flaw) → IsOfContent (flaw_status flaw)
+of_content bad_database = inl refl
+of_content bad_text = inr (inl refl)
+of_content bad_program = inr (inr (inl refl))
+of_content bad_width = inr (inr (inr refl))
 
 pub is_known : (refusal : Refusal) → Contains statuses (status_of refusal)
 is_known no_request = (1, lit< tt, refl)
 is_known (unread name) = (2, lit< tt, refl)
 is_known (too_long name limit) = (11, lit< tt, refl)
-is_known (unfit u) = is_content u.fault
+is_known (unfit u) = is_content u.flaw
 is_known (unwritten name) = (2, lit< tt, refl)
 
 pub is_2 : Contains statuses 2
@@ -57,15 +62,11 @@ pub data Tells (ShelfFailed ConsoleFailed : Type 0) (expected : Result Task Unfi
     (status : ℕ) : Type 0 where
   of_task : (task : Task) → expected ≡ Ok task → Contains (task_statuses task) status
       → Tells ShelfFailed ConsoleFailed expected status
-  of_fault : (u : Unfit) → expected ≡ Err u → status ≡ content_status u.fault
+  of_fault : (u : Unfit) → expected ≡ Err u → status ≡ flaw_status u.flaw
       → Tells ShelfFailed ConsoleFailed expected status
   of_memory : status ≡ 9 → Tells ShelfFailed ConsoleFailed expected status
   of_console : status ≡ 3 → ConsoleFailed → Tells ShelfFailed ConsoleFailed expected status
   of_shelf : status ≡ 2 → ShelfFailed → Tells ShelfFailed ConsoleFailed expected status
-
--- a task ends with 0, and a run with 8 or 10 too
-abbrev pub IsEnd : (status : ℕ) → Type 0
-IsEnd status = (status ≡ 0) ⊎ (status ≡ 8) ⊎ (status ≡ 10)
 
 run_end : (status i : ℕ) → i < 3 → get_or (0 ∷ 8 ∷ 10 ∷ []) i status ≡ status → IsEnd status
 run_end status zero less e = inl (sym e)
@@ -74,11 +75,10 @@ run_end status (suc (suc zero)) less e = inr (inr (sym e))
 run_end status (suc (suc (suc i))) less e = absurd (omega arith)
 
 pub task_end : (task : Task) (status : ℕ) → Contains (task_statuses task) status → IsEnd status
-task_end (reporting db) status h = inl (sym (only 0 status h))
-task_end (storing name bytes) status h = inl (sym (only 0 status h))
-task_end (playing style db draws) status h = inl (sym (only 0 status h))
-task_end (translating name style width db) status h = inl (sym (only 0 status h))
-task_end (running width p draws steps) status h = run_end status h.0 h.1 h.2
+task_end (saying text) status h = inl (sym (only 0 status h))
+task_end (storing name text) status h = inl (sym (only 0 status h))
+task_end (running ends show) status h = run_end status h.0 h.1 h.2
+task_end (playing show save) status h = inl (sym (only 0 status h))
 
 pub not_end : (status n : ℕ) → IsEnd status → (n ≡ 0 → ⊥) → (n ≡ 8 → ⊥) → (n ≡ 10 → ⊥) → status ≡ n
     → ⊥
@@ -100,7 +100,7 @@ is_end status (inr (inr e)) = subst (Contains statuses) (sym e) (10, lit< tt, re
 by_expected : (S F : Type 0) (expected : Result Task Unfit) (status : ℕ) → Contains
     (statuses_of (refusing expected)) status → Tells S F expected status
 by_expected S F (Ok task) status h = of_task task refl h
-by_expected S F (Err u) status h = of_fault u refl (sym (only (content_status u.fault) status h))
+by_expected S F (Err u) status h = of_fault u refl (sym (only (flaw_status u.flaw) status h))
 
 pub tells : (S F : Type 0) (expected : Result Task Unfit) (status : ℕ) → Stands S F
     (statuses_of (refusing expected)) status → Tells S F expected status
@@ -110,8 +110,7 @@ tells S F expected status (inr (inr (inl h))) = of_console h.0 h.1
 tells S F expected status (inr (inr (inr h))) = of_shelf h.0 h.1
 
 pub task_has_0 : (task : Task) → Contains (task_statuses task) 0
-task_has_0 (reporting db) = first 0
-task_has_0 (storing name bytes) = first 0
-task_has_0 (playing style db draws) = first 0
-task_has_0 (translating name style width db) = first 0
-task_has_0 (running width p draws steps) = (0, lit< tt, refl)
+task_has_0 (saying text) = first 0
+task_has_0 (storing name text) = first 0
+task_has_0 (running ends show) = (0, lit< tt, refl)
+task_has_0 (playing show save) = first 0

@@ -1,5 +1,5 @@
 -- That a translation makes what is expected.
-use Rattle.std.proofs.Common.{ℕ, List, None, Result, Ok, Err, IfOk, refl, ap}
+use Rattle.std.proofs.Common.{ℕ, List, None, Result, Ok, Err, IfOk, ap}
 use Rattle.std.specs.Prelude.{Vec}
 use Rattle.inform_tree.specs.declared.widths.Width.{Width}
 use Rattle.scott_types.specs.declared.styles.Style.{Style}
@@ -9,25 +9,24 @@ use Rattle.scott_tool.specs.declared.refusals.Refusal.{Refusal as HeldRefusal}
 use Rattle.scott_tool.specs.Steps.{◌>>=◌}
 use Rattle.scott_tool.specs.Refusal.{Unfit}
 use Rattle.scott_tool.specs.Views.{refusal_of}
-use Rattle.scott_tool.specs.Work.{Task, translating}
+use Rattle.scott_tool.specs.Work.{translation, Task, storing}
 use Rattle.scott_tool.specs.Obeying.{Gives, MakesFile}
 use Rattle.scott_tool.proofs.Declining.{declined-first}
 
+abbrev pub translation_of : List ℕ → Style → Width → Database → Result Task Unfit
+translation_of program style width db = Ok (storing program (translation style width db))
+
 module _ (program : List ℕ) (style : Style) (width : Width) (db : Database)
     (fit : Result Database Unfit) where
-  abbrev translation : Database → Result Task Unfit
-  translation d = Ok (translating program style width d)
-
   -- a text that is faithful to a database that can be translated
   pub made_translation : {A : Type 0} (result : Result (Vec ℕ A) HeldRefusal) → Gives
       (λ (text : Vec ℕ A). db) result fit
       → IfOk result (λ text. Faithful style width db None text.items) → MakesFile program result
-      (fit >>= translation)
+      (fit >>= λ _. translation_of program style width db)
   made_translation (Ok text) given faithful = (
-    translating program style width db,
-    ap
-        (λ r. r >>= translation) given,
-    λ lines. (text.items, faithful, refl),
+    translation style width db,
+    ap (λ r. r >>= λ _. translation_of program style width db) given,
+    faithful,
   )
-  made_translation (Err refusal) given faithful = declined-first fit translation
-      (refusal_of refusal) given
+  made_translation (Err refusal) given faithful = declined-first fit
+      (λ _. translation_of program style width db) (refusal_of refusal) given

@@ -8,14 +8,14 @@ use Rattle.adv_io.specs.Shelf.{Files}
 use Rattle.scott_format.specs.Faults.{Fault, fault_answer}
 use Rattle.scott_format.specs.File.{DatText, database_in}
 use Rattle.scott_types.specs.Database.{Database}
-use Rattle.scott_tool.specs.Refusal.{Unfit}
+use Rattle.scott_tool.specs.Refusal.{Unfit, unfit_by}
 use Rattle.scott_tool.specs.declared.refusals.ContentFault.TheVariants.{NoDatabase}
 
 -- the database that a file's bytes read as, or its first fault
 abbrev pub database_or_unfit : List ℕ → Result Database Fault → Result Database Unfit
 database_or_unfit name (Ok db) = Ok db
 database_or_unfit name (Err fault) =
-    Err (record { name = name; fault = NoDatabase (fault_answer fault) })
+    Err (unfit_by name (NoDatabase (fault_answer fault)))
 
 abbrev pub database_of_file : List ℕ → List ℕ → Result Database Unfit
 database_of_file name bytes = database_or_unfit name (database_in bytes)

@@ -10,20 +10,20 @@ use Rattle.source_reader.specs.Faults as reading
 use Rattle.source_reader.specs.Text.{SourceText, TextFault, source_in}
 use Rattle.source_reader.specs.declared.tree.Source.{Source}
 use Rattle.scott_tool.specs.Steps.{◌>>=◌}
-use Rattle.scott_tool.specs.Refusal.{Unfit}
+use Rattle.scott_tool.specs.Refusal.{Unfit, unfit_by}
 use Rattle.scott_tool.specs.declared.refusals.ContentFault.TheVariants.{NoSource, NoMeaning}
 
 -- the source that a file's bytes read as, or its first fault
 abbrev pub source_or_unfit : List ℕ → Result Source reading.Fault → Result Source Unfit
 source_or_unfit name (Ok tree) = Ok tree
 source_or_unfit name (Err fault) =
-    Err (record { name = name; fault = NoSource (reading.fault_answer fault) })
+    Err (unfit_by name (NoSource (reading.fault_answer fault)))
 
 -- the database that it means, or its first fault
 abbrev pub meaning_or_unfit : List ℕ → Result Database meaning.Fault → Result Database Unfit
 meaning_or_unfit name (Ok db) = Ok db
 meaning_or_unfit name (Err fault) =
-    Err (record { name = name; fault = NoMeaning (meaning.fault_answer fault) })
+    Err (unfit_by name (NoMeaning (meaning.fault_answer fault)))
 
 -- the database that a file's bytes are a source of
 abbrev pub compiled_from : List ℕ → List ℕ → Result Database Unfit

@@ -10,6 +10,7 @@ pub mod Translate
 pub mod Run
 pub mod Replay
 pub mod Work
+pub mod Plan
 pub mod Views
 pub mod Obeying
 pub mod Causes

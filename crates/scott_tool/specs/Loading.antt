@@ -30,30 +30,42 @@ draws_load (seeded seed) = None
 
 -- ---- what each request loads, in this order
 
+-- its main file, and then its draws
+pub record Loads : Type 0 where
+  pub main : Option Load
+  pub draws : Option Load
+
+-- no file but the main one
+abbrev pub only : Load → Loads
+only load = record { main = Some load; draws = None }
+
+abbrev pub loads_of : Request → Loads
+loads_of (check game) = only (database_load game)
+loads_of (compile source game) = only (source_load source)
+loads_of (decompile game source) = only (database_load game)
+loads_of (play p) = record (only (database_load p.game)) { draws = draws_load p.source }
+loads_of (translate t) = only (database_load t.game)
+loads_of (run r) = record (only (program_load r.program)) { draws = draws_load r.source }
+
 abbrev pub main_of : Request → Option Load
-main_of (check game) = Some (database_load game)
-main_of (compile source game) = Some (source_load source)
-main_of (decompile game source) = Some (database_load game)
-main_of (play game source style) = Some (database_load game)
-main_of (translate game program style width) = Some (database_load game)
-main_of (run program source steps width) = Some (program_load program)
+main_of request = (loads_of request).main
 
 abbrev pub draws_of : Request → Option Load
-draws_of (check game) = None
-draws_of (compile source game) = None
-draws_of (decompile game source) = None
-draws_of (play game source style) = draws_load source
-draws_of (translate game program style width) = None
-draws_of (run program source steps width) = draws_load source
+draws_of request = (loads_of request).draws
 
 -- the name of the file that a request stores
 abbrev pub stores : Request → Option (List ℕ)
 stores (check game) = None
 stores (compile source game) = Some game
 stores (decompile game source) = Some source
-stores (play game source style) = None
-stores (translate game program style width) = Some program
-stores (run program source steps width) = None
+stores (play p) = None
+stores (translate t) = Some t.program
+stores (run r) = None
+
+-- the statuses, besides 0, 3, 8 and 10, with which a request may have worked on the console: 2
+-- where a file is stored after that, and 9 where memory is wanted after it
+abbrev pub late_statuses : Request → List ℕ
+late_statuses request = []
 
 -- one of the files that a request loads
 abbrev pub IsLoad : Request → Load → Type 0

@@ -2,18 +2,17 @@
 use Rattle.std.specs.Prelude.{◌≡◌, ◌⊎◌, ◌≤◌, ℕ, List, length, Option, Some, None, IfSome, Result, Ok, Err, Contains, IfOk, IfErr, OnOk, Vec}
 use Rattle.adv_io.specs.Console.{ConsoleView}
 use Rattle.adv_io.specs.Faults.{Rose}
-use Rattle.adv_io.specs.History.{says}
 use Rattle.adv_io.specs.Shelf.{Files, ShelfView, Lacks, with_file}
 use Rattle.scott_format.specs.declared.faults.FormatFault.{FormatFault}
 use Rattle.scott_format.specs.declared.faults.FormatFault.TheVariants as answer
 use Rattle.scott_requests.specs.Request.{Request}
 use Rattle.scott_tool.specs.declared.refusals.ContentFault.TheVariants.{NoDatabase}
 use Rattle.scott_tool.specs.declared.refusals.Refusal.{Refusal as HeldRefusal}
-use Rattle.scott_tool.specs.Refusal.{Refusal, Unfit, no_request, unread, too_long, unfit, unwritten, refusing}
-use Rattle.translator.specs.Faithful.{Faithful}
-use Rattle.scott_tool.specs.Outcome.{Outcome, done, keeping, refused, Concludes, Silent, Loses, Ends}
+use Rattle.scott_tool.specs.Refusal.{Refusal, Unfit, unfit_by, no_request, unread, too_long, unfit, unwritten, refusing}
+use Rattle.scott_tool.specs.Outcome.{Outcome, refused, Concludes, Silent, Loses, Ends}
 use Rattle.scott_tool.specs.Loading.{Load, Texts, main_of, IsLoad, texts_of}
-use Rattle.scott_tool.specs.Work.{Task, reporting, storing, playing, translating, running, Does, work, statuses_of, IsExpected}
+use Rattle.scott_tool.specs.Work.{Text, IsText, Task, saying, storing, running, playing}
+use Rattle.scott_tool.specs.Plan.{work, statuses_of, late_in, IsExpected}
 use Rattle.scott_tool.specs.Views.{refusal_of}
 
 -- ---- outcomes
@@ -41,18 +40,25 @@ pub record Keeps (shelf shelf' : ShelfView) (name : List ℕ) (MayBe : List ℕ 
 
 -- the files after what is expected; they stay where it stores nothing
 abbrev pub Leaves : (shelf shelf' : ShelfView) → Result Task Refusal → (status : ℕ) → Type 0
-Leaves shelf shelf' (Ok (reporting db)) status = shelf'.files ≡ shelf.files
-Leaves shelf shelf' (Ok (storing name bytes)) status =
-    Keeps shelf shelf' name (λ out. out ≡ bytes) status
-Leaves shelf shelf' (Ok (playing style db draws)) status = shelf'.files ≡ shelf.files
-Leaves shelf shelf' (Ok (translating name style width db)) status =
-    Keeps shelf shelf' name (Faithful style width db None) status
-Leaves shelf shelf' (Ok (running width p draws steps)) status = shelf'.files ≡ shelf.files
+Leaves shelf shelf' (Ok (saying text)) status = shelf'.files ≡ shelf.files
+Leaves shelf shelf' (Ok (storing name text)) status = Keeps shelf shelf' name (IsText text) status
+Leaves shelf shelf' (Ok (running ends show)) status = shelf'.files ≡ shelf.files
+Leaves shelf shelf' (Ok (playing show None)) status = shelf'.files ≡ shelf.files
+Leaves shelf shelf' (Ok (playing show (Some save))) status =
+    (shelf'.files ≡ shelf.files) ⊎ Keeps shelf shelf' save.name
+    (λ out. (lines : List (List ℕ)) × (save.text lines ≡ Some out)) status
 Leaves shelf shelf' (Err refusal) status = shelf'.files ≡ shelf.files
 
--- only what is done, is a run that ends otherwise, or fails at the console, may take a line
-abbrev pub MayTake : (status : ℕ) → Type 0
-MayTake status = (status ≡ 0) ⊎ (status ≡ 3) ⊎ (status ≡ 8) ⊎ (status ≡ 10)
+-- only what is done, is a run that ends otherwise, or fails at the console, may take a line; and
+-- what ends with one of these other statuses
+abbrev pub MayTake : (late : List ℕ) → (status : ℕ) → Type 0
+MayTake late status =
+    (status ≡ 0) ⊎ (status ≡ 3) ⊎ (status ≡ 8) ⊎ (status ≡ 10) ⊎ Contains late status
+
+-- with 9 nothing is seen, unless it is one of these other statuses
+abbrev pub IsSilent : (old new : ConsoleView) → (late : List ℕ) → (status : ℕ) → Type 0
+IsSilent old new late status =
+    (Contains late 9 → ⊥) → status ≡ 9 → new.history ≡ old.history
 
 -- a console's count of faults stays, but with 3
 abbrev pub ConsoleStays : (old new : ConsoleView) → (status : ℕ) → Type 0
@@ -68,8 +74,8 @@ pub record Obeys (shelf shelf' : ShelfView) (old new : ConsoleView) (expected : 
   pub answered : IfSome old.left (λ lines. Answers shelf shelf' old new lines expected status)
   pub stands : Stands (Rose shelf.faults shelf'.faults) (Rose old.faults new.faults)
       (statuses_of expected) status
-  pub silent : status ≡ 9 → new.history ≡ old.history
-  pub lines : MayTake status ⊎ (new.left ≡ old.left)
+  pub silent : IsSilent old new (late_in expected) status
+  pub lines : MayTake (late_in expected) status ⊎ (new.left ≡ old.left)
   pub files : Leaves shelf shelf' expected status
   pub shelf_later : shelf.faults ≤ shelf'.faults
   pub later : old.faults ≤ new.faults
@@ -111,21 +117,18 @@ Gives view (Err refusal) expected = Declines expected (refusal_of refusal)
 -- the refusal of a fault of the format; want of memory is none
 abbrev pub database_refusal : List ℕ → FormatFault → Option Refusal
 database_refusal name answer.Memory = None
-database_refusal name fault = Some (unfit (record { name = name; fault = NoDatabase fault }))
+database_refusal name fault = Some (unfit (unfit_by name (NoDatabase fault)))
 
--- bytes are all that the expected task says, whatever lines are left
+-- bytes are a text that is expected to be said
 abbrev pub Makes : {A : Type 0} → Result (Vec ℕ A) HeldRefusal → Result Task Unfit → Type 0
-Makes (Ok bytes) expected =
-    (task : Task) × (expected ≡ Ok task)
-    × ((lines : List (List ℕ)) → Does task lines (done (says bytes.items)))
+Makes (Ok bytes) expected = (text : Text) × (expected ≡ Ok (saying text)) × IsText text bytes.items
 Makes (Err refusal) expected = Declines expected (refusal_of refusal)
 
--- bytes are what the expected task stores under a name, whatever lines are left
+-- bytes are a text that is expected to be stored under a name
 abbrev pub MakesFile : {A : Type 0} → List ℕ → Result (Vec ℕ A) HeldRefusal → Result Task Unfit
     → Type 0
 MakesFile name (Ok bytes) expected =
-    (task : Task) × (expected ≡ Ok task)
-    × ((lines : List (List ℕ)) → Does task lines (keeping name bytes.items))
+    (text : Text) × (expected ≡ Ok (storing name text)) × IsText text bytes.items
 MakesFile name (Err refusal) expected = Declines expected (refusal_of refusal)
 
 -- why a file wasn't stored: memory ran out and all stayed, or the shelf failed

@@ -14,13 +14,13 @@ use Rattle.adv_io.specs.Steps.{trace_of}
 use Rattle.scott_types.specs.declared.styles.Style.{Style}
 use Rattle.scott_types.specs.Database.{Database}
 use Rattle.scott_types.specs.Style.{in_style}
-use Rattle.scott_tool.specs.Refusal.{Unfit}
+use Rattle.scott_tool.specs.Refusal.{Unfit, unfit_by}
 use Rattle.scott_tool.specs.declared.refusals.ContentFault.TheVariants.{NoDraws}
 
 -- the draws that a file lists, or the place of its first run that is none
 abbrev pub draws_or_unfit : List ℕ → Result (List ℕ) ℕ → Result (List ℕ) Unfit
 draws_or_unfit name (Ok draws) = Ok draws
-draws_or_unfit name (Err at) = Err (record { name = name; fault = NoDraws (NotADraw at) })
+draws_or_unfit name (Err at) = Err (unfit_by name (NoDraws (NotADraw at)))
 
 -- the draws of a play, by the bytes of their file
 abbrev pub draws_from : DrawSource → List ℕ → Result (List ℕ) Unfit
@@ -32,6 +32,12 @@ abbrev pub DrawsAre : Files → DrawSource → List ℕ → Type 0
 DrawsAre files (listed name) draws =
     (bytes : List ℕ) × (get files name ≡ Some bytes) × (listed_draws bytes ≡ Ok draws)
 DrawsAre files (seeded seed) draws = draws ≡ seeded_draws seed
+
+-- the file of draws is there, and has a run of bytes that is no draw
+abbrev pub AreNoDraws : Files → DrawSource → Type 0
+AreNoDraws files (listed name) =
+    (bytes : List ℕ) × (at : ℕ) × (get files name ≡ Some bytes) × (listed_draws bytes ≡ Err at)
+AreNoDraws files (seeded seed) = ⊥
 
 -- What status 0 means: the file is a text of a database, and the console saw what the play of it in
 -- this style says and takes, with these lines and its draws.

@@ -1,18 +1,19 @@
 -- What the program promises, whatever words, files and lines it is given.
-use Rattle.std.specs.Prelude.{◌≡◌, ◌⊎◌, ◌≤◌, ℕ, List, [], ◌∷◌, Option, Some, None, IfSome, Contains}
+use Rattle.std.specs.Prelude.{◌≡◌, ◌⊎◌, ◌≤◌, ℕ, List, [], ◌∷◌, Option, Some, None, IfSome, Ok, Contains}
 use Rattle.adv_io.specs.Console.{ConsoleView}
 use Rattle.adv_io.specs.Faults.{Rose}
+use Rattle.adv_io.specs.History.{grown}
 use Rattle.adv_io.specs.Shelf.{Files, ShelfView, with_file}
-use Rattle.scott_requests.specs.Settings.{DrawSource}
-use Rattle.scott_requests.specs.Request.{Request, check, compile, decompile, play, translate, run}
+use Rattle.scott_requests.specs.Request.{PlayRequest, TranslationRequest, RunRequest, Request, check, compile, decompile, play, translate, run}
 use Rattle.scott_types.specs.declared.styles.Style.{Style}
 use Rattle.scott_types.specs.Database.{Database}
 use Rattle.scott_tool.specs.Refusal.{no_request, unread}
-use Rattle.scott_tool.specs.Outcome.{statuses, refused, Concludes, Loses}
-use Rattle.scott_tool.specs.Loading.{stores}
-use Rattle.scott_tool.specs.Work.{expected, statuses_of}
-use Rattle.scott_tool.specs.Obeying.{Stands, Answers, MayTake, ShelfStays, ConsoleStays}
-use Rattle.scott_tool.specs.Causes.{OneLoaded, HasCause, IsAccepted}
+use Rattle.scott_tool.specs.Outcome.{statuses, Outcome, refused, Concludes, Loses}
+use Rattle.scott_tool.specs.Loading.{stores, late_statuses}
+use Rattle.scott_tool.specs.Work.{Task, Does}
+use Rattle.scott_tool.specs.Plan.{Reaches, expected, statuses_of}
+use Rattle.scott_tool.specs.Obeying.{Stands, Answers, Leaves, MayTake, IsSilent, ShelfStays, ConsoleStays}
+use Rattle.scott_tool.specs.Causes.{OneLoaded, HasPlan, HasCause, IsAccepted}
 use Rattle.scott_tool.specs.Check.{Checked}
 use Rattle.scott_tool.specs.Compile.{Compiled}
 use Rattle.scott_tool.specs.Decompile.{Decompiled}
@@ -20,7 +21,6 @@ use Rattle.scott_tool.specs.Play.{Played}
 use Rattle.scott_tool.specs.Translate.{Translated}
 use Rattle.scott_tool.specs.Run.{Ran}
 use Rattle.scott_tool.specs.Replay.{IsReplay, Replayed}
-use Rattle.inform_tree.specs.declared.widths.Width.{Width}
 
 -- where the files and the lines are known, this holds of both
 abbrev pub IfKnown : ShelfView → ConsoleView → (Files → List (List ℕ) → Type 0) → Type 0
@@ -61,16 +61,22 @@ SaysUnread shelf shelf' console console' asked status =
     Rose shelf.faults shelf'.faults × OneLoaded asked
     (λ load. Concludes console console' (refused (unread load.name)) status)
 
+-- the other statuses with which the console may have worked for what is asked
+abbrev pub late_for : Option Request → List ℕ
+late_for None = []
+late_for (Some request) = late_statuses request
+
 -- It is what is expected, or a prefix of it where the console failed. With 9 it is nothing, and
--- only what is done, is a run that ends otherwise, or fails at the console, may take a line.
+-- only what is done, is a run that ends otherwise, or fails at the console, may take a line, unless
+-- the request may work on the console first.
 pub record IsSeen (shelf shelf' : ShelfView) (console console' : ConsoleView)
     (asked : Option Request) (status : ℕ) : Type 0 where
   pub all : IfKnown shelf console
       (λ files lines. Answers shelf shelf' console console' lines (expected files asked) status
       ⊎ SaysUnread shelf shelf' console console' asked status)
   pub usage : asked ≡ None → Concludes console console' (refused no_request) status
-  pub silent : status ≡ 9 → console'.history ≡ console.history
-  pub lines : MayTake status ⊎ (console'.left ≡ console.left)
+  pub silent : IsSilent console console' (late_for asked) status
+  pub lines : MayTake (late_for asked) status ⊎ (console'.left ≡ console.left)
 
 -- ---- the files
 
@@ -86,7 +92,31 @@ abbrev pub KeepsFiles : (shelf shelf' : ShelfView) → Option Request → (statu
 KeepsFiles shelf shelf' None status = shelf'.files ≡ shelf.files
 KeepsFiles shelf shelf' (Some request) status = NameKeeps shelf shelf' (stores request) status
 
--- ---- with status 0
+-- ---- what was done
+
+-- a task ends with 0, and a run with 8 or 10 too
+abbrev pub IsEnd : (status : ℕ) → Type 0
+IsEnd status = (status ≡ 0) ⊎ (status ≡ 8) ⊎ (status ≡ 10)
+
+-- The console saw what the task does with the lines that are left, and the status is its own; and
+-- the file that it stores is there.
+pub record WasDone (shelf shelf' : ShelfView) (console console' : ConsoleView) (task : Task)
+    (status : ℕ) : Type 0 where
+  pub seen : IfSome console.left
+      (λ lines. (o : Outcome) × Does task lines o × (status ≡ o.status)
+      × (console'.history ≡ grown console.history o.events))
+  pub files : Leaves shelf shelf' (Ok task) status
+
+-- Each content of the request was what it should be, and its task was done. So it is with 0, and
+-- with the statuses of a run that ends otherwise.
+abbrev pub HasDone : (shelf shelf' : ShelfView) → (console console' : ConsoleView)
+    → Option Request → (status : ℕ) → Type 0
+HasDone shelf shelf' console console' asked status =
+    IfSome shelf.files
+    (λ files. HasPlan asked (λ plan. Reaches files plan
+    (λ task. WasDone shelf shelf' console console' task status)))
+
+-- ---- the same, command by command
 
 abbrev pub HasChecked : ShelfView → (console console' : ConsoleView) → Option Request → Type 0
 HasChecked shelf console console' asked =
@@ -105,34 +135,32 @@ HasDecompiled shelf shelf' asked =
 
 abbrev pub HasPlayed : ShelfView → (console console' : ConsoleView) → Option Request → Type 0
 HasPlayed shelf console console' asked =
-    (game : List ℕ) (source : DrawSource) (style : Style) → asked ≡ Some (play game source style)
-    → IfKnown shelf console (λ files lines. Played files lines game source style console console')
+    (p : PlayRequest) → asked ≡ Some (play p)
+    → IfKnown shelf console
+    (λ files lines. Played files lines p.game p.source p.style console console')
 
 abbrev pub HasTranslated : (shelf shelf' : ShelfView) → Option Request → Type 0
 HasTranslated shelf shelf' asked =
-    (game program : List ℕ) (style : Style) (width : Width)
-    → asked ≡ Some (translate game program style width)
-    → IfSome shelf.files (λ files. Translated files game program style width shelf'.files)
+    (t : TranslationRequest) → asked ≡ Some (translate t)
+    → IfSome shelf.files
+    (λ files. Translated files t.game t.program t.style t.width shelf'.files)
 
 -- with 0, and with the statuses of a run that ends otherwise
 abbrev pub HasRun : ShelfView → (console console' : ConsoleView) → Option Request → (status : ℕ)
     → Type 0
 HasRun shelf console console' asked status =
-    (name : List ℕ) (source : DrawSource) (steps : ℕ) (width : Width)
-    → asked ≡ Some (run name source steps width)
+    (r : RunRequest) → asked ≡ Some (run r)
     → IfKnown shelf console
-    (λ files lines. Ran files lines name source steps width console console' status)
+    (λ files lines. Ran files lines r.program r.source r.steps r.width console console' status)
 
 -- where the program is faithful to a database, the lines are typed and the steps enough
 abbrev pub HasReplayed : ShelfView → (console console' : ConsoleView) → Option Request
     → (status : ℕ) → Type 0
 HasReplayed shelf console console' asked status =
-    (name : List ℕ) (source : DrawSource) (steps : ℕ) (width : Width) (style : Style)
-    (db : Database)
-    → asked ≡ Some (run name source steps width)
+    (r : RunRequest) (style : Style) (db : Database) → asked ≡ Some (run r)
     → IfKnown shelf console
-    (λ files lines. IsReplay files lines name steps width style db
-    → Replayed files lines source style db console console' status)
+    (λ files lines. IsReplay files lines r.program r.steps r.width style db
+    → Replayed files lines r.source style db console console' status)
 
 -- ---- counts of faults
 

@@ -10,10 +10,19 @@ use Rattle.translator.specs.FaultTexts as translator
 use Rattle.scott_tool.specs.declared.refusals.ContentFault.{ContentFault}
 use Rattle.scott_tool.specs.declared.refusals.ContentFault.TheVariants.{NoDatabase, NoSource, NoMeaning, NoDraws, NoProgram, NoTranslation}
 
--- the content of the file of this name has a fault
+-- what is wrong with a content: it is no database; no source of one, or no draws; no program that
+-- is accepted; or it has a number that is too wide
+pub data Flaw : Type 0 where
+  bad_database : Flaw
+  bad_text : Flaw
+  bad_program : Flaw
+  bad_width : Flaw
+
+-- the content of the file of this name is refused: what is wrong, and the words that are said of it
 pub record Unfit : Type 0 where
   pub name : List ℕ
-  pub fault : ContentFault
+  pub flaw : Flaw
+  pub words : List (List ℕ)
 
 -- the words are no request; a file can't be read, is longer than its limit, has a fault, or can't
 -- be written
@@ -31,19 +40,17 @@ refusing (Err u) = Err (unfit u)
 
 -- ---- statuses
 
-abbrev pub content_status : ContentFault → ℕ
-content_status (NoDatabase fault) = 4
-content_status (NoSource fault) = 5
-content_status (NoMeaning fault) = 5
-content_status (NoDraws fault) = 5
-content_status (NoProgram fault) = 6
-content_status (NoTranslation fault) = 7
+abbrev pub flaw_status : Flaw → ℕ
+flaw_status bad_database = 4
+flaw_status bad_text = 5
+flaw_status bad_program = 6
+flaw_status bad_width = 7
 
 abbrev pub status_of : Refusal → ℕ
 status_of no_request = 1
 status_of (unread name) = 2
 status_of (too_long name limit) = 11
-status_of (unfit u) = content_status u.fault
+status_of (unfit u) = flaw_status u.flaw
 status_of (unwritten name) = 2
 
 -- ---- lines, in pieces
@@ -71,14 +78,6 @@ bytes_end = codes " bytes\n"
 unfoldable pub line_end : List ℕ
 line_end = codes "\n"
 
-abbrev pub content_pieces : ContentFault → List (List ℕ)
-content_pieces (NoDatabase fault) = format.fault_pieces fault
-content_pieces (NoSource fault) = source.fault_pieces fault
-content_pieces (NoMeaning fault) = compiler.fault_pieces fault
-content_pieces (NoDraws fault) = draws.fault_pieces fault
-content_pieces (NoProgram fault) = program.fault_pieces fault
-content_pieces (NoTranslation fault) = translator.fault_pieces fault
-
 abbrev pub whole : List (List ℕ) → List ℕ
 whole pieces = flat_map (λ piece. piece) pieces
 
@@ -87,5 +86,27 @@ abbrev pub line_of : Refusal → List ℕ
 line_of no_request = usage
 line_of (unread name) = whole (cannot_read ∷ name ∷ line_end ∷ [])
 line_of (too_long name limit) = whole (name ∷ longer_than ∷ decimal limit ∷ bytes_end ∷ [])
-line_of (unfit u) = whole (u.name ∷ after_name ∷ (content_pieces u.fault ++ (line_end ∷ [])))
+line_of (unfit u) = whole (u.name ∷ after_name ∷ (u.words ++ (line_end ∷ [])))
 line_of (unwritten name) = whole (cannot_write ∷ name ∷ line_end ∷ [])
+
+-- ---- the faults that the readers of contents find
+
+abbrev pub flaw_of : ContentFault → Flaw
+flaw_of (NoDatabase fault) = bad_database
+flaw_of (NoSource fault) = bad_text
+flaw_of (NoMeaning fault) = bad_text
+flaw_of (NoDraws fault) = bad_text
+flaw_of (NoProgram fault) = bad_program
+flaw_of (NoTranslation fault) = bad_width
+
+abbrev pub content_pieces : ContentFault → List (List ℕ)
+content_pieces (NoDatabase fault) = format.fault_pieces fault
+content_pieces (NoSource fault) = source.fault_pieces fault
+content_pieces (NoMeaning fault) = compiler.fault_pieces fault
+content_pieces (NoDraws fault) = draws.fault_pieces fault
+content_pieces (NoProgram fault) = program.fault_pieces fault
+content_pieces (NoTranslation fault) = translator.fault_pieces fault
+
+-- the content of the file of this name has this fault
+abbrev pub unfit_by : List ℕ → ContentFault → Unfit
+unfit_by name fault = record { name = name; flaw = flaw_of fault; words = content_pieces fault }

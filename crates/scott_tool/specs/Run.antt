@@ -1,6 +1,7 @@
 -- `run G`: an Inform program is run on the console.
-use Rattle.std.specs.Prelude.{◌≡◌, ℕ, List, [], ◌∷◌, ◌++◌, Some, None, Result, Ok, Err, slice_get, option_map, unwrap_or, codes}
+use Rattle.std.specs.Prelude.{◌≡◌, ℕ, List, [], ◌∷◌, ◌++◌, Some, Result, Ok, Err, slice_get, option_map, unwrap_or, codes}
 use Rattle.std.specs.FinMap.{get}
+use Rattle.adv_io.specs.declared.events.Event.{Event}
 use Rattle.adv_io.specs.Console.{ConsoleView}
 use Rattle.adv_io.specs.History.{says, grown, shown}
 use Rattle.adv_io.specs.Shelf.{Files}
@@ -17,8 +18,7 @@ use Rattle.inform_meaning.specs.Worlds as w
 use Rattle.inform_reader.specs.Reading.{Fault, IsProgram, program_in}
 use Rattle.inform_reader.specs.Views.{fault_answer}
 use Rattle.scott_requests.specs.Settings.{DrawSource}
-use Rattle.scott_tool.specs.Refusal.{Unfit, whole}
-use Rattle.scott_tool.specs.Outcome.{Outcome}
+use Rattle.scott_tool.specs.Refusal.{Unfit, unfit_by, whole}
 use Rattle.scott_tool.specs.Play.{DrawsAre}
 use Rattle.scott_tool.specs.declared.refusals.ContentFault.TheVariants.{NoProgram}
 
@@ -28,7 +28,7 @@ abbrev pub program_or_unfit : List ℕ → Result (List DirectiveTree) Fault
     → Result (List DirectiveTree) Unfit
 program_or_unfit name (Ok p) = Ok p
 program_or_unfit name (Err fault) =
-    Err (record { name = name; fault = NoProgram (fault_answer fault) })
+    Err (unfit_by name (NoProgram (fault_answer fault)))
 
 abbrev pub program_of_file : Width → List ℕ → List ℕ → Result (List DirectiveTree) Unfit
 program_of_file width name bytes = program_or_unfit name (program_in width bytes)
@@ -85,13 +85,8 @@ stop_line p (Lacking f.NeedsDraw) = []
 stop_line p (Lacking f.Spent) = steps_spent
 
 -- what is seen of a run: what it says and takes, and then its line
-abbrev pub run_outcome : List DirectiveTree → f.Outcome × w.Config → Outcome
-run_outcome p r =
-    record {
-      status = stop_status (stop_of r.0);
-      events = shown (trace_of r.1.past) ++ says (stop_line p (stop_of r.0));
-      stored = None;
-    }
+abbrev pub run_events : List DirectiveTree → f.Outcome × w.Config → List Event
+run_events p r = shown (trace_of r.1.past) ++ says (stop_line p (stop_of r.0))
 
 -- What status 0, 8 or 10 means: the file is a text of a program that is accepted, and the console
 -- saw what its run says and takes, with these lines and its draws; and the status and the last line
@@ -106,4 +101,4 @@ pub record Ran (files : Files) (lines : List (List ℕ)) (name : List ℕ) (sour
   pub draws_are : DrawsAre files source draws
   pub ends : status ≡ stop_status (stop_after width program steps lines draws)
   pub seen : new.history
-      ≡ grown old.history (run_outcome program (ran width program steps lines draws)).events
+      ≡ grown old.history (run_events program (ran width program steps lines draws))

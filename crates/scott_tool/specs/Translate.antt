@@ -9,14 +9,14 @@ use Rattle.scott_types.specs.Database.{Database}
 use Rattle.trans_rows.specs.Wide.{Placed, wide_at}
 use Rattle.translator.specs.declared.faults.TransFault.TheVariants.{Wide}
 use Rattle.translator.specs.Faithful.{Faithful}
-use Rattle.scott_tool.specs.Refusal.{Unfit}
+use Rattle.scott_tool.specs.Refusal.{Unfit, unfit_by}
 use Rattle.scott_tool.specs.declared.refusals.ContentFault.TheVariants.{NoTranslation}
 
 -- a database that can be translated, or why the file that has it is refused
 abbrev pub translatable_or_unfit : List ℕ → Database → Option Placed → Result Database Unfit
 translatable_or_unfit name db None = Ok db
 translatable_or_unfit name db (Some placed) =
-    Err (record { name = name; fault = NoTranslation (Wide placed.0 placed.1) })
+    Err (unfit_by name (NoTranslation (Wide placed.0 placed.1)))
 
 -- a number that is too wide for words of this width is refused
 abbrev pub translatable : List ℕ → Width → Database → Result Database Unfit

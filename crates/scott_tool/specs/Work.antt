@@ -1,105 +1,114 @@
--- What a request asks for: a task, or the first refusal in the order of the steps.
-use Rattle.std.specs.Prelude.{◌≡◌, ℕ, List, [], ◌∷◌, Option, Some, None, Result, Ok, Err}
-use Rattle.adv_check.specs.Report.{report_text}
-use Rattle.adv_decompiler.specs.Plain.{plain}
+-- Tasks: what is done for a request, once all that it reads is accepted.
+use Rattle.std.specs.Prelude.{◌≡◌, ℕ, List, [], ◌∷◌, Option, Some, None, option_map}
+use Rattle.adv_io.specs.declared.events.Event.{Event}
 use Rattle.adv_io.specs.History.{says, shown}
-use Rattle.adv_io.specs.Shelf.{Files}
-use Rattle.scott_format.specs.Canon.{canon}
-use Rattle.scott_requests.specs.Request.{Request, check, compile, decompile, play, translate, run}
-use Rattle.scott_rules.specs.Play as rules
 use Rattle.adv_io.specs.Steps.{trace_of}
+use Rattle.inform_tree.specs.declared.widths.Width.{Width}
+use Rattle.inform_tree.specs.Programs.{DirectiveTree}
+use Rattle.scott_rules.specs.Play as rules
 use Rattle.scott_types.specs.declared.styles.Style.{Style}
 use Rattle.scott_types.specs.Database.{Database}
 use Rattle.scott_types.specs.Style.{in_style}
-use Rattle.scott_tool.specs.Steps.{◌>>=◌}
-use Rattle.scott_tool.specs.Refusal.{Refusal, Unfit, no_request, refusing, status_of}
-use Rattle.scott_tool.specs.Outcome.{Outcome, done, keeping, refused}
-use Rattle.scott_tool.specs.Loading.{Texts, texts_of}
-use Rattle.scott_tool.specs.Check.{database_of_file}
-use Rattle.scott_tool.specs.Compile.{compiled_from}
-use Rattle.scott_tool.specs.Play.{draws_from}
-use Rattle.scott_tool.specs.Translate.{translatable}
-use Rattle.scott_tool.specs.Run.{program_of_file, ran, run_outcome}
+use Rattle.scott_tool.specs.Outcome.{File, Outcome, done, keeping}
+use Rattle.scott_tool.specs.Run.{ran, stop_after, stop_status, run_events}
 use Rattle.translator.specs.Faithful.{Faithful}
-use Rattle.inform_tree.specs.declared.widths.Width.{Width}
-use Rattle.inform_tree.specs.Programs.{DirectiveTree}
 
--- a database is to be reported on, bytes are to be stored under a name, a database is to be played
--- in this style with these draws, a program that is faithful to a database in this style is to be
--- stored under a name, for words of this width, or a program to be run with these draws for so many
--- steps at most, with words of this width
+-- bytes that are said or stored: these alone; or the text of a program that is faithful to a
+-- database in this style, for words of this width
+pub data Text : Type 0 where
+  exactly : List ℕ → Text
+  translation : Style → Width → Database → Text
+
+abbrev pub IsText : Text → List ℕ → Type 0
+IsText (exactly bytes) out = out ≡ bytes
+IsText (translation style width db) out = Faithful style width db None out
+
+-- What a console sees, by the lines that are left: all events; those that are there where memory
+-- runs out after them; and the statuses, besides those of what is done and of a console that
+-- failed, with which it may have seen some.
+pub record Show : Type 0 where
+  pub events : List (List ℕ) → List Event
+  pub starved : List (List ℕ) → List Event
+  pub late : List ℕ
+
+-- these events, after which no memory is wanted
+abbrev pub showing : (List (List ℕ) → List Event) → Show
+showing events = record { events = events; starved = λ lines. []; late = [] }
+
+-- a file that is stored after the console's work: its name, and its bytes by the lines, if it is
+-- stored
+pub record Save : Type 0 where
+  pub name : List ℕ
+  pub text : List (List ℕ) → Option (List ℕ)
+
+abbrev pub saved : Option Save → List (List ℕ) → Option File
+saved None lines = None
+saved (Some save) lines =
+    option_map (λ bytes. record { name = save.name; bytes = bytes }) (save.text lines)
+
+-- A text is said; a text is stored under a name; a program is run, which by the lines that are left
+-- ends with a status; or a database is played, and a file may be stored after that.
 pub data Task : Type 0 where
-  reporting : Database → Task
-  storing : List ℕ → List ℕ → Task
-  playing : Style → Database → List ℕ → Task
-  translating : List ℕ → Style → Width → Database → Task
-  running : Width → List DirectiveTree → List ℕ → ℕ → Task
+  saying : Text → Task
+  storing : List ℕ → Text → Task
+  running : (List (List ℕ) → ℕ) → Show → Task
+  playing : Show → Option Save → Task
+
+-- what is seen and stored of it
+abbrev pub shown_as : Show → (status : ℕ) → Option File → List (List ℕ) → Outcome
+shown_as show status file lines =
+    record {
+      status = status;
+      events = show.events lines;
+      starved = show.starved lines;
+      stored = file;
+    }
 
 -- what a task does, by the lines that are left
 abbrev pub Does : Task → List (List ℕ) → Outcome → Type 0
-Does (reporting db) lines o = o ≡ done (says (report_text db))
-Does (storing name bytes) lines o = o ≡ keeping name bytes
-Does (playing style db draws) lines o =
-    o ≡ done (shown (trace_of (rules.play (in_style style db) lines draws).events))
-Does (translating name style width db) lines o =
-    (out : List ℕ) × Faithful style width db None out × (o ≡ keeping name out)
-Does (running width p draws steps) lines o = o ≡ run_outcome p (ran width p steps lines draws)
+Does (saying text) lines o = (out : List ℕ) × IsText text out × (o ≡ done (says out))
+Does (storing name text) lines o = (out : List ℕ) × IsText text out × (o ≡ keeping name out)
+Does (running status show) lines o = o ≡ shown_as show (status lines) None lines
+Does (playing show save) lines o = o ≡ shown_as show 0 (saved save lines) lines
+
+-- the status with which it ends, by these lines
+abbrev pub status_with : Task → List (List ℕ) → ℕ
+status_with (saying text) lines = 0
+status_with (storing name text) lines = 0
+status_with (running status show) lines = status lines
+status_with (playing show save) lines = 0
 
 -- the statuses with which it can end
 abbrev pub task_statuses : Task → List ℕ
-task_statuses (reporting db) = 0 ∷ []
-task_statuses (storing name bytes) = 0 ∷ []
-task_statuses (playing style db draws) = 0 ∷ []
-task_statuses (translating name style width db) = 0 ∷ []
-task_statuses (running width p draws steps) = 0 ∷ 8 ∷ 10 ∷ []
+task_statuses (saying text) = 0 ∷ []
+task_statuses (storing name text) = 0 ∷ []
+task_statuses (running status show) = 0 ∷ 8 ∷ 10 ∷ []
+task_statuses (playing show save) = 0 ∷ []
 
--- a database is to be played in this style with these draws, where they are accepted
-abbrev pub playing_from : Style → Database → Result (List ℕ) Unfit → Result Task Unfit
-playing_from style db drawn = do
-  draws ← drawn
-  Ok (playing style db draws)
+-- the name under which it stores a file
+abbrev pub stored_by : Task → Option (List ℕ)
+stored_by (saying text) = None
+stored_by (storing name text) = Some name
+stored_by (running status show) = None
+stored_by (playing show save) = option_map (λ s. s.name) save
 
--- a program is to be run for words of this width and so many steps at most, with these draws, where
--- they are accepted
-abbrev pub running_from : Width → List DirectiveTree → ℕ → Result (List ℕ) Unfit → Result Task Unfit
-running_from width p steps drawn = do
-  draws ← drawn
-  Ok (running width p draws steps)
+-- the other statuses with which a console may have worked for it
+abbrev pub late_of : Task → List ℕ
+late_of (saying text) = []
+late_of (storing name text) = []
+late_of (running status show) = show.late
+late_of (playing show save) = show.late
 
--- The task of a request, by what was loaded; or the first content that is refused, the database
--- before the draws.
-abbrev pub work : Request → Texts → Result Task Unfit
-work (check game) texts = do
-  db ← database_of_file game texts.main
-  Ok (reporting db)
-work (compile source game) texts = do
-  db ← compiled_from source texts.main
-  Ok (storing game (canon db))
-work (decompile game source) texts = do
-  db ← database_of_file game texts.main
-  Ok (storing source (plain db))
-work (play game source style) texts = do
-  db ← database_of_file game texts.main
-  playing_from style db (draws_from source texts.draws)
-work (translate game program style width) texts = do
-  db ← database_of_file game texts.main
-  fit ← translatable game width db
-  Ok (translating program style width fit)
-work (run program source steps width) texts = do
-  p ← program_of_file width program texts.main
-  running_from width p steps (draws_from source texts.draws)
+-- ---- what is played and what is run
 
--- ---- what is expected of the words, by the files that there are
+-- a database in this style with these draws
+abbrev pub play_task : Style → Database → List ℕ → Task
+play_task style db draws =
+    playing
+    (showing (λ lines. shown (trace_of (rules.play (in_style style db) lines draws).events))) None
 
--- All files are loaded before any is read.
-abbrev pub expected : Files → Option Request → Result Task Refusal
-expected files None = Err no_request
-expected files (Some request) = texts_of files request >>= λ texts. refusing (work request texts)
-
-abbrev pub statuses_of : Result Task Refusal → List ℕ
-statuses_of (Ok task) = task_statuses task
-statuses_of (Err refusal) = status_of refusal ∷ []
-
-abbrev pub IsExpected : Result Task Refusal → List (List ℕ) → Outcome → Type 0
-IsExpected (Ok task) lines o = Does task lines o
-IsExpected (Err refusal) lines o = o ≡ refused refusal
+-- a program for words of this width and so many steps at most, with these draws
+abbrev pub run_task : Width → List DirectiveTree → ℕ → List ℕ → Task
+run_task width p steps draws =
+    running (λ lines. stop_status (stop_after width p steps lines draws))
+    (showing (λ lines. run_events p (ran width p steps lines draws)))

@@ -1,8 +1,8 @@
 //! The commands, each on what was loaded for it.
 ghost use Rattle.scott_requests.specs.Views.{request_of};
 ghost use Rattle.scott_tool.specs.Refusal.{refusing};
-ghost use Rattle.scott_tool.specs.Work.{work};
-ghost use Rattle.scott_tool.specs.Views.{texts_in};
+ghost use Rattle.scott_tool.specs.Plan.{work};
+ghost use Rattle.scott_tool.specs.Views.{texts_in, number_of};
 ghost use Rattle.scott_tool.specs.Obeying.{Obeys, MainFits};
 
 mod check;
@@ -15,15 +15,18 @@ mod storing;
 mod translate;
 
 use crate::loads::Texts;
+use crate::status::Status;
 use adv_io::{Console, Shelf};
-use check::check;
-use compile::compile;
-use decompile::decompile;
+use check::report_on;
+use compile::database_text;
+use decompile::source_text;
 use play::play;
 use run::run;
+use saying::say_made;
 use scott_requests::Request;
 use std::alloc::Global;
-use translate::translate;
+use storing::store_made;
+use translate::program_text;
 
 /// Does what was asked for.
 pub fn work<S: Shelf, C: Console>(
@@ -32,21 +35,26 @@ pub fn work<S: Shelf, C: Console>(
     texts: &Texts,
     shelf: &mut S,
     console: &mut C,
-) -> u8
+) -> Status
     requires { MainFits (request_of request) (texts_in texts.now) }
     ensures { Obeys (S.seen shelf.old) (S.seen shelf.new) (C.seen console.old) (C.seen console.new)
-        (refusing (work (request_of request.entry) (texts_in texts.now))) result }
+        (refusing (work (request_of request.entry) (texts_in texts.now))) (number_of result) }
 {
     match request {
-        Request::Check(game) => check(alloc, game, texts, console),
-        Request::Compile(source, game) => compile(alloc, source, game, texts, shelf, console),
-        Request::Decompile(game, source) => decompile(alloc, game, source, texts, shelf, console),
-        Request::Play(game, source, style) => play(alloc, game, source, style, texts, console),
-        Request::Translate(game, program, style, width) => {
-            translate(alloc, game, program, style, width, texts, shelf, console)
+        Request::Check(game) => say_made(report_on(alloc, game, texts), console),
+        Request::Compile(source, game) => {
+            let made = database_text(alloc, source, game, texts);
+            store_made(alloc, game, made, shelf, console)
         }
-        Request::Run(program, source, steps, width) => {
-            run(alloc, program, source, steps, width, texts, console)
+        Request::Decompile(game, source) => {
+            let made = source_text(alloc, game, source, texts);
+            store_made(alloc, source, made, shelf, console)
         }
+        Request::Play(asked) => play(alloc, asked, texts, console),
+        Request::Translate(asked) => {
+            let made = program_text(alloc, asked, texts);
+            store_made(alloc, asked.program, made, shelf, console)
+        }
+        Request::Run(asked) => run(alloc, asked, texts, console),
     }
 }

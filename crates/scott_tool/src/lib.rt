@@ -2,11 +2,12 @@
 //! status tells how it ended.
 #![tactic(auto)]
 
-// What is loaded, what it holds, and why it is refused.
+// What is loaded, what it holds, why it is refused, and the statuses.
 mod contents;
 mod loads;
 mod refusal_texts;
 mod refusals;
+mod status;
 
 // What each command does.
 mod commands;

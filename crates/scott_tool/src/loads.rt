@@ -1,5 +1,5 @@
 //! The files that a request loads, before any of them is read.
-ghost use Rattle.std.specs.Prelude.{◌≡◌, ◌≤◌, [], length, option_map, IfOk, IfSome};
+ghost use Rattle.std.specs.Prelude.{◌≡◌, ◌≤◌, [], length, None, Some, option_map, IfOk, IfSome};
 ghost use Rattle.adv_io.specs.Shelf.{Files};
 ghost use Rattle.scott_requests.specs.Views.{request_of, source_of};
 ghost use Rattle.scott_tool.specs.Loading.{database_load, source_load, program_load, main_of, draws_of, draws_load, IsLoad, loaded, texts_of};
@@ -72,31 +72,42 @@ fn draws_load(source: DrawSource<'_>) -> Option<Load<'_>>
     }
 }
 
-// The file that a request is about.
-fn main_of(request: Request<'_>) -> Option<Load<'_>>
-    ensures { option_map load_of result ≡ main_of (request_of request.entry) }
+// What a request loads: its main file, and then its draws.
+#[derive(Clone, Copy)]
+struct Loads<'a> {
+    main: Option<Load<'a>>,
+    draws: Option<Load<'a>>,
+}
+
+// No file but the main one.
+fn only(load: Load<'_>) -> Loads<'_>
+    ensures main { option_map load_of result.main ≡ Some (load_of load.entry) }
+    ensures draws { option_map load_of result.draws ≡ None }
 {
-    match request {
-        Request::Check(game) => Some(database_load(game)),
-        Request::Compile(source, _) => Some(source_load(source)),
-        Request::Decompile(game, _) => Some(database_load(game)),
-        Request::Play(game, _, _) => Some(database_load(game)),
-        Request::Translate(game, _, _, _) => Some(database_load(game)),
-        Request::Run(program, _, _, _) => Some(program_load(program)),
+    Loads {
+        main: Some(load),
+        draws: None,
     }
 }
 
-// The file of draws.
-fn draws_of(request: Request<'_>) -> Option<Load<'_>>
-    ensures { option_map load_of result ≡ draws_of (request_of request.entry) }
+// What a request loads.
+fn loads_of(request: Request<'_>) -> Loads<'_>
+    ensures main { option_map load_of result.main ≡ main_of (request_of request.entry) }
+    ensures draws { option_map load_of result.draws ≡ draws_of (request_of request.entry) }
 {
     match request {
-        Request::Check(_) => None,
-        Request::Compile(_, _) => None,
-        Request::Decompile(_, _) => None,
-        Request::Play(_, source, _) => draws_load(source),
-        Request::Translate(_, _, _, _) => None,
-        Request::Run(_, source, _, _) => draws_load(source),
+        Request::Check(game) => only(database_load(game)),
+        Request::Compile(source, _) => only(source_load(source)),
+        Request::Decompile(game, _) => only(database_load(game)),
+        Request::Play(play) => Loads {
+            main: Some(database_load(play.game)),
+            draws: draws_load(play.source),
+        },
+        Request::Translate(translation) => only(database_load(translation.game)),
+        Request::Run(run) => Loads {
+            main: Some(program_load(run.program)),
+            draws: draws_load(run.source),
+        },
     }
 }
 
@@ -149,7 +160,8 @@ pub fn load_texts<'a, S: Shelf>(
         (λ files. texts_of files (request_of request.entry)) result }
     ensures fits { IfOk result (λ texts. MainFits (request_of request.entry) (texts_in texts)) }
 {
-    let main = load_any(alloc, main_of(request), shelf)?;
-    let draws = load_any(alloc, draws_of(request), shelf)?;
+    let loads = loads_of(request);
+    let main = load_any(alloc, loads.main, shelf)?;
+    let draws = load_any(alloc, loads.draws, shelf)?;
     Ok(Texts { main, draws })
 }

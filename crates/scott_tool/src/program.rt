@@ -1,14 +1,16 @@
 //! The program's one call.
-ghost use Rattle.std.specs.Prelude.{◌≡◌, ◌⊎◌, Some};
+ghost use Rattle.std.specs.Prelude.{◌≡◌, Some};
 ghost use Rattle.scott_requests.specs.Request.{asked_by};
 ghost use Rattle.scott_requests.specs.Views.{request_of};
 ghost use Rattle.scott_tool.specs.Laws.{Laws};
+ghost use Rattle.scott_tool.specs.Views.{number_of};
 ghost use Rattle.scott_tool.specs.Obeying.{Handled};
-ghost use Rattle.scott_tool.specs.Promises.{HasStatus, IsSeen, KeepsFiles, Completes, HasChecked, HasCompiled, HasDecompiled, HasPlayed, HasTranslated, HasRun, HasReplayed, Counts};
+ghost use Rattle.scott_tool.specs.Promises.{HasStatus, IsSeen, KeepsFiles, Completes, IsEnd, HasDone, HasChecked, HasCompiled, HasDecompiled, HasPlayed, HasTranslated, HasRun, HasReplayed, Counts};
 
 use crate::commands::work;
 use crate::loads::load_texts;
 use crate::refusals::Refusal;
+use crate::status::Status;
 use adv_io::{Console, Shelf};
 use inform_reader::laws::{fault_in as program_fault_in, program_in};
 use scott_format::laws::{database_in, fault_in};
@@ -22,9 +24,9 @@ fn obey<S: Shelf, C: Console>(
     request: Request<'_>,
     shelf: &mut S,
     console: &mut C,
-) -> u8
-    ensures { Handled (S.seen shelf.old) (S.seen shelf.new)
-        (C.seen console.old) (C.seen console.new) (Some (request_of request.entry)) result }
+) -> Status
+    ensures { Handled (S.seen shelf.old) (S.seen shelf.new) (C.seen console.old)
+        (C.seen console.new) (Some (request_of request.entry)) (number_of result) }
 {
     match load_texts(alloc, request, shelf) {
         Ok(texts) => work(alloc, request, &texts, shelf, console),
@@ -33,6 +35,22 @@ fn obey<S: Shelf, C: Console>(
 }
 
 // Does what the words ask for.
+fn answer<S: Shelf, C: Console>(
+    alloc: Global,
+    words: &[String],
+    shelf: &mut S,
+    console: &mut C,
+) -> Status
+    ensures { Handled (S.seen shelf.old) (S.seen shelf.new)
+        (C.seen console.old) (C.seen console.new) (asked_by words.now) (number_of result) }
+{
+    match request_in(words) {
+        Some(request) => obey(alloc, request, shelf, console),
+        None => Refusal::NoRequest.end(console),
+    }
+}
+
+// The same, with the number of the status.
 fn handle<S: Shelf, C: Console>(
     alloc: Global,
     words: &[String],
@@ -42,10 +60,7 @@ fn handle<S: Shelf, C: Console>(
     ensures { Handled (S.seen shelf.old) (S.seen shelf.new)
         (C.seen console.old) (C.seen console.new) (asked_by words.now) result }
 {
-    match request_in(words) {
-        Some(request) => obey(alloc, request, shelf, console),
-        None => Refusal::NoRequest.end(console),
-    }
+    answer(alloc, words, shelf, console).number()
 }
 
 // What is known of reading files.
@@ -86,6 +101,12 @@ pub fn scott<S: Shelf, C: Console>(
     ensures complete { Completes (S.seen shelf.old) (S.seen shelf.new)
         (C.seen console.old) (C.seen console.new) (asked_by words.now) result }
 
+    // With 0, and with 8 and 10 of a run, each content of the request was what it should be, and
+    // its task was done: the console saw it, and its file is stored. The next clauses say what this
+    // means for each command.
+    ensures done { IsEnd result → HasDone (S.seen shelf.old) (S.seen shelf.new)
+        (C.seen console.old) (C.seen console.new) (asked_by words.now) result }
+
     // With 0 `check` has said the report on the file's database.
     ensures checked { result ≡ 0 → HasChecked (S.seen shelf.old)
         (C.seen console.old) (C.seen console.new) (asked_by words.now) }
@@ -108,7 +129,7 @@ pub fn scott<S: Shelf, C: Console>(
         (asked_by words.now) }
 
     // With 0, 8 and 10 `run` has shown the run of the file's program, and then its line.
-    ensures ran { (result ≡ 0) ⊎ (result ≡ 8) ⊎ (result ≡ 10) → HasRun (S.seen shelf.old)
+    ensures ran { IsEnd result → HasRun (S.seen shelf.old)
         (C.seen console.old) (C.seen console.new) (asked_by words.now) result }
 
     // The run of a program that is faithful to a database, as `translate` stores it, on typed lines

@@ -3,11 +3,13 @@ ghost use Rattle.std.specs.Prelude.{◌≡◌, ◌≤◌, [], ◌∷◌, ◌++�
 ghost use Rattle.adv_io.specs.History.{says};
 ghost use Rattle.adv_io.specs.Console.{Speaks};
 ghost use Rattle.scott_tool.specs.declared.refusals.ContentFault.TheVariants.{NoDatabase, NoSource, NoMeaning, NoDraws, NoProgram, NoTranslation};
-ghost use Rattle.scott_tool.specs.Refusal.{no_request, unread, too_long, unfit, unwritten, content_status, whole, after_name, line_end, line_of};
+ghost use Rattle.scott_tool.specs.Views.{number_of};
+ghost use Rattle.scott_tool.specs.Refusal.{no_request, unread, too_long, unfit, unfit_by, unwritten, whole, after_name, line_end, line_of};
 
 use crate::refusal_texts::{
     after_name, bytes_end, cannot_read, cannot_write, line_end, longer_than, usage,
 };
+use crate::status::Status;
 use adv_compiler::CompileFault;
 use adv_draws::DrawFault;
 use adv_io::{Console, ConsoleFault, say_all};
@@ -79,7 +81,7 @@ fn say_no_database<C: Console>(
     console: &mut C,
 ) -> Result<(), ConsoleFault>
     ensures { Speaks (C.seen console.old) (C.seen console.new) result
-        (says (line_of (unfit (record { name = name.now; fault = NoDatabase fault })))) }
+        (says (line_of (unfit (unfit_by name.now (NoDatabase fault))))) }
 {
     let mut digits = Buffer::new();
     let [opening, number, closing] = fault.pieces(&mut digits);
@@ -102,7 +104,7 @@ fn say_no_source<C: Console>(
     console: &mut C,
 ) -> Result<(), ConsoleFault>
     ensures { Speaks (C.seen console.old) (C.seen console.new) result
-        (says (line_of (unfit (record { name = name.now; fault = NoSource fault })))) }
+        (says (line_of (unfit (unfit_by name.now (NoSource fault))))) }
 {
     let mut digits = Buffer::new();
     let [opening, place] = fault.pieces(&mut digits);
@@ -118,7 +120,7 @@ fn say_no_meaning<C: Console>(
     console: &mut C,
 ) -> Result<(), ConsoleFault>
     ensures { Speaks (C.seen console.old) (C.seen console.new) result
-        (says (line_of (unfit (record { name = name.now; fault = NoMeaning fault })))) }
+        (says (line_of (unfit (unfit_by name.now (NoMeaning fault))))) }
 {
     let mut number_digits = Buffer::new();
     let mut place_digits = Buffer::new();
@@ -150,7 +152,7 @@ fn say_no_draws<C: Console>(
     console: &mut C,
 ) -> Result<(), ConsoleFault>
     ensures { Speaks (C.seen console.old) (C.seen console.new) result
-        (says (line_of (unfit (record { name = name.now; fault = NoDraws fault })))) }
+        (says (line_of (unfit (unfit_by name.now (NoDraws fault))))) }
 {
     let mut digits = Buffer::new();
     let [opening, number] = fault.pieces(&mut digits);
@@ -190,7 +192,7 @@ fn say_no_program<C: Console>(
     console: &mut C,
 ) -> Result<(), ConsoleFault>
     ensures { Speaks (C.seen console.old) (C.seen console.new) result
-        (says (line_of (unfit (record { name = name.now; fault = NoProgram fault.now })))) }
+        (says (line_of (unfit (unfit_by name.now (NoProgram fault.now))))) }
 {
     let mut digits = Buffer::new();
     say_pieces(name, fault.pieces(&mut digits), console)
@@ -202,7 +204,7 @@ fn say_no_translation<C: Console>(
     console: &mut C,
 ) -> Result<(), ConsoleFault>
     ensures { Speaks (C.seen console.old) (C.seen console.new) result
-        (says (line_of (unfit (record { name = name.now; fault = NoTranslation fault })))) }
+        (says (line_of (unfit (unfit_by name.now (NoTranslation fault))))) }
 {
     let mut line_digits = Buffer::new();
     let mut part_digits = Buffer::new();
@@ -228,36 +230,38 @@ fn say_no_translation<C: Console>(
 }
 
 /// The status after something that was said: this one, or 3 where the console failed.
-pub fn concluded(said: Result<(), ConsoleFault>, status: u8) -> u8
-    ensures { MatchResult said (λ _. result ≡ status) (λ _. result ≡ 3) }
+pub fn concluded(said: Result<(), ConsoleFault>, status: Status) -> Status
+    ensures { MatchResult said (λ _. number_of result ≡ number_of status)
+        (λ _. number_of result ≡ 3) }
 {
     match said {
         Ok(()) => status,
-        Err(_) => 3,
+        Err(_) => Status::ConsoleFailed,
     }
 }
 
 impl ContentFault {
-    ghost use Rattle.scott_tool.specs.Refusal.{content_status, unfit, line_of};
+    ghost use Rattle.scott_tool.specs.Views.{number_of};
+    ghost use Rattle.scott_tool.specs.Refusal.{flaw_of, flaw_status, unfit, unfit_by, line_of};
 
     // The status of a request that reads such a content.
-    fn status(&self) -> u8
-        ensures { result ≡ content_status self.now }
+    fn status(&self) -> Status
+        ensures { number_of result ≡ flaw_status (flaw_of self.now) }
     {
         match self {
-            ContentFault::NoDatabase(_) => 4,
-            ContentFault::NoSource(_) => 5,
-            ContentFault::NoMeaning(_) => 5,
-            ContentFault::NoDraws(_) => 5,
-            ContentFault::NoProgram(_) => 6,
-            ContentFault::NoTranslation(_) => 7,
+            ContentFault::NoDatabase(_) => Status::NoDatabase,
+            ContentFault::NoSource(_) => Status::NoText,
+            ContentFault::NoMeaning(_) => Status::NoText,
+            ContentFault::NoDraws(_) => Status::NoText,
+            ContentFault::NoProgram(_) => Status::NoProgram,
+            ContentFault::NoTranslation(_) => Status::TooWide,
         }
     }
 
     // Says it of the file of this name.
     fn say<C: Console>(&self, name: &str, console: &mut C) -> Result<(), ConsoleFault>
         ensures { Speaks (C.seen console.old) (C.seen console.new) result
-            (says (line_of (unfit (record { name = name.now; fault = self.now })))) }
+            (says (line_of (unfit (unfit_by name.now self.now)))) }
     {
         match self {
             ContentFault::NoDatabase(fault) => say_no_database(name, *fault, console),
@@ -271,20 +275,27 @@ impl ContentFault {
 }
 
 impl<'a> Refusal<'a> {
-    ghost use Rattle.scott_tool.specs.Views.{refusal_of};
+    ghost use Rattle.scott_tool.specs.Views.{refusal_of, number_of};
     ghost use Rattle.scott_tool.specs.Obeying.{Refuses};
 
     /// Says why, if there is something to say, and answers the status.
-    pub fn end<C: Console>(self, console: &mut C) -> u8
-        ensures { Refuses (C.seen console.old) (C.seen console.new) (refusal_of self.entry) result }
+    pub fn end<C: Console>(self, console: &mut C) -> Status
+        ensures { Refuses (C.seen console.old) (C.seen console.new) (refusal_of self.entry)
+            (number_of result) }
     {
         match self {
-            Refusal::NoRequest => concluded(say_usage(console), 1),
-            Refusal::Unread(name) => concluded(say_unread(name, console), 2),
-            Refusal::TooLong(name, limit) => concluded(say_too_long(name, limit, console), 11),
+            Refusal::NoRequest => concluded(say_usage(console), Status::NoRequest),
+            Refusal::Unread(name) => concluded(say_unread(name, console), Status::ShelfFailed),
+            Refusal::TooLong(name, limit) => concluded(
+                say_too_long(name, limit, console),
+                Status::TooLong,
+            ),
             Refusal::Unfit(name, fault) => concluded(fault.say(name, console), fault.status()),
-            Refusal::Unwritten(name) => concluded(say_unwritten(name, console), 2),
-            Refusal::Memory => 9,
+            Refusal::Unwritten(name) => concluded(
+                say_unwritten(name, console),
+                Status::ShelfFailed,
+            ),
+            Refusal::Memory => Status::NoMemory,
         }
     }
 }

@@ -1,22 +1,19 @@
 //! `check F`: the report on a database is said.
 ghost use Rattle.std.specs.Prelude.{◌≤◌, length};
 ghost use Rattle.scott_requests.specs.Request.{check};
-ghost use Rattle.scott_tool.specs.Refusal.{refusing};
-ghost use Rattle.scott_tool.specs.Work.{work};
+ghost use Rattle.scott_tool.specs.Plan.{work};
 ghost use Rattle.scott_tool.specs.Views.{texts_in};
-ghost use Rattle.scott_tool.specs.Obeying.{Makes, ObeysAlone};
+ghost use Rattle.scott_tool.specs.Obeying.{Makes};
 
-use super::saying::say_made;
 use crate::contents::database;
 use crate::loads::Texts;
 use crate::refusals::Refusal;
 use adv_check::report;
-use adv_io::Console;
 use scott_format::DATABASE_LIMIT;
 use std::alloc::Global;
 
-// The report on a database.
-fn report_on<'a>(alloc: Global, game: &'a str, texts: &Texts) -> Result<Vec<u8>, Refusal<'a>>
+/// The report on a database.
+pub fn report_on<'a>(alloc: Global, game: &'a str, texts: &Texts) -> Result<Vec<u8>, Refusal<'a>>
     requires { length texts.now.main.items ≤ DATABASE_LIMIT }
     ensures { Makes result (work (check game.now) (texts_in texts.now)) }
 {
@@ -25,13 +22,4 @@ fn report_on<'a>(alloc: Global, game: &'a str, texts: &Texts) -> Result<Vec<u8>,
         Ok(text) => Ok(text),
         Err(_) => Err(Refusal::Memory),
     }
-}
-
-/// Says the report on a database.
-pub fn check<C: Console>(alloc: Global, game: &str, texts: &Texts, console: &mut C) -> u8
-    requires { length texts.now.main.items ≤ DATABASE_LIMIT }
-    ensures { ObeysAlone (C.seen console.old) (C.seen console.new)
-        (refusing (work (check game.now) (texts_in texts.now))) result }
-{
-    say_made(report_on(alloc, game, texts), console)
 }

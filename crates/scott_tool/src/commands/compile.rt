@@ -1,21 +1,18 @@
 //! `compile S F`: the database that a source means is stored.
 ghost use Rattle.scott_requests.specs.Request.{compile};
-ghost use Rattle.scott_tool.specs.Refusal.{refusing};
-ghost use Rattle.scott_tool.specs.Work.{work};
+ghost use Rattle.scott_tool.specs.Plan.{work};
 ghost use Rattle.scott_tool.specs.Views.{texts_in};
-ghost use Rattle.scott_tool.specs.Obeying.{MakesFile, Obeys};
+ghost use Rattle.scott_tool.specs.Obeying.{MakesFile};
 
-use super::storing::store_made;
 use crate::contents::compiled;
 use crate::loads::Texts;
 use crate::refusals::Refusal;
-use adv_io::{Console, Shelf};
 use scott_format::write_db;
 use std::alloc::Global;
 use std::mem::forget;
 
-// The text of the database that a source means. It is stored under the second name.
-fn database_text<'a>(
+/// The text of the database that a source means. It is stored under the second name.
+pub fn database_text<'a>(
     alloc: Global,
     source: &'a str,
     game: &str,
@@ -31,20 +28,4 @@ fn database_text<'a>(
         Ok(text) => Ok(text),
         Err(_) => Err(Refusal::Memory),
     }
-}
-
-/// Stores the database that a source means.
-pub fn compile<S: Shelf, C: Console>(
-    alloc: Global,
-    source: &str,
-    game: &str,
-    texts: &Texts,
-    shelf: &mut S,
-    console: &mut C,
-) -> u8
-    ensures { Obeys (S.seen shelf.old) (S.seen shelf.new) (C.seen console.old) (C.seen console.new)
-        (refusing (work (compile source.now game.now) (texts_in texts.now))) result }
-{
-    let made = database_text(alloc, source, game, texts);
-    store_made(alloc, game, made, shelf, console)
 }

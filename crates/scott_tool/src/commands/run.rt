@@ -5,24 +5,26 @@ ghost use Rattle.adv_io.specs.History.{says};
 ghost use Rattle.inform_names.specs.Views.{directives_of};
 ghost use Rattle.inform_run.specs.Turns.{stop_seen};
 ghost use Rattle.scott_requests.specs.Request.{run};
-ghost use Rattle.scott_requests.specs.Views.{source_of};
+ghost use Rattle.scott_requests.specs.Views.{asked_run, source_of};
 ghost use Rattle.scott_tool.specs.Refusal.{refusing};
 ghost use Rattle.scott_tool.specs.Run.{trap_opening, within, trap_end, steps_spent, routine_name, trap_line, stop_line, stop_status};
-ghost use Rattle.scott_tool.specs.Work.{running, running_from, work};
-ghost use Rattle.scott_tool.specs.Views.{texts_in};
+ghost use Rattle.scott_tool.specs.Work.{run_task};
+ghost use Rattle.scott_tool.specs.Plan.{running_from, work};
+ghost use Rattle.scott_tool.specs.Views.{texts_in, number_of};
 ghost use Rattle.scott_tool.specs.Obeying.{ObeysAlone};
 ghost use Rattle.scott_tool.specs.Play.{draws_from};
 
 use crate::contents::{draws_from, program};
 use crate::loads::Texts;
 use crate::refusals::concluded;
+use crate::status::Status;
 use adv_draws::Draws;
 use adv_io::{Console, ConsoleFault, say_all};
 use inform_meaning::Trap;
 use inform_names::Accepted;
 use inform_run::{Runner, Stop};
-use inform_tree::{Directive, Width};
-use scott_requests::DrawSource;
+use inform_tree::Directive;
+use scott_requests::{DrawSource, RunRequest};
 use std::alloc::Global;
 use std::mem::forget;
 
@@ -103,15 +105,15 @@ fn say_stop<C: Console>(
 }
 
 // The status of a run that stopped so.
-fn stop_status(stop: Stop) -> u8
-    ensures { result ≡ stop_status (stop_seen stop) }
+fn stop_status(stop: Stop) -> Status
+    ensures { number_of result ≡ stop_status (stop_seen stop) }
 {
     match stop {
-        Stop::Quit => 0,
-        Stop::NeedsLine => 0,
-        Stop::NeedsDraw => 0,
-        Stop::Trap(_, _) => 8,
-        Stop::Spent => 10,
+        Stop::Quit => Status::Done,
+        Stop::NeedsLine => Status::Done,
+        Stop::NeedsDraw => Status::Done,
+        Stop::Trap(_, _) => Status::Trapped,
+        Stop::Spent => Status::StepsSpent,
     }
 }
 
@@ -122,16 +124,17 @@ fn run_with<C: Console>(
     mut draws: Draws,
     steps: u64,
     console: &mut C,
-) -> u8
+) -> Status
     ensures { ObeysAlone (C.seen console.old) (C.seen console.new)
-        (Ok (running accepted.now.width (directives_of accepted.now) draws.left steps)) result }
+        (Ok (run_task accepted.now.width (directives_of accepted.now) steps draws.left))
+        (number_of result) }
 {
     match Runner::open(alloc, accepted) {
         Ok(mut runner) => match runner.run(&mut draws, steps, console) {
             Ok(stop) => concluded(say_stop(accepted, stop, console), stop_status(stop)),
-            Err(_) => 3,
+            Err(_) => Status::ConsoleFailed,
         },
-        Err(_) => 9,
+        Err(_) => Status::NoMemory,
     }
 }
 
@@ -143,10 +146,10 @@ fn run_from<C: Console>(
     steps: u64,
     texts: &Texts,
     console: &mut C,
-) -> u8
+) -> Status
     ensures { ObeysAlone (C.seen console.old) (C.seen console.new)
         (refusing (running_from accepted.now.width (directives_of accepted.now) steps
-        (draws_from (source_of source.entry) texts.now.draws.items))) result }
+        (draws_from (source_of source.entry) texts.now.draws.items))) (number_of result) }
 {
     match draws_from(alloc, source, &texts.draws) {
         Ok(draws) => run_with(alloc, accepted, draws, steps, console),
@@ -157,22 +160,18 @@ fn run_from<C: Console>(
 /// Runs a program.
 pub fn run<C: Console>(
     alloc: Global,
-    name: &str,
-    source: DrawSource<'_>,
-    steps: u64,
-    width: Width,
+    asked: RunRequest<'_>,
     texts: &Texts,
     console: &mut C,
-) -> u8
+) -> Status
     ensures { ObeysAlone (C.seen console.old) (C.seen console.new)
-        (refusing (work (run name.now (source_of source.entry) steps width)
-        (texts_in texts.now))) result }
+        (refusing (work (run (asked_run asked.entry)) (texts_in texts.now))) (number_of result) }
 {
-    let accepted = match program(alloc, name, width, &texts.main) {
+    let accepted = match program(alloc, asked.program, asked.width, &texts.main) {
         Ok(accepted) => accepted,
         Err(refusal) => return refusal.end(console),
     };
-    let status = run_from(alloc, &accepted, source, steps, texts, console);
+    let status = run_from(alloc, &accepted, asked.source, asked.steps, texts, console);
     // The system takes the program's memory back at once when it ends.
     forget(accepted);
     status

@@ -3,10 +3,11 @@ ghost use Rattle.std.specs.Prelude.{◌≡◌, ◌≤◌, IfErr, OnOk, Result};
 ghost use Rattle.adv_io.specs.Shelf.{with_file};
 ghost use Rattle.scott_tool.specs.Refusal.{Unfit, refusing};
 ghost use Rattle.scott_tool.specs.Work.{Task};
-ghost use Rattle.scott_tool.specs.Views.{refusal_of};
+ghost use Rattle.scott_tool.specs.Views.{refusal_of, number_of};
 ghost use Rattle.scott_tool.specs.Obeying.{MakesFile, FailsToStore, Obeys};
 
 use crate::refusals::Refusal;
+use crate::status::Status;
 use adv_io::{Console, Shelf, ShelfFault};
 use std::alloc::Global;
 
@@ -40,14 +41,14 @@ pub fn store_made<S: Shelf, C: Console>(
     made: Result<Vec<u8>, Refusal<'_>>,
     shelf: &mut S,
     console: &mut C,
-) -> u8
+) -> Status
     ensures { (expected : Result Task Unfit) → MakesFile name.now made.entry expected
         → Obeys (S.seen shelf.old) (S.seen shelf.new) (C.seen console.old) (C.seen console.new)
-        (refusing expected) result }
+        (refusing expected) (number_of result) }
 {
     match made {
         Ok(bytes) => match store_file(alloc, name, &bytes, shelf) {
-            Ok(()) => 0,
+            Ok(()) => Status::Done,
             Err(refusal) => refusal.end(console),
         },
         Err(refusal) => refusal.end(console),

@@ -7,4 +7,5 @@ use Rattle.scott_requests.proofs.requests.check_form.Goals as goal
 pub returns : goal.returns
 returns c =
     rw (one_element c.args.words.now c.game-item.result (omega arith) c.game-item.is)
-    (ap (option_map check) (rw (c.in_ok-file_name.was, c.as_str.ensures.value) at c.file_name.ensures))
+    (ap (option_map check) (rw (c.in_ok-file_name.was, c.as_str.ensures.value) at
+    c.file_name.ensures))

@@ -9,8 +9,13 @@ use Rattle.scott_requests.proofs.requests.files_and_settings.Goals as goal
 
 pub returns : goal.returns
 returns c =
-    ap (option_map {U = List ℕ × List ℕ × Settings} (λ p. (p.0.now, p.1.0.now, settings_of p.1.1))) c.zip.ensures
-    ∙ zipped {C = List ℕ × Settings} {X = List ℕ × List ℕ × Settings} (λ p. (p.0.now, settings_of p.1)) (λ name p. (name, p.0, p.1)) c.file_name.result c.file_and_settings.result
-    (file_name (string_bytes c.in_ok-file.file.now)) (file_and_settings (map string_bytes c.in_ok-file.rest.now))
+    ap (option_map {U = List ℕ × List ℕ × Settings} (λ p.
+    (p.0.now, p.1.0.now, settings_of p.1.1))) c.zip.ensures
+    ∙ zipped {C = List ℕ × Settings} {X = List ℕ × List ℕ × Settings} (λ p.
+    (p.0.now, settings_of p.1)) (λ name p.
+    (name, p.0, p.1)) c.file_name.result c.file_and_settings.result
+    (file_name (string_bytes c.in_ok-file.file.now)) (file_and_settings c.args.kinds
+    (map string_bytes c.in_ok-file.rest.now))
     (rw c.as_str.ensures.value at c.file_name.ensures) c.file_and_settings.ensures
-    ∙ ap files_and_settings (sym (ap (map string_bytes) c.in_ok-file.ensures.cases.0))
+    ∙ ap (files_and_settings c.args.kinds) (sym (ap
+    (map string_bytes) c.in_ok-file.ensures.cases.0))

@@ -8,7 +8,8 @@ pub returns-in-Some : goal.returns-in-Some
 returns-in-Some c =
     let word = c.args.word.now in
     c.steps.ensures
-    ∙ by_steps (after_prefix (codes "steps=") word) (after_prefix (codes "words=") word) c.in-Some.digits.now
+    ∙ by_steps (after_prefix (codes "steps=") word) (after_prefix
+    (codes "words=") word) c.in-Some.digits.now
     (prefix_there (codes "steps=") word c.in-Some.digits.now c.in-Some.ensures.cases)
 
 pub returns-in-Some-strip_prefix : goal.returns-in-Some-strip_prefix

@@ -1,7 +1,12 @@
+use Rattle.scott_requests.specs.Views.{request_of}
+use Rattle.scott_tool.specs.Views.{texts_in}
+use Rattle.scott_tool.specs.Plan.{work}
 use Rattle.scott_tool.proofs.commands.work.Goals as goal
 
 pub returns-in-Check : goal.returns-in-Check
-returns-in-Check g c = rw c.in-Check.is (c.check.ensures (g.S.Shelf.seen c.args.shelf.now))
+returns-in-Check g c =
+    c.say_made.ensures (work (request_of c.args.request) (texts_in c.args.texts.now))
+    (rw c.in-Check.is c.report_on.ensures) (g.S.Shelf.seen c.args.shelf.now)
 
 pub returns-in-Play : goal.returns-in-Play
 returns-in-Play g c = rw c.in-Play.is (c.play.ensures (g.S.Shelf.seen c.args.shelf.now))
@@ -10,10 +15,16 @@ pub returns-in-Run : goal.returns-in-Run
 returns-in-Run g c = rw c.in-Run.is (c.run.ensures (g.S.Shelf.seen c.args.shelf.now))
 
 pub returns-in-Compile : goal.returns-in-Compile
-returns-in-Compile g c = rw c.in-Compile.is c.compile.ensures
+returns-in-Compile g c =
+    c.store_made.ensures (work (request_of c.args.request) (texts_in c.args.texts.now))
+    (rw c.in-Compile.is c.database_text-made.ensures)
 
 pub returns-in-Decompile : goal.returns-in-Decompile
-returns-in-Decompile g c = rw c.in-Decompile.is c.decompile.ensures
+returns-in-Decompile g c =
+    c.store_made-in-Decompile.ensures (work (request_of c.args.request) (texts_in c.args.texts.now))
+    (rw c.in-Decompile.is c.source_text-made.ensures)
 
 pub returns-in-Translate : goal.returns-in-Translate
-returns-in-Translate g c = rw c.in-Translate.is c.translate.ensures
+returns-in-Translate g c =
+    c.store_made-in-Translate.ensures (work (request_of c.args.request) (texts_in c.args.texts.now))
+    (rw c.in-Translate.is c.program_text-made.ensures)

@@ -1,9 +1,9 @@
 use Rattle.std.proofs.Common.{◌≡◌, refl, subst}
 use Rattle.adv_io.specs.Shelf.{ShelfView}
 use Rattle.scott_requests.specs.Views.{request_of}
-use Rattle.scott_tool.specs.Views.{refusal_of, texts_in}
+use Rattle.scott_tool.specs.Views.{refusal_of, texts_in, number_of}
 use Rattle.scott_tool.specs.Refusal.{refusing}
-use Rattle.scott_tool.specs.Work.{work}
+use Rattle.scott_tool.specs.Plan.{work}
 use Rattle.scott_tool.specs.Obeying.{Obeys, not_loaded, worked}
 use Rattle.scott_tool.proofs.program.obey.Goals as goal
 
@@ -17,7 +17,8 @@ returns-in-Ok g c =
     worked (request_of c.args.request) (texts_in c.in-Ok.texts) refl fetched.found
     (subst (λ (s : ShelfView). Obeys s (g.S.Shelf.seen c.work.new.shelf)
     (g.C.Console.seen c.args.console.now) (g.C.Console.seen c.work.new.console)
-    (refusing (work (request_of c.args.request) (texts_in c.in-Ok.texts))) c.work.result) same
+    (refusing (work (request_of c.args.request) (texts_in c.in-Ok.texts)))
+    (number_of c.work.result)) same
     c.work.ensures)
 
 pub returns-in-Err : goal.returns-in-Err

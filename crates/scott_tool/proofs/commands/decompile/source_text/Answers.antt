@@ -1,14 +1,13 @@
 use Rattle.std.proofs.Common.{Ok, ap}
 use Rattle.adv_decompiler.specs.Plain.{plain}
 use Rattle.scott_tool.specs.Steps.{◌>>=◌}
-use Rattle.scott_tool.specs.Outcome.{keeping}
-use Rattle.scott_tool.specs.Work.{storing}
+use Rattle.scott_tool.specs.Work.{exactly, storing}
 use Rattle.scott_tool.proofs.commands.decompile.source_text.Goals as goal
 
 pub returns-in-Ok : goal.returns-in-Ok
 returns-in-Ok c = (
-  storing c.args.source.now (plain c.in_ok-db.db),
-  ap (λ r. r >>= λ db. Ok (storing c.args.source.now (plain db)))
+  exactly (plain c.in_ok-db.db),
+  ap (λ r. r >>= λ db. Ok (storing c.args.source.now (exactly (plain db))))
       (rw c.deref.ensures.value at c.in_ok-db.ensures),
-  λ lines. ap (keeping c.args.source.now) c.in-Ok.ensures.plain,
+  c.in-Ok.ensures.plain,
 )

@@ -2,8 +2,9 @@ use Rattle.std.proofs.Common.{Result, Ok, sym, ap, subst}
 use Rattle.scott_requests.specs.Views.{source_of}
 use Rattle.scott_tool.specs.Refusal.{Unfit, refusing}
 use Rattle.scott_tool.specs.Play.{draws_from}
-use Rattle.scott_tool.specs.Work.{Task, playing, playing_from}
-use Rattle.scott_tool.specs.Views.{refusal_of}
+use Rattle.scott_tool.specs.Work.{Task, play_task}
+use Rattle.scott_tool.specs.Plan.{playing_from}
+use Rattle.scott_tool.specs.Views.{refusal_of, number_of}
 use Rattle.scott_tool.specs.Obeying.{Obeys}
 use Rattle.scott_tool.proofs.Declining.{declined-first}
 use Rattle.scott_tool.proofs.Obeying.{obeys-declined}
@@ -14,14 +15,14 @@ returns-in-Ok g c = λ shelf.
     let given = ap (playing_from c.args.style c.args.db.now)
     (rw c.deref.ensures.value at c.in-Ok.ensures) in
     subst (λ (r : Result Task Unfit). Obeys shelf shelf (g.C.Console.seen c.args.console.now)
-    (g.C.Console.seen c.play_with.new.console) (refusing r) c.play_with.result)
+    (g.C.Console.seen c.play_with.new.console) (refusing r) (number_of c.play_with.result))
     (sym given) (c.play_with.ensures shelf)
 
 pub returns-in-Err : goal.returns-in-Err
 returns-in-Err g c = λ shelf.
     let drawn = draws_from (source_of c.args.source) c.args.texts.now.draws.items in
     obeys-declined (g.C.Console.seen c.args.console.now)
-    (g.C.Console.seen c.end.new.console) c.end.result shelf
+    (g.C.Console.seen c.end.new.console) (number_of c.end.result) shelf
     (playing_from c.args.style c.args.db.now drawn) (refusal_of c.in-Err.refusal)
-    (declined-first drawn (λ draws. Ok (playing c.args.style c.args.db.now draws))
+    (declined-first drawn (λ draws. Ok (play_task c.args.style c.args.db.now draws))
     (refusal_of c.in-Err.refusal) (rw c.deref.ensures.value at c.in-Err.ensures)) c.end.ensures

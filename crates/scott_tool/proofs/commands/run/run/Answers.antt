@@ -3,13 +3,14 @@ use Rattle.inform_tree.specs.declared.widths.Width.{Width}
 use Rattle.inform_tree.specs.Programs.{DirectiveTree}
 use Rattle.inform_names.specs.Views.{directives_of}
 use Rattle.scott_requests.specs.Request.{run}
-use Rattle.scott_requests.specs.Views.{source_of}
+use Rattle.scott_requests.specs.Views.{asked_run, source_of}
 use Rattle.scott_tool.specs.Steps.{◌>>=◌}
 use Rattle.scott_tool.specs.Refusal.{Unfit, refusing}
 use Rattle.scott_tool.specs.Run.{program_of_file}
 use Rattle.scott_tool.specs.Play.{draws_from}
-use Rattle.scott_tool.specs.Work.{Task, running_from, work}
-use Rattle.scott_tool.specs.Views.{refusal_of, texts_in}
+use Rattle.scott_tool.specs.Work.{Task}
+use Rattle.scott_tool.specs.Plan.{running_from, work}
+use Rattle.scott_tool.specs.Views.{refusal_of, texts_in, number_of}
 use Rattle.scott_tool.specs.Obeying.{Obeys}
 use Rattle.scott_tool.proofs.Declining.{declined-first}
 use Rattle.scott_tool.proofs.Obeying.{obeys-declined}
@@ -17,23 +18,25 @@ use Rattle.scott_tool.proofs.commands.run.run.Goals as goal
 
 pub returns : goal.returns
 returns g c = λ shelf.
-    let drawn = draws_from (source_of c.args.source) c.args.texts.now.draws.items in
-    let given = ap (λ r. r >>= λ p. running_from c.args.width p c.args.steps drawn)
+    let drawn = draws_from (source_of c.args.asked.source) c.args.texts.now.draws.items in
+    let given = ap (λ r. r >>= λ p. running_from c.args.asked.width p c.args.asked.steps drawn)
     (rw c.deref.ensures.value at c.in-Ok.ensures.given) in
     let wide = ap (λ (width : Width). running_from width
-    (directives_of c.in-Ok.accepted) c.args.steps drawn) c.in-Ok.ensures.width in
+    (directives_of c.in-Ok.accepted) c.args.asked.steps drawn) c.in-Ok.ensures.width in
     subst (λ (r : Result Task Unfit). Obeys shelf shelf (g.C.Console.seen c.args.console.now)
-    (g.C.Console.seen c.run_from-status.new.console) (refusing r) c.run_from-status.result)
+    (g.C.Console.seen c.run_from-status.new.console) (refusing r)
+    (number_of c.run_from-status.result))
     (wide ∙ sym given) (c.run_from-status.ensures shelf)
 
 pub returns-in-Err : goal.returns-in-Err
 returns-in-Err g c = λ shelf.
-    let drawn = draws_from (source_of c.args.source) c.args.texts.now.draws.items in
+    let drawn = draws_from (source_of c.args.asked.source) c.args.texts.now.draws.items in
     obeys-declined (g.C.Console.seen c.args.console.now)
-    (g.C.Console.seen c.end.new.console) c.end.result shelf
-    (work (run c.args.name.now (source_of c.args.source) c.args.steps c.args.width)
+    (g.C.Console.seen c.end.new.console) (number_of c.end.result) shelf
+    (work (run (asked_run c.args.asked))
     (texts_in c.args.texts.now)) (refusal_of c.in-Err.refusal)
-    (declined-first (program_of_file c.args.width c.args.name.now c.args.texts.now.main.items)
-    (λ (p : List DirectiveTree). running_from c.args.width p c.args.steps drawn)
+    (declined-first
+    (program_of_file c.args.asked.width c.args.asked.program.now c.args.texts.now.main.items)
+    (λ (p : List DirectiveTree). running_from c.args.asked.width p c.args.asked.steps drawn)
     (refusal_of c.in-Err.refusal)
     (rw c.deref.ensures.value at c.in-Err.ensures.given)) c.end.ensures

@@ -3,8 +3,9 @@ use Rattle.inform_names.specs.Views.{directives_of}
 use Rattle.scott_requests.specs.Views.{source_of}
 use Rattle.scott_tool.specs.Refusal.{Unfit, refusing}
 use Rattle.scott_tool.specs.Play.{draws_from}
-use Rattle.scott_tool.specs.Work.{Task, running, running_from}
-use Rattle.scott_tool.specs.Views.{refusal_of}
+use Rattle.scott_tool.specs.Work.{Task, run_task}
+use Rattle.scott_tool.specs.Plan.{running_from}
+use Rattle.scott_tool.specs.Views.{refusal_of, number_of}
 use Rattle.scott_tool.specs.Obeying.{Obeys}
 use Rattle.scott_tool.proofs.Declining.{declined-first}
 use Rattle.scott_tool.proofs.Obeying.{obeys-declined}
@@ -16,7 +17,7 @@ returns-in-Ok g c = λ shelf.
     let given = ap (running_from accepted.width (directives_of accepted) c.args.steps)
     (rw c.deref.ensures.value at c.in-Ok.ensures) in
     subst (λ (r : Result Task Unfit). Obeys shelf shelf (g.C.Console.seen c.args.console.now)
-    (g.C.Console.seen c.run_with.new.console) (refusing r) c.run_with.result)
+    (g.C.Console.seen c.run_with.new.console) (refusing r) (number_of c.run_with.result))
     (sym given) (c.run_with.ensures shelf)
 
 pub returns-in-Err : goal.returns-in-Err
@@ -24,9 +25,9 @@ returns-in-Err g c = λ shelf.
     let accepted = c.args.accepted.now in
     let drawn = draws_from (source_of c.args.source) c.args.texts.now.draws.items in
     obeys-declined (g.C.Console.seen c.args.console.now)
-    (g.C.Console.seen c.end.new.console) c.end.result shelf
+    (g.C.Console.seen c.end.new.console) (number_of c.end.result) shelf
     (running_from accepted.width (directives_of accepted) c.args.steps drawn)
     (refusal_of c.in-Err.refusal)
-    (declined-first drawn (λ draws. Ok (running accepted.width
-    (directives_of accepted) draws c.args.steps)) (refusal_of c.in-Err.refusal)
+    (declined-first drawn (λ draws. Ok (run_task accepted.width
+    (directives_of accepted) c.args.steps draws)) (refusal_of c.in-Err.refusal)
     (rw c.deref.ensures.value at c.in-Err.ensures)) c.end.ensures

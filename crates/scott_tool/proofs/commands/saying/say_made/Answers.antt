@@ -1,6 +1,8 @@
-use Rattle.std.proofs.Common.{refl}
+use Rattle.std.proofs.Common.{ℕ, List, refl}
 use Rattle.adv_io.specs.History.{says}
-use Rattle.scott_tool.specs.Views.{refusal_of}
+use Rattle.scott_tool.specs.Outcome.{done}
+use Rattle.scott_tool.specs.Work.{saying, Does}
+use Rattle.scott_tool.specs.Views.{refusal_of, number_of}
 use Rattle.scott_tool.proofs.Obeying.{obeys-shown, obeys-declined, known_said, known_part}
 use Rattle.scott_tool.proofs.commands.saying.say_made.Goals as goal
 
@@ -10,16 +12,20 @@ returns-in-Ok g c = λ expected makes shelf.
     let new = g.C.Console.seen c.say.new.self in
     let bytes = c.in-Ok.bytes.items in
     let made = rw c.in-Ok.is at makes in
-    obeys-shown old new c.concluded.result shelf made.0 (λ lines. says bytes) made.2 expected
+    let task = saying made.0 in
+    let does : (lines : List (List ℕ)) → Does task lines (done (says bytes)) =
+    λ lines. (bytes, made.2, refl) in
+    let status = number_of c.concluded.result in
+    obeys-shown old new status shelf task (λ lines. says bytes) does expected
     c.say.result made.1
-    (known_said old new c.concluded.result shelf made.0 (λ lines. says bytes) made.2 c.say.result
+    (known_said old new status shelf task (λ lines. says bytes) does c.say.result
     (says bytes) (λ lines. refl) (rw c.deref.ensures.value at c.say.ensures.said))
-    (known_part old new c.concluded.result shelf made.0 (λ lines. says bytes) made.2 c.say.result
+    (known_part old new status shelf task (λ lines. says bytes) does c.say.result
     (says bytes) (λ lines. refl) (rw c.deref.ensures.value at c.say.ensures.part))
     c.say.ensures.cause c.concluded.ensures
 
 pub returns-in-Err : goal.returns-in-Err
 returns-in-Err g c = λ expected makes shelf.
     obeys-declined (g.C.Console.seen c.args.console.now)
-    (g.C.Console.seen c.end.new.console) c.end.result shelf
+    (g.C.Console.seen c.end.new.console) (number_of c.end.result) shelf
     expected (refusal_of c.in-Err.refusal) (rw c.in-Err.is at makes) c.end.ensures

@@ -1,7 +1,7 @@
 use Rattle.std.proofs.Common.{Result, sym, subst}
 use Rattle.scott_tool.specs.Refusal.{Unfit, refusing}
 use Rattle.scott_tool.specs.Work.{Task}
-use Rattle.scott_tool.specs.Views.{refusal_of}
+use Rattle.scott_tool.specs.Views.{refusal_of, number_of}
 use Rattle.scott_tool.specs.Obeying.{Obeys}
 use Rattle.scott_tool.proofs.Obeying.{obeys-stored, obeys-not_stored, obeys-declined}
 use Rattle.scott_tool.proofs.commands.storing.store_made.Goals as goal
@@ -23,7 +23,7 @@ returns-in-Ok g c = λ expected makes.
     let shelf' = g.S.Shelf.seen c.store_file.new.shelf in
     let old = g.C.Console.seen c.args.console.now in
     let new = g.C.Console.seen c.end.new.console in
-    let status = c.end.result in
+    let status = (number_of c.end.result) in
     let made = rw c.in-Ok.is at makes in
     subst (λ (r : Result Task Unfit). Obeys shelf shelf' old new (refusing r) status) (sym made.1)
     (obeys-not_stored old new status shelf shelf' made.0 c.args.name.now c.in-Ok.bytes.items made.2
@@ -33,6 +33,6 @@ returns-in-Ok g c = λ expected makes.
 pub returns : goal.returns
 returns g c = λ expected makes.
     obeys-declined (g.C.Console.seen c.args.console.now)
-    (g.C.Console.seen c.end-in-Err.new.console) c.end-in-Err.result
+    (g.C.Console.seen c.end-in-Err.new.console) (number_of c.end-in-Err.result)
     (g.S.Shelf.seen c.args.shelf.now) expected (refusal_of c.in-Err.refusal)
     (rw c.in-Err.is at makes) c.end-in-Err.ensures

@@ -1,0 +1,141 @@
+-- What a request asks for: the contents that are read one after the other, and the task at the end.
+use Rattle.std.specs.Prelude.{◌≡◌, ◌⊎◌, ℕ, List, [], ◌∷◌, Option, Some, None, Result, Ok, Err}
+use Rattle.std.specs.FinMap.{get}
+use Rattle.adv_check.specs.Report.{report_text}
+use Rattle.adv_compiler.specs.Meaning.{meant}
+use Rattle.adv_decompiler.specs.Plain.{plain}
+use Rattle.adv_io.specs.Shelf.{Files}
+use Rattle.inform_reader.specs.Reading.{Fault as ProgramFault, IsProgram, IsFaulty}
+use Rattle.inform_tree.specs.declared.widths.Width.{Width}
+use Rattle.inform_tree.specs.Programs.{DirectiveTree}
+use Rattle.scott_format.specs.Canon.{canon}
+use Rattle.scott_format.specs.Faults.{Fault}
+use Rattle.scott_format.specs.File.{DatText, DatFault}
+use Rattle.scott_requests.specs.Settings.{DrawSource}
+use Rattle.scott_requests.specs.Request.{Request, check, compile, decompile, play, translate, run}
+use Rattle.scott_types.specs.declared.styles.Style.{Style}
+use Rattle.scott_types.specs.Database.{Database}
+use Rattle.source_reader.specs.Text.{SourceText}
+use Rattle.source_reader.specs.declared.tree.Source.{Source}
+use Rattle.trans_rows.specs.Wide.{Placed, wide_at}
+use Rattle.scott_tool.specs.Steps.{◌>>=◌}
+use Rattle.scott_tool.specs.Refusal.{Refusal, Unfit, no_request, refusing, status_of}
+use Rattle.scott_tool.specs.Outcome.{Outcome, refused}
+use Rattle.scott_tool.specs.Loading.{Texts, texts_of}
+use Rattle.scott_tool.specs.Check.{database_of_file}
+use Rattle.scott_tool.specs.Compile.{compiled_from, IsNoSource}
+use Rattle.scott_tool.specs.Play.{draws_from, DrawsAre, AreNoDraws}
+use Rattle.scott_tool.specs.Translate.{translatable}
+use Rattle.scott_tool.specs.Run.{program_of_file}
+use Rattle.scott_tool.specs.Work.{exactly, translation, Task, saying, storing, Does, task_statuses, late_of, play_task, run_task}
+
+-- The file of this name is read as a database, as a source of one, or as a program for words of
+-- this width; the draws are read; that no number of the database is too wide for words of this
+-- width is found out; or all is read, and this is to be done.
+pub data Plan : Type 0 where
+  of_game : List ℕ → (Database → Plan) → Plan
+  of_source : List ℕ → (Database → Plan) → Plan
+  of_program : Width → List ℕ → (List DirectiveTree → Plan) → Plan
+  with_draws : DrawSource → (List ℕ → Plan) → Plan
+  narrow : Width → List ℕ → Database → Plan → Plan
+  doing : Task → Plan
+
+-- the plan of each request
+abbrev pub plan : Request → Plan
+plan (check game) = of_game game (λ db. doing (saying (exactly (report_text db))))
+plan (compile source game) = of_source source (λ db. doing (storing game (exactly (canon db))))
+plan (decompile game source) = of_game game (λ db. doing (storing source (exactly (plain db))))
+plan (play p) =
+    of_game p.game (λ db. with_draws p.source (λ draws. doing (play_task p.style db draws)))
+plan (translate t) =
+    of_game t.game
+    (λ db. narrow t.width t.game db (doing (storing t.program (translation t.style t.width db))))
+plan (run r) =
+    of_program r.width r.program
+    (λ p. with_draws r.source (λ draws. doing (run_task r.width p r.steps draws)))
+
+-- ---- a plan on what was loaded: its task, or the first content that is refused
+
+abbrev pub followed : Plan → Texts → Result Task Unfit
+followed (of_game name next) texts =
+    database_of_file name texts.main >>= λ db. followed (next db) texts
+followed (of_source name next) texts =
+    compiled_from name texts.main >>= λ db. followed (next db) texts
+followed (of_program width name next) texts =
+    program_of_file width name texts.main >>= λ p. followed (next p) texts
+followed (with_draws source next) texts =
+    draws_from source texts.draws >>= λ draws. followed (next draws) texts
+followed (narrow width name db next) texts = translatable name width db >>= λ _. followed next texts
+followed (doing task) texts = Ok task
+
+-- the task of a request
+abbrev pub work : Request → Texts → Result Task Unfit
+work request texts = followed (plan request) texts
+
+-- the end of the plans of a play and of a run, where the draws are accepted
+abbrev pub playing_from : Style → Database → Result (List ℕ) Unfit → Result Task Unfit
+playing_from style db drawn = drawn >>= λ draws. Ok (play_task style db draws)
+
+abbrev pub running_from : Width → List DirectiveTree → ℕ → Result (List ℕ) Unfit → Result Task Unfit
+running_from width p steps drawn = drawn >>= λ draws. Ok (run_task width p steps draws)
+
+-- ---- a plan by the files that there are
+
+-- each content is what it should be, and the task at the end has this
+abbrev pub Reaches : Files → Plan → (Task → Type 0) → Type 0
+Reaches files (of_game name next) P =
+    (bytes : List ℕ) × (db : Database) × (get files name ≡ Some bytes) × DatText bytes db
+    × Reaches files (next db) P
+Reaches files (of_source name next) P =
+    (bytes : List ℕ) × (tree : Source) × (db : Database) × (get files name ≡ Some bytes)
+    × SourceText bytes tree × (meant tree ≡ Ok db) × Reaches files (next db) P
+Reaches files (of_program width name next) P =
+    (bytes : List ℕ) × (p : List DirectiveTree) × (get files name ≡ Some bytes)
+    × IsProgram width bytes p × Reaches files (next p) P
+Reaches files (with_draws source next) P =
+    (draws : List ℕ) × DrawsAre files source draws × Reaches files (next draws) P
+Reaches files (narrow width name db next) P = (wide_at width db ≡ None) × Reaches files next P
+Reaches files (doing task) P = P task
+
+-- a content is refused with this status, and those before it aren't
+abbrev pub IsRefused : Files → Plan → (status : ℕ) → Type 0
+IsRefused files (of_game name next) status =
+    (bytes : List ℕ) × (get files name ≡ Some bytes)
+    × (((status ≡ 4) × ((fault : Fault) × DatFault bytes fault))
+    ⊎ ((db : Database) × DatText bytes db × IsRefused files (next db) status))
+IsRefused files (of_source name next) status =
+    (bytes : List ℕ) × (get files name ≡ Some bytes)
+    × (((status ≡ 5) × IsNoSource bytes)
+    ⊎ ((tree : Source) × (db : Database) × SourceText bytes tree × (meant tree ≡ Ok db)
+    × IsRefused files (next db) status))
+IsRefused files (of_program width name next) status =
+    (bytes : List ℕ) × (get files name ≡ Some bytes)
+    × (((status ≡ 6) × ((fault : ProgramFault) × IsFaulty width bytes fault))
+    ⊎ ((p : List DirectiveTree) × IsProgram width bytes p × IsRefused files (next p) status))
+IsRefused files (with_draws source next) status =
+    ((status ≡ 5) × AreNoDraws files source)
+    ⊎ ((draws : List ℕ) × DrawsAre files source draws × IsRefused files (next draws) status)
+IsRefused files (narrow width name db next) status =
+    ((status ≡ 7) × ((placed : Placed) × (wide_at width db ≡ Some placed)))
+    ⊎ ((wide_at width db ≡ None) × IsRefused files next status)
+IsRefused files (doing task) status = ⊥
+
+-- ---- what is expected of the words, by the files that there are
+
+-- All files are loaded before any is read.
+abbrev pub expected : Files → Option Request → Result Task Refusal
+expected files None = Err no_request
+expected files (Some request) = texts_of files request >>= λ texts. refusing (work request texts)
+
+abbrev pub statuses_of : Result Task Refusal → List ℕ
+statuses_of (Ok task) = task_statuses task
+statuses_of (Err refusal) = status_of refusal ∷ []
+
+-- the other statuses with which the console may have worked
+abbrev pub late_in : Result Task Refusal → List ℕ
+late_in (Ok task) = late_of task
+late_in (Err refusal) = []
+
+abbrev pub IsExpected : Result Task Refusal → List (List ℕ) → Outcome → Type 0
+IsExpected (Ok task) lines o = Does task lines o
+IsExpected (Err refusal) lines o = o ≡ refused refusal
