@@ -1,5 +1,5 @@
 -- The line that a session is given is the rest of the hall's line.
-use Rattle.std.proofs.Common.{◌≡◌, ◌∙◌, ℕ, zero, suc, ◌+◌, ◌-◌, ◌≤◌, min, List, [], ◌∷◌, length, drop, map, take, Option, Some, refl, sym, ap, arith, length-drop}
+use Rattle.std.proofs.Common.{◌≡◌, ◌∙◌, ℕ, zero, suc, ◌+◌, ◌-◌, min, List, [], ◌∷◌, length, drop, map, take, Some, refl, sym, ap, arith, length-drop}
 use Rattle.std.specs.Prelude.{IsTrue}
 use Rattle.std.specs.List.{list_all}
 use Rattle.std.proofs.lemmas.Bool.{and_parts}
@@ -7,7 +7,6 @@ use Rattle.std.proofs.lemmas.List.{take_all}
 use Rattle.adv_io.specs.TypedLine.{IsTyped, line_byte, is_line_byte}
 use Rattle.adv_io.proofs.TypedLines.{line-again}
 use Rattle.scott_rules.specs.Commands.{Span, next_word, word_at}
-use Rattle.adv_hall.specs.declared.addressing.Address.{Address}
 use Rattle.adv_hall.specs.Address.{number_among, addressed, address_by, address_of}
 
 all-drop : (n : ℕ) (bytes : List ℕ) → IsTrue (list_all is_line_byte bytes)

@@ -1,5 +1,5 @@
 -- A line changes one seat of a hall, and leaves all where they would stand alone.
-use Rattle.std.proofs.Common.{◌≡◌, ◌≢◌, ◌∙◌, ℕ, zero, suc, ◌+◌, ◌-◌, ◌<◌, ◌≤◌, ◌⊎◌, inl, inr, Bool, true, false, cond, eqb, List, [], ◌∷◌, ◌++◌, Option, Some, None, refl, sym, ap, subst, arith}
+use Rattle.std.proofs.Common.{◌≡◌, ◌≢◌, ◌∙◌, ℕ, zero, suc, ◌+◌, ◌-◌, ◌<◌, ◌≤◌, ◌⊎◌, inl, inr, Bool, true, false, cond, eqb, List, [], ◌∷◌, ◌++◌, Option, Some, None, refl, sym, ap, arith}
 use Rattle.std.specs.Prelude.{slice_get, slice_set, ◌==◌, bytes_eq}
 use Rattle.std.specs.List.{filter_map}
 use Rattle.std.specs.Fmt.{decimal}
@@ -13,7 +13,7 @@ use Rattle.adv_hall.specs.declared.addressing.Address.{Address}
 use Rattle.adv_hall.specs.Address.{number_among, addressed, address_by, address_of, after_word}
 use Rattle.adv_hall.specs.Seats.{seat_opened, seats_opened, seat_after}
 use Rattle.adv_hall.specs.Alone.{line_if, lines_for}
-use Rattle.adv_hall.specs.Laws.{seat_alone, seats_alone, all_alone, EachHearsAlone, GoesOnAlone, HallGoesOnAlone, HallBeginsAlone}
+use Rattle.adv_hall.specs.Laws.{seat_alone, seats_alone, EachHearsAlone, GoesOnAlone, HallGoesOnAlone, HallBeginsAlone}
 
 -- ---- the number of a session
 

@@ -1,7 +1,5 @@
 -- A play on lines one by one is the play on all of them.
-use Rattle.std.proofs.Common.{◌≡◌, ◌≢◌, ◌∙◌, ℕ, zero, suc, ◌+◌, ◌-◌, ◌<◌, ◌≤◌, Bool, false, List, [], ◌∷◌, ◌++◌, length, drop, Option, Some, None, refl, sym, ap, subst, arith, append_assoc, length-append}
-use Rattle.std.specs.Prelude.{slice_get, slice_set, ◌==◌}
-use Rattle.std.specs.List.{filter_map}
+use Rattle.std.proofs.Common.{◌≡◌, ◌≢◌, ◌∙◌, ℕ, ◌+◌, false, List, [], ◌∷◌, ◌++◌, length, drop, refl, sym, ap, arith, length-append}
 use Rattle.std.proofs.lemmas.List.{append-nil}
 use Rattle.std.proofs.lemmas.List.Elements.{filter_map-append}
 use Rattle.adv_draws.specs.Seeded.{seeded_draws}
@@ -15,12 +13,10 @@ use Rattle.scott_types.specs.State.{start}
 use Rattle.scott_types.specs.Style.{Game, plain}
 use Rattle.scott_rules.specs.Rounds.{RoundEnd, advance, answer, by_heard}
 use Rattle.scott_rules.specs.Commands.{heard}
-use Rattle.scott_rules.specs.Play.{PlayEnd, stopped, with_line, go, play}
+use Rattle.scott_rules.specs.Play.{PlayEnd, with_line, go, play}
 use Rattle.scott_rules.specs.Laws.{PlaySplits}
 use Rattle.adv_hall.specs.declared.halls.Seat.{Seat}
-use Rattle.adv_hall.specs.Seats.{seat_opened, said_by, seat_after}
-use Rattle.adv_hall.specs.Alone.{said_alone, says_next}
-use Rattle.adv_hall.specs.Laws.{seat_alone, HearsAlone, EachHearsAlone}
+use Rattle.adv_hall.specs.Laws.{EachHearsAlone}
 
 -- ---- lists
 

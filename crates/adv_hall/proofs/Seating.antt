@@ -1,12 +1,12 @@
 -- The seats of a hall, as one of them hears a line.
-use Rattle.std.proofs.Common.{◌≡◌, ◌≢◌, ◌∙◌, ℕ, zero, suc, ◌+◌, ◌-◌, ◌<◌, ◌≤◌, Bool, true, false, List, [], ◌∷◌, ◌++◌, length, Option, Some, None, IfSome, refl, sym, ap, subst, arith, append_assoc}
-use Rattle.std.specs.Prelude.{IsTrue, slice_get, slice_set, slice_index_or, not, ◌&&◌}
+use Rattle.std.proofs.Common.{◌≡◌, ◌≢◌, ◌∙◌, ℕ, zero, suc, ◌+◌, ◌-◌, ◌<◌, ◌≤◌, Bool, List, [], ◌∷◌, ◌++◌, length, Some, refl, sym, ap, arith, append_assoc}
+use Rattle.std.specs.Prelude.{IsTrue, slice_get, slice_set, slice_index_or}
 use Rattle.std.specs.List.{list_all}
 use Rattle.std.proofs.lemmas.Bool.{and_parts, and_from}
 use Rattle.std.proofs.lemmas.List.{append-nil}
 use Rattle.scott_types.specs.Database.{Database}
 use Rattle.adv_hall.specs.declared.halls.Seat.{Seat}
-use Rattle.adv_hall.specs.Seats.{is_whole, seat_opened, seats_opened}
+use Rattle.adv_hall.specs.Seats.{seat_opened, seats_opened}
 
 -- ---- seats that are opened
 

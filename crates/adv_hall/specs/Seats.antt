@@ -11,7 +11,7 @@ use Rattle.scott_types.specs.Database.{Database}
 use Rattle.scott_types.specs.State.{start}
 use Rattle.scott_types.specs.Style.{plain}
 use Rattle.scott_rules.specs.Play.{PlayEnd}
-use Rattle.scott_turn.specs.Played.{SessionView, goes}
+use Rattle.scott_turn.specs.Played.{goes}
 use Rattle.adv_hall.specs.declared.halls.Seat.{Seat}
 
 -- the seats of a hall, the first session first, and whether a failure of the console broke it

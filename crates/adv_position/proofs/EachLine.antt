@@ -1,6 +1,6 @@
 -- Each line is read exactly where it stands.
-use Rattle.std.proofs.Common.{◌≡◌, ◌∙◌, ℕ, ◌-◌, ◌≤◌, Bool, true, false, cond, List, [], ◌∷◌, ◌++◌, Option, Some, None, length, map, ℤ, pos, negsuc, codes, refl, sym, ap, subst, append_assoc, arith}
-use Rattle.std.specs.Prelude.{IsTrue, option_and_then, ◌≤ℤ◌, int_le, nat_lt, nat_le, ◌&&◌, if◌then◌else◌}
+use Rattle.std.proofs.Common.{◌≡◌, ◌∙◌, ℕ, ◌-◌, Bool, true, false, cond, List, [], ◌∷◌, ◌++◌, Option, Some, None, length, map, ℤ, pos, negsuc, codes, refl, sym, ap, subst, append_assoc, arith}
+use Rattle.std.specs.Prelude.{IsTrue, ◌≤ℤ◌, int_le, nat_lt, nat_le, if◌then◌else◌}
 use Rattle.std.specs.List.{list_all}
 use Rattle.std.proofs.lemmas.Bool.{and_parts, and_from, ltb-true, leb-true}
 use Rattle.adv_io.specs.Text.{newline}
@@ -10,14 +10,14 @@ use Rattle.scott_types.specs.declared.endings.Position.{Position}
 use Rattle.scott_types.specs.declared.endings.Position.TheVariants.{Fresh, Draw, Line, Over}
 use Rattle.scott_types.specs.Database.{Database}
 use Rattle.scott_types.specs.Limits.{KeepsLimits}
-use Rattle.scott_types.specs.State.{Fits, StartFits, start, is_room_of, is_place, is_counter}
+use Rattle.scott_types.specs.State.{Fits, is_room_of, is_place, is_counter}
 use Rattle.scott_turn.specs.Positions.{is_automatic}
 use Rattle.adv_position.specs.declared.saved.Saved.{Saved}
 use Rattle.adv_position.specs.declared.lines.RoomLine.{RoomLine}
 use Rattle.adv_position.specs.Numbers.{amount, bit, is_one, is_within}
 use Rattle.adv_position.specs.Text.{Waits, IsSaved, labelled, number_line, numbers_line, at_line, room_line}
-use Rattle.adv_position.specs.Reading.{Read, onto, onto_text, after_text, ended, field_in, numbers_in, heading_in, head_in, at_in, at_line_or, taken_in, highest_room, room_line_in, state_of}
-use Rattle.adv_position.proofs.Pieces.{are_within, onto-some, onto_text-some, onto_text-on, same-text, map-same, ended-some, read-same, after_text-sound, after_text-complete, field-sound, field-from, field-then, numbers-sound, numbers-complete}
+use Rattle.adv_position.specs.Reading.{Read, onto, after_text, ended, field_in, numbers_in, heading_in, head_in, at_in, at_line_or, taken_in, highest_room, room_line_in, state_of}
+use Rattle.adv_position.proofs.Pieces.{onto_text-some, onto_text-on, same-text, map-same, ended-some, read-same, after_text-sound, field-from, field-then, numbers-sound, numbers-complete}
 use Rattle.adv_position.proofs.Values.{int_le-from, int_le-true, all-to, numbers-stand, amounts-stand, bits-stand, bit-within, bits-within, few_rooms, room-within, within-room, place-within, within-place, light-fits, least-fits, counter-fits, amount-within, within-amount}
 
 -- what is read of a line is that of a stopped play, and the line of a stopped play is read

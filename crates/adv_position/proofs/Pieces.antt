@@ -1,7 +1,7 @@
 -- Texts and numbers are read exactly where they stand.
-use Rattle.std.proofs.Common.{◌≡◌, ◌∙◌, ℕ, zero, suc, Bool, true, false, cond, eqb, List, [], ◌∷◌, ◌++◌, Option, Some, None, Ok, Err, map, length, ℤ, pos, refl, sym, ap, subst, append_assoc, arith}
-use Rattle.std.specs.Prelude.{IsTrue, int_le, option_and_then, ◌&&◌, Result, ◌≤ℤ◌}
-use Rattle.std.specs.List.{flat_map, list_all}
+use Rattle.std.proofs.Common.{◌≡◌, ◌∙◌, ℕ, zero, suc, Bool, true, false, cond, eqb, List, [], ◌∷◌, ◌++◌, Option, Some, None, Ok, Err, map, length, ℤ, refl, sym, ap, append_assoc}
+use Rattle.std.specs.Prelude.{IsTrue, option_and_then, Result}
+use Rattle.std.specs.List.{list_all}
 use Rattle.std.proofs.lemmas.Bool.{eqb-true, eq-eqb, and_parts, and_from}
 use Rattle.adv_io.specs.Text.{newline, space}
 use Rattle.adv_text.specs.Reading.{Spot, spot, Fault, number_at}

@@ -1,6 +1,6 @@
 -- A whole text is read exactly where it is one, and the first bad line is found exactly.
-use Rattle.std.proofs.Common.{◌≡◌, ◌≢◌, ◌∙◌, ℕ, ◌+◌, ◌-◌, Bool, List, [], ◌∷◌, ◌++◌, Option, Some, None, Ok, Err, length, drop, map, ℤ, pos, negsuc, codes, refl, sym, ap, subst, inl, inr}
-use Rattle.std.specs.Prelude.{◌↔◌, ◌⊎◌, Result, IsTrue, IfOk, MatchResult}
+use Rattle.std.proofs.Common.{◌≡◌, ◌∙◌, ℕ, ◌+◌, Bool, List, [], ◌∷◌, ◌++◌, Some, None, Ok, Err, length, drop, map, ℤ, pos, negsuc, codes, refl, sym, ap, subst, inl, inr}
+use Rattle.std.specs.Prelude.{◌↔◌, ◌⊎◌, Result, IfOk, MatchResult}
 use Rattle.std.specs.List.{flat_map}
 use Rattle.adv_text.specs.Laws.{SpelledNumberIsRead, WrittenNumberIsSpelled}
 use Rattle.scott_types.specs.declared.states.State.{State}
@@ -17,8 +17,8 @@ use Rattle.adv_position.specs.Numbers.{amount, bit, is_one}
 use Rattle.adv_position.specs.Text.{Waits, IsSaved, lines, position_text, number_line, numbers_line, at_line, room_line}
 use Rattle.adv_position.specs.Bad.{Begins, FirstBad, BadLine}
 use Rattle.adv_position.specs.Reading.{Read, heading_in, at_in, taken_in, room_line_in, numbers_in, highest_room, state_of, onward, at_end, position_in}
-use Rattle.adv_position.specs.Laws.{TextIsRead, BadLineIsFound, TextHasOneValue, TextOrBad, TextsOrBadLines, IsText}
-use Rattle.adv_position.proofs.EachLine.{ReadsLine, now_of, waiting, IsNow, AreParts, parts-fit, heading-reads, at-reads, taken-reads, room-reads, rooms-reads, counters-read, flags-read, places-read}
+use Rattle.adv_position.specs.Laws.{TextIsRead, BadLineIsFound, TextHasOneValue, TextsOrBadLines, IsText}
+use Rattle.adv_position.proofs.EachLine.{ReadsLine, now_of, AreParts, parts-fit, heading-reads, at-reads, taken-reads, room-reads, rooms-reads, counters-read, flags-read, places-read}
 
 onward-ok : {X : Type 0} (k : ℕ) (o : Read X) (next : X → List ℕ → Result Saved ℕ) (saved : Saved)
     → onward k o next ≡ Ok saved

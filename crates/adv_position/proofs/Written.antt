@@ -1,12 +1,12 @@
 -- What was written, one text after the other.
-use Rattle.std.proofs.Common.{◌≡◌, ◌∙◌, ℕ, Bool, true, false, cond, List, [], ◌∷◌, ◌++◌, map, ℤ, pos, refl, sym, ap, append_assoc}
+use Rattle.std.proofs.Common.{◌≡◌, ◌∙◌, ℕ, Bool, List, [], ◌∷◌, ◌++◌, map, pos, refl, sym, ap, append_assoc}
 use Rattle.std.specs.List.{flat_map}
 use Rattle.std.proofs.lemmas.List.{append-nil}
 use Rattle.std.specs.Fmt.{decimal}
 use Rattle.adv_io.specs.Text.{newline, space}
 use Rattle.adv_text.specs.Writing.{number_text}
 use Rattle.adv_position.specs.Numbers.{bit}
-use Rattle.adv_position.specs.Text.{labelled, spaced, numbers_line}
+use Rattle.adv_position.specs.Text.{spaced}
 
 pub six-written : (base o1 o2 o3 o4 o5 o6 a b c d e end : List ℕ) → o1 ≡ base ++ a → o2 ≡ o1 ++ b
     → o3 ≡ o2 ++ c → o4 ≡ o3 ++ d → o5 ≡ o4 ++ e → o6 ≡ o5 ++ end

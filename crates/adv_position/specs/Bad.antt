@@ -9,8 +9,8 @@ abbrev pub Begins : Database → (Saved → List ℕ) → List ℕ → Type 0
 Begins db line bytes =
     (saved : Saved) × (rest : List ℕ) × IsSaved db saved × (bytes ≡ line saved ++ rest)
 
--- The first line that is bad, of these, which are numbered from k on: the bytes don't begin with
--- it, or they do and it is the first of what follows. More bytes after the last line are one more
+-- The first bad one of these lines, numbered from k on: line k where the bytes don't begin with
+-- such a line, and else the first bad one in what follows. Bytes after the last line are one more
 -- bad line.
 abbrev pub FirstBad : Database → ℕ → List (Saved → List ℕ) → List ℕ → ℕ → Type 0
 FirstBad db k [] bytes n = (bytes ≢ []) × (n ≡ k)

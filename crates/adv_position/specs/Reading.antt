@@ -1,5 +1,5 @@
 -- Reading a position from left to right.
-use Rattle.std.specs.Prelude.{ℕ, zero, suc, ◌-◌, ◌==◌, Bool, if◌then◌else◌, List, [], ◌∷◌, Option, Some, None, option_map, option_and_then, Result, Ok, Err, ℤ, pos, negsuc, codes, length}
+use Rattle.std.specs.Prelude.{ℕ, zero, suc, ◌-◌, ◌==◌, Bool, if◌then◌else◌, List, [], ◌∷◌, Option, Some, None, option_and_then, Result, Ok, Err, ℤ, pos, negsuc, codes, length}
 use Rattle.adv_io.specs.Text.{newline, space}
 use Rattle.adv_text.specs.Reading.{Spot, spot, Fault, number_at}
 use Rattle.adv_text.specs.Writing.{number_text}

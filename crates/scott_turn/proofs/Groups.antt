@@ -10,7 +10,8 @@ use Rattle.scott_rules.specs.Groups.{Group, tail_of, groups_of, groups_from}
 use Rattle.scott_turn.specs.Heads.{tail_from, group_at, has_verb, groups_for, is_head_of, ComesNext, TailGoesOn, IsFirst, IsHead, HasFirsts, IsAfter, IsIndexFrom, line_of}
 
 -- the lines from one on begin with it
-pub lines_from : (db : Database) (line : ℕ) → line < length db.actions → drop line db.actions ≡ action_at db line ∷ drop (line + 1) db.actions
+pub lines_from : (db : Database) (line : ℕ) → line < length db.actions → drop line db.actions
+    ≡ action_at db line ∷ drop (line + 1) db.actions
 lines_from db line there = drop-cons db.actions line (record { vocab = 0; conds = []; pairs = [] }) there ∙ ap (λ n. action_at db line ∷ drop n db.actions) (sym (add-one line))
 
 -- ---- tails

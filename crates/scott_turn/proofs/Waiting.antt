@@ -1,6 +1,6 @@
 -- A play that waits for a draw stands at a head of verb 0.
-use Rattle.std.proofs.Common.{◌≡◌, ◌∙◌, ℕ, suc, ◌+◌, ◌-◌, ◌<◌, Bool, true, false, cond, List, [], ◌∷◌, length, drop, Option, Some, None, refl, sym, ap, subst, arith, length-drop, nat_le}
-use Rattle.std.specs.Prelude.{◌==◌, ◌&&◌, not, IsTrue}
+use Rattle.std.proofs.Common.{◌≡◌, ◌∙◌, ℕ, ◌+◌, ◌<◌, Bool, true, false, cond, List, [], ◌∷◌, length, drop, Option, Some, None, refl, sym, ap, arith, length-drop, nat_le}
+use Rattle.std.specs.Prelude.{◌==◌, IsTrue}
 use Rattle.std.proofs.lemmas.Bool.{and_from, lt-ltb}
 use Rattle.scott_types.specs.declared.parts.Action.{Action}
 use Rattle.scott_types.specs.declared.states.State.{State}

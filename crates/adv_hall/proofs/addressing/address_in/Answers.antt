@@ -1,4 +1,4 @@
-use Rattle.std.proofs.Common.{◌≡◌, ◌∙◌, ◌+◌, drop, ap, sym, Some}
+use Rattle.std.proofs.Common.{◌∙◌, ◌+◌, ap, sym}
 use Rattle.scott_rules.specs.Commands.{Span}
 use Rattle.adv_hall.specs.Address.{number_among}
 use Rattle.adv_hall.proofs.GoingOn.{number-range}

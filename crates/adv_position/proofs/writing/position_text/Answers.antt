@@ -1,4 +1,4 @@
-use Rattle.std.proofs.Common.{◌≡◌, ◌++◌, ◌∷◌, [], codes, map, ap, ◌∙◌, pos}
+use Rattle.std.proofs.Common.{◌++◌, ◌∷◌, [], codes, map, ap, ◌∙◌, pos}
 use Rattle.std.specs.Fmt.{decimal}
 use Rattle.adv_io.specs.Text.{newline}
 use Rattle.adv_position.specs.Text.{at_line, room_line, number_line, numbers_line}

@@ -28,7 +28,8 @@ returns-in-Ok g c =
       bounded = omega (arith, c.in-Ok.ensures.spoken.bounded);
       cause = cause_then c.in-Ok-Got.ensures.cause (cause_again _ c.in-Ok.ensures.spoken.cause);
       fits = c.answer.ensures.fits;
-      ends = rw c.in-Ok.ensures.left at (c.answer_stands.ensures c.args.game.now c.take.new.line c.args.state.now);
+      ends = rw c.in-Ok.ensures.left at (c.answer_stands.ensures c.args.game.now c.take.new.line
+          c.args.state.now);
     }
 
 pub returns-in-Err-answer : goal.returns-in-Err-answer

@@ -1,4 +1,4 @@
-use Rattle.std.proofs.Common.{◌≡◌, ◌<◌, refl, sym, arith}
+use Rattle.std.proofs.Common.{◌<◌, refl, sym, arith}
 use Rattle.std.proofs.lemmas.Bool.{false≢true}
 use Rattle.std.proofs.lemmas.Result.{err_from_is_err_and}
 use Rattle.adv_io.proofs.Sayings.{cause_again, cause_fails, cause_then}
@@ -32,7 +32,9 @@ returns-then-not-is_prompt g c =
       cause = cause_again _ c.in_ok-reached.ensures.spoken.cause;
       taken = c.advance.ensures.taken;
       fits = c.advance.ensures.fits;
-      ends = rw c.in_ok-reached.ensures.left at (c.advance_stands.ensures c.args.game.now c.args.position c.args.state.now c.args.draws.now.left c.requires.ends);
+      ends = rw c.in_ok-reached.ensures.left at
+          (c.advance_stands.ensures c.args.game.now c.args.position c.args.state.now
+          c.args.draws.now.left c.requires.ends);
     }
 
 pub returns-in-Ok-None : goal.returns-in-Ok-None
@@ -46,7 +48,9 @@ returns-in-Ok-None g c =
       cause = cause_then c.in_ok-reached.ensures.spoken.cause (cause_again _ c.in-Ok-None.ensures.cause);
       taken = c.advance.ensures.taken;
       fits = c.answer_next.ensures.fits;
-      ends = rw c.in_ok-reached.ensures.left at (c.advance_stands.ensures c.args.game.now c.args.position c.args.state.now c.args.draws.now.left c.requires.ends);
+      ends = rw c.in_ok-reached.ensures.left at
+          (c.advance_stands.ensures c.args.game.now c.args.position c.args.state.now
+          c.args.draws.now.left c.requires.ends);
     }
 
 pub returns-in-Ok-Some : goal.returns-in-Ok-Some

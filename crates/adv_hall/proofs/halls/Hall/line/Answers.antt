@@ -1,5 +1,4 @@
-use Rattle.std.proofs.Common.{◌≡◌, ◌∙◌, ◌-◌, ◌<◌, ◌≤◌, length, Some, slice_get, slice_set, sym, ap, arith}
-use Rattle.std.specs.Prelude.{IsTrue}
+use Rattle.std.proofs.Common.{◌∙◌, ◌-◌, ◌<◌, ◌≤◌, length, slice_set, sym, ap, arith}
 use Rattle.scott_rules.specs.Play.{ending_of}
 use Rattle.adv_hall.specs.Seats.{is_whole}
 use Rattle.std.proofs.lemmas.List.{length-set}

@@ -1,6 +1,5 @@
-use Rattle.std.proofs.Common.{◌≡◌, ◌∙◌, length, ◌++◌, ◌∷◌, [], ◌+◌, ap, subst, refl}
+use Rattle.std.proofs.Common.{◌≡◌, ◌∙◌, length, ◌+◌, ap}
 use Rattle.std.specs.Prelude.{IsTrue}
-use Rattle.std.specs.List.{list_all}
 use Rattle.adv_hall.specs.Seats.{is_whole, seat_opened, seats_opened}
 use Rattle.adv_hall.proofs.Seating.{one_more, none_left, all-more, count-opened}
 use Rattle.adv_hall.proofs.halls.Hall.open.Goals as goal

@@ -1,4 +1,4 @@
-use Rattle.std.proofs.Common.{◌≡◌, to_z, of_z, w32, FitsSigned, rules}
+use Rattle.std.proofs.Common.{w32, FitsSigned, rules}
 use Rattle.std.proofs.lemmas.Int.{to_z-of_z}
 use Rattle.adv_position.proofs.Stepping.{field-no_label, field-no_number, field-some}
 use Rattle.adv_position.proofs.reader.Reader.field.Goals as goal

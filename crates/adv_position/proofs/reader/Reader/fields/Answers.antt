@@ -1,4 +1,4 @@
-use Rattle.std.proofs.Common.{◌∙◌, ◌≡◌, to_z, of_z, w32, length, rules}
+use Rattle.std.proofs.Common.{◌∙◌, ◌≡◌, w32, length, rules}
 use Rattle.std.proofs.lemmas.Int.{to_z-of_z}
 use Rattle.adv_position.proofs.Stepping.{fields-more}
 use Rattle.adv_position.proofs.reader.Reader.fields.Goals as goal

@@ -19,7 +19,10 @@ returns-in-Ok g c =
       game = rw (← c.self.view_is) refl;
       breaks = (λ _. rw (← c.self.view_is) at c.requires, λ _. refl);
       three = rw (c.ending_of.ensures)
-          (ending_known c.in-Ok.position (ends_well s.game.db c.in-Ok.position (rw c.in-Ok.ensures.left at (c.play_stands.ensures s.game s.position s.state lines c.args.draws.now.left c.self.invariant.1))));
+          (ending_known c.in-Ok.position
+          (ends_well s.game.db c.in-Ok.position
+          (rw c.in-Ok.ensures.left at (c.play_stands.ensures s.game s.position s.state lines
+          c.args.draws.now.left c.self.invariant.1))));
     }
 
 pub returns-in-Err : goal.returns-in-Err

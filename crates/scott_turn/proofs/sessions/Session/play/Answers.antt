@@ -23,7 +23,9 @@ returns-in-Ok g c =
       supplied = c.play_on.ensures.taken;
       game = rw (← c.self.view_is) refl;
       breaks = (λ _. rw (← c.self.view_is) at c.requires, λ _. refl);
-      three = rw (c.ending_of.ensures) (ending_known c.in-Ok.position (ends_well s.game.db c.in-Ok.position c.in-Ok.ensures.ends));
+      three = rw (c.ending_of.ensures)
+          (ending_known c.in-Ok.position
+          (ends_well s.game.db c.in-Ok.position c.in-Ok.ensures.ends));
     }
 
 pub returns-in-Err : goal.returns-in-Err
