@@ -76,6 +76,7 @@ const LINE: Action = Action {
 fn programs_have_lines(rt: HostRuntime) {
     let db = with_lines(&rt, &[LINE]);
     let _parts = db.parts();
+    let _state = State::start(&db);
     none_wide_at_32();
     let made = program(rt.alloc(), &db, Style::plain(), Width::W32, None);
     expect!(rt; made.expect(&rt, "memory").directives.len() == 86);
