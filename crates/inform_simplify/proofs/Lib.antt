@@ -1,0 +1,10 @@
+mod Fewer
+mod FewerTrees
+mod Plain
+mod Leaving
+mod Leaves
+mod Shortening
+mod Programs
+mod Reduced
+mod Examples
+mod Sound
