@@ -17,6 +17,8 @@ scott: the forms, with examples for the folder that ./scott stands in; docs/GUID
       ./scott translate games/hill.dat hill.inf style=y words=32
   run PROGRAM [draws=FILE | seed=N] [steps=N] [words=W]
       ./scott run games/inform/dice.inf seed=3 steps=5000 words=32
+  hall F N                                          plays N games of F at once, 1 to 64
+      ./scott hall games/hill.dat 2
 
 END
     local name
@@ -67,7 +69,7 @@ may_be() {
     esac
 }
 
-# How many names of files a command takes, and its settings.
+# How many words a command takes before its settings, names of files all but the N of hall, and its settings.
 form_of() {
     case $1 in
         check) echo 1 ;;
@@ -75,6 +77,7 @@ form_of() {
         run) echo 1 draws seed steps words ;;
         compile | decompile) echo 2 ;;
         translate) echo 2 style words ;;
+        hall) echo 2 ;;
         *) return 1 ;;
     esac
 }
@@ -100,9 +103,15 @@ name_faults() {
         return
     fi
     shift
-    if [ "$#" -lt "${form%% *}" ]; then
+    if [[ $command == hall && $# -lt 2 ]]; then
+        say "hall takes the name of a file and a number of sessions; ./scott --help has an example"
+        return
+    elif [ "$#" -lt "${form%% *}" ]; then
         say "$command takes more names of files than that; ./scott --help has an example"
         return
+    fi
+    if [[ $command == hall ]] && ! is_between "$2" 1 64; then
+        say "$2 is no number of sessions: that is a number from 1 to 64"
     fi
     shift "${form%% *}"
     for word in "$@"; do

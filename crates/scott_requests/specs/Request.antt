@@ -1,13 +1,14 @@
 -- What the words of the command line ask for.
-use Rattle.std.specs.Prelude.{ℕ, true, List, [], ◌∷◌, map, String, string_bytes, Option, None, option_map, unwrap_or, bytes_eq, codes, if◌then◌else◌}
+use Rattle.std.specs.Prelude.{ℕ, ◌≤◌, nat_le, true, ◌&&◌, List, [], ◌∷◌, map, String, string_bytes, Option, Some, None, option_map, unwrap_or, bytes_eq, codes, if◌then◌else◌}
 use Rattle.std.specs.Option.{option_and_then}
 use Rattle.scott_requests.specs.declared.settings.Kinds.{Kinds}
+use Rattle.scott_requests.specs.declared.requests.TheConstants.{MOST_SESSIONS}
 use Rattle.scott_requests.specs.declared.settings.TheConstants.{FIRST_SEED, USUAL_STEPS}
 use Rattle.inform_tree.specs.declared.widths.Width.{Width}
 use Rattle.inform_tree.specs.declared.widths.Width.TheVariants.{W16}
 use Rattle.scott_types.specs.declared.styles.Style.{Style}
 use Rattle.scott_types.specs.Style.{plain_style}
-use Rattle.scott_requests.specs.Parts.{file_name}
+use Rattle.scott_requests.specs.Parts.{file_name, number_of}
 use Rattle.scott_requests.specs.Settings.{DrawSource, seeded, Settings, no_kinds, no_settings, settings_from}
 
 -- what is to be played: the database of this name, with these draws, in this style
@@ -34,7 +35,8 @@ pub record RunRequest : Type 0 where
 
 -- the database of this name is to be checked; a source is to be compiled to a database, or a
 -- database decompiled to a source, from the file of the first name to that of the second; a
--- database is to be played or translated, or a program run
+-- database is to be played or translated, or a program run; so many sessions of a database are to
+-- be played from one list of lines
 pub data Request : Type 0 where
   check : List ℕ → Request
   compile : List ℕ → List ℕ → Request
@@ -42,6 +44,7 @@ pub data Request : Type 0 where
   play : PlayRequest → Request
   translate : TranslationRequest → Request
   run : RunRequest → Request
+  hall : List ℕ → ℕ → Request
 
 -- ---- the forms of the commands: what the words after a command ask for
 
@@ -140,7 +143,24 @@ run_of name settings =
 abbrev pub run_form : List (List ℕ) → Option Request
 run_form words = option_map (λ p. run (run_of p.0 p.1)) (file_and_settings run_kinds words)
 
+-- how many sessions: 1 at least, and no more than a hall has
+abbrev pub sessions_of : List ℕ → Option ℕ
+sessions_of digits =
+    option_and_then (λ n. if nat_le 1 n && nat_le n MOST_SESSIONS then Some n else None)
+    (number_of digits)
+
+-- one file, and a number of sessions
+abbrev pub hall_form : List (List ℕ) → Option Request
+hall_form (game ∷ count ∷ []) =
+    option_and_then (λ name. option_map (λ n. hall name n) (sessions_of count)) (file_name game)
+hall_form _ = None
+
 -- ---- requests
+
+-- the sessions that a hall is asked for are as many as it may have
+abbrev pub IsSized : Request → Type 0
+IsSized (hall game count) = (1 ≤ count) × (count ≤ MOST_SESSIONS)
+IsSized _ = Unit {0}
 
 -- what words ask for: a command, and its form
 abbrev pub request_in : List (List ℕ) → Option Request
@@ -151,7 +171,8 @@ request_in (command ∷ words) =
     if bytes_eq command (codes "decompile") then decompile_form words else
     if bytes_eq command (codes "play") then play_form words else
     if bytes_eq command (codes "translate") then translate_form words else
-    if bytes_eq command (codes "run") then run_form words else None
+    if bytes_eq command (codes "run") then run_form words else
+    if bytes_eq command (codes "hall") then hall_form words else None
 
 -- the same of the program's words
 abbrev pub asked_by : {Z : Type 0} → List (String Z) → Option Request

@@ -9,9 +9,9 @@ use Rattle.scott_requests.specs.declared.requests.PlayRequest.{PlayRequest as He
 use Rattle.scott_requests.specs.declared.requests.TranslationRequest.{TranslationRequest as HeldTranslation}
 use Rattle.scott_requests.specs.declared.requests.RunRequest.{RunRequest as HeldRun}
 use Rattle.scott_requests.specs.declared.requests.Request.{Request as HeldRequest}
-use Rattle.scott_requests.specs.declared.requests.Request.TheVariants.{Check, Compile, Decompile, Play, Translate, Run}
+use Rattle.scott_requests.specs.declared.requests.Request.TheVariants.{Check, Compile, Decompile, Play, Translate, Run, Hall}
 use Rattle.scott_requests.specs.Settings.{DrawSource, listed, seeded, Setting, draws, style, most_steps, word_width, Settings}
-use Rattle.scott_requests.specs.Request.{PlayRequest, TranslationRequest, RunRequest, Request, check, compile, decompile, play, translate, run}
+use Rattle.scott_requests.specs.Request.{PlayRequest, TranslationRequest, RunRequest, Request, check, compile, decompile, play, translate, run, hall}
 
 abbrev pub source_of : HeldSource → DrawSource
 source_of (Listed name) = listed name.now
@@ -55,3 +55,4 @@ request_of (Decompile game source) = decompile game.now source.now
 request_of (Play p) = play (asked_play p)
 request_of (Translate t) = translate (asked_translation t)
 request_of (Run r) = run (asked_run r)
+request_of (Hall game count) = hall game.now count

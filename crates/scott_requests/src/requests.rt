@@ -1,14 +1,17 @@
 //! Requests: a command, the names of its files, and its settings.
-ghost use Rattle.std.specs.Prelude.{◌≡◌, map, string_bytes, option_map};
-ghost use Rattle.scott_requests.specs.Request.{check_form, two_names, compile_form, decompile_form, file_and_settings, source_in, style_in, width_in, steps_in, play_form, files_and_settings, translate_form, run_form, asked_by};
+ghost use Rattle.std.specs.Prelude.{◌≡◌, ◌≤◌, map, string_bytes, option_map, IfSome};
+ghost use Rattle.scott_requests.specs.Request.{check_form, two_names, compile_form, decompile_form, file_and_settings, source_in, style_in, width_in, steps_in, play_form, files_and_settings, translate_form, run_form, sessions_of, hall_form, IsSized, asked_by};
 ghost use Rattle.scott_requests.specs.Views.{source_of, settings_of, request_of};
 
-use crate::parts::file_name;
+use crate::parts::{file_name, number_of};
 use crate::settings::{
     DrawSource, FIRST_SEED, Kinds, Settings, USUAL_STEPS, no_kinds, settings_in,
 };
 use inform_tree::Width;
 use scott_types::Style;
+
+/// The most sessions that a hall may be asked for.
+pub const MOST_SESSIONS: u64 = 64;
 
 /// What is to be played: the database of this name, with these draws, in this style.
 #[derive(Clone, Copy, PartialEq, Eq)]
@@ -44,6 +47,8 @@ pub struct RunRequest<'a> {
 /// - `Compile`: the source of the first name is to be stored as a database under the second one.
 /// - `Decompile`: the database of the first name is to be stored as a source under the second one.
 /// - `Play`, `Translate`, `Run`: a database is to be played or translated, a program to be run.
+/// - `Hall`: so many sessions of the database of this name are to be played from one list of lines,
+///   1 to `MOST_SESSIONS`.
 #[derive(Clone, Copy, PartialEq, Eq)]
 pub enum Request<'a> {
     Check(&'a str),
@@ -52,11 +57,13 @@ pub enum Request<'a> {
     Play(PlayRequest<'a>),
     Translate(TranslationRequest<'a>),
     Run(RunRequest<'a>),
+    Hall(&'a str, u8),
 }
 
 // `check` with the words after it.
 fn check_form(words: &[String]) -> Option<Request<'_>>
-    ensures { option_map request_of result ≡ check_form (map string_bytes words.now) }
+    ensures value { option_map request_of result ≡ check_form (map string_bytes words.now) }
+    ensures sized { IfSome result (λ r. IsSized (request_of r)) }
 {
     let [game] = words else {
         return None;
@@ -77,7 +84,8 @@ fn two_names(words: &[String]) -> Option<(&str, &str)>
 
 // `compile` with the words after it.
 fn compile_form(words: &[String]) -> Option<Request<'_>>
-    ensures { option_map request_of result ≡ compile_form (map string_bytes words.now) }
+    ensures value { option_map request_of result ≡ compile_form (map string_bytes words.now) }
+    ensures sized { IfSome result (λ r. IsSized (request_of r)) }
 {
     match two_names(words) {
         Some((source, game)) => Some(Request::Compile(source, game)),
@@ -87,7 +95,8 @@ fn compile_form(words: &[String]) -> Option<Request<'_>>
 
 // `decompile` with the words after it.
 fn decompile_form(words: &[String]) -> Option<Request<'_>>
-    ensures { option_map request_of result ≡ decompile_form (map string_bytes words.now) }
+    ensures value { option_map request_of result ≡ decompile_form (map string_bytes words.now) }
+    ensures sized { IfSome result (λ r. IsSized (request_of r)) }
 {
     match two_names(words) {
         Some((game, source)) => Some(Request::Decompile(game, source)),
@@ -134,7 +143,8 @@ fn steps_in(settings: Settings<'_>) -> u64
 
 // `play` with the words after it.
 fn play_form(words: &[String]) -> Option<Request<'_>>
-    ensures { option_map request_of result ≡ play_form (map string_bytes words.now) }
+    ensures value { option_map request_of result ≡ play_form (map string_bytes words.now) }
+    ensures sized { IfSome result (λ r. IsSized (request_of r)) }
 {
     let kinds = Kinds {
         draws: true,
@@ -160,7 +170,8 @@ fn files_and_settings(words: &[String], kinds: Kinds) -> Option<(&str, (&str, Se
 
 // `translate` with the words after it.
 fn translate_form(words: &[String]) -> Option<Request<'_>>
-    ensures { option_map request_of result ≡ translate_form (map string_bytes words.now) }
+    ensures value { option_map request_of result ≡ translate_form (map string_bytes words.now) }
+    ensures sized { IfSome result (λ r. IsSized (request_of r)) }
 {
     let kinds = Kinds {
         style: true,
@@ -178,7 +189,8 @@ fn translate_form(words: &[String]) -> Option<Request<'_>>
 
 // `run` with the words after it.
 fn run_form(words: &[String]) -> Option<Request<'_>>
-    ensures { option_map request_of result ≡ run_form (map string_bytes words.now) }
+    ensures value { option_map request_of result ≡ run_form (map string_bytes words.now) }
+    ensures sized { IfSome result (λ r. IsSized (request_of r)) }
 {
     let kinds = Kinds {
         draws: true,
@@ -195,9 +207,34 @@ fn run_form(words: &[String]) -> Option<Request<'_>>
     }))
 }
 
+// How many sessions digits ask for.
+fn sessions_of(digits: &str) -> Option<u8>
+    ensures value { result ≡ sessions_of digits.now }
+    ensures range { IfSome result (λ n. (1 ≤ n) × (n ≤ MOST_SESSIONS)) }
+{
+    match number_of(digits) {
+        Some(count) if 1 <= count && count <= MOST_SESSIONS => Some(count as u8),
+        _ => None,
+    }
+}
+
+// `hall` with the words after it.
+fn hall_form(words: &[String]) -> Option<Request<'_>>
+    ensures value { option_map request_of result ≡ hall_form (map string_bytes words.now) }
+    ensures sized { IfSome result (λ r. IsSized (request_of r)) }
+{
+    let [game, count] = words else {
+        return None;
+    };
+    let game = file_name(game.as_str())?;
+    let count = sessions_of(count.as_str())?;
+    Some(Request::Hall(game, count))
+}
+
 /// What the words ask for, if they are a request. docs/GUIDE.md has the words of each.
 pub fn request_in(words: &[String]) -> Option<Request<'_>>
-    ensures { option_map request_of result ≡ asked_by words.now }
+    ensures value { option_map request_of result ≡ asked_by words.now }
+    ensures sized { IfSome result (λ r. IsSized (request_of r)) }
 {
     let (command, rest) = words.split_first()?;
     match command.as_str() {
@@ -207,6 +244,7 @@ pub fn request_in(words: &[String]) -> Option<Request<'_>>
         "play" => play_form(rest),
         "translate" => translate_form(rest),
         "run" => run_form(rest),
+        "hall" => hall_form(rest),
         _ => None,
     }
 }

@@ -3,9 +3,9 @@ use Rattle.std.proofs.Common.{◌≡◌, ◌∙◌, ℕ, List, Option, Some, Non
 use Rattle.adv_io.specs.Console.{ConsoleView}
 use Rattle.adv_io.specs.History.{says, grown}
 use Rattle.adv_io.specs.Shelf.{Files, ShelfView, with_file}
-use Rattle.scott_requests.specs.Request.{Request, check, compile, decompile, play, translate, run}
+use Rattle.scott_requests.specs.Request.{Request, check, compile, decompile, play, translate, run, hall}
 use Rattle.scott_tool.specs.Plan.{plan, Reaches}
-use Rattle.scott_tool.specs.Promises.{IsEnd, WasDone, HasDone, HasChecked, HasCompiled, HasDecompiled, HasPlayed, HasTranslated, HasRun, HasReplayed}
+use Rattle.scott_tool.specs.Promises.{IsEnd, WasDone, HasDone, HasChecked, HasCompiled, HasDecompiled, HasPlayed, HasTranslated, HasRun, HasReplayed, HasPlayedHall}
 use Rattle.scott_tool.specs.Laws.{Laws}
 use Rattle.scott_tool.proofs.Promised.{Promises, from_lines}
 use Rattle.scott_tool.proofs.Replaying.{replays}
@@ -109,6 +109,17 @@ module _ (shelf shelf' : ShelfView) (console console' : ConsoleView) (asked : Op
         seen = grew ∙ ap (λ x. grown console.history x.events) does;
       }) d.seen)
 
+  pub played_hall : HasPlayedHall shelf console console' asked
+  played_hall game count is = done_for (hall game count) is _
+      (λ files known (bytes, db, there, text, d).
+      from_lines console.left _ _ (λ lines (o, does, ends, grew). record {
+        bytes = bytes;
+        db = db;
+        there = there;
+        text = text;
+        seen = grew ∙ ap (λ x. grown console.history x.events) does;
+      }) d.seen)
+
 -- the clauses of the commands
 pub record Meanings (shelf shelf' : ShelfView) (console console' : ConsoleView)
     (asked : Option Request) (status : ℕ) : Type 0 where
@@ -119,6 +130,7 @@ pub record Meanings (shelf shelf' : ShelfView) (console console' : ConsoleView)
   pub translated_is : status ≡ 0 → HasTranslated shelf shelf' asked
   pub ran_is : IsEnd status → HasRun shelf console console' asked status
   pub replayed_is : HasReplayed shelf console console' asked status
+  pub played_hall_is : status ≡ 0 → HasPlayedHall shelf console console' asked
 
 pub meanings : (laws : Laws) (shelf shelf' : ShelfView) (console console' : ConsoleView)
     (asked : Option Request) (status : ℕ)
@@ -136,4 +148,6 @@ meanings laws shelf shelf' console console' asked status all = record {
   ran_is = λ end. ran shelf shelf' console console' asked status (all.done end);
   replayed_is = replays laws shelf console console' asked status
       (λ end. ran shelf shelf' console console' asked status (all.done end));
+  played_hall_is = λ zero. played_hall shelf shelf' console console' asked status
+      (all.done (inl zero));
 }

@@ -13,6 +13,7 @@ pub mod Done
 pub mod Replaying
 pub mod Hill
 pub mod Playing
+pub mod Halls
 pub mod Programs
 pub mod Routines
 pub mod Running

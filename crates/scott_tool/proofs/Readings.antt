@@ -15,7 +15,7 @@ use Rattle.inform_tree.specs.Programs.{DirectiveTree}
 use Rattle.inform_reader.specs.Reading as reader
 use Rattle.inform_reader.specs.Reading.{IsProgram, program_in}
 use Rattle.scott_requests.specs.Settings.{DrawSource, listed, seeded}
-use Rattle.scott_requests.specs.Request.{Request, check, compile, decompile, play, translate, run}
+use Rattle.scott_requests.specs.Request.{Request, check, compile, decompile, play, translate, run, hall}
 use Rattle.scott_types.specs.Database.{Database}
 use Rattle.scott_tool.specs.Laws.{Laws}
 use Rattle.scott_tool.specs.Steps.{◌>>=◌}
@@ -145,6 +145,7 @@ made (decompile game source) = (refl, λ db. (refl, refl))
 made (play p) = (refl, λ db. (refl, λ ds. (refl, refl)))
 made (translate t) = (refl, λ db. (refl, refl))
 made (run r) = (refl, λ p. (refl, λ ds. (refl, refl)))
+made (hall game count) = (refl, λ db. (refl, refl))
 
 -- the task of a plan that was followed stores under its name, and has its other statuses
 pub task_made : (main draws : Option Load) (name : Option (List ℕ)) (late : List ℕ)

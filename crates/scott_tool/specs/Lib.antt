@@ -8,6 +8,7 @@ pub mod Decompile
 pub mod Play
 pub mod Translate
 pub mod Run
+pub mod Hall
 pub mod Replay
 pub mod Work
 pub mod Plan

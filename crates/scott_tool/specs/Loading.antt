@@ -4,7 +4,7 @@ use Rattle.std.specs.FinMap.{get}
 use Rattle.adv_io.specs.Shelf.{Files}
 use Rattle.scott_format.specs.declared.reading.TheConstants.{DATABASE_LIMIT}
 use Rattle.scott_requests.specs.Settings.{DrawSource, listed, seeded}
-use Rattle.scott_requests.specs.Request.{Request, check, compile, decompile, play, translate, run}
+use Rattle.scott_requests.specs.Request.{Request, check, compile, decompile, play, translate, run, hall}
 use Rattle.inform_reader.specs.declared.reading.TheConstants.{PROGRAM_LIMIT}
 use Rattle.scott_tool.specs.declared.loads.TheConstants.{SOURCE_LIMIT, DRAWS_LIMIT}
 use Rattle.scott_tool.specs.Steps.{◌>>=◌}
@@ -46,6 +46,7 @@ loads_of (decompile game source) = only (database_load game)
 loads_of (play p) = record (only (database_load p.game)) { draws = draws_load p.source }
 loads_of (translate t) = only (database_load t.game)
 loads_of (run r) = record (only (program_load r.program)) { draws = draws_load r.source }
+loads_of (hall game count) = only (database_load game)
 
 abbrev pub main_of : Request → Option Load
 main_of request = (loads_of request).main
@@ -61,6 +62,7 @@ stores (decompile game source) = Some source
 stores (play p) = None
 stores (translate t) = Some t.program
 stores (run r) = None
+stores (hall game count) = None
 
 -- the statuses, besides 0, 3, 8 and 10, with which a request may have worked on the console: 2
 -- where a file is stored after that, and 9 where memory is wanted after it

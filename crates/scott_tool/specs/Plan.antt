@@ -12,7 +12,7 @@ use Rattle.scott_format.specs.Canon.{canon}
 use Rattle.scott_format.specs.Faults.{Fault}
 use Rattle.scott_format.specs.File.{DatText, DatFault}
 use Rattle.scott_requests.specs.Settings.{DrawSource}
-use Rattle.scott_requests.specs.Request.{Request, check, compile, decompile, play, translate, run}
+use Rattle.scott_requests.specs.Request.{Request, check, compile, decompile, play, translate, run, hall}
 use Rattle.scott_types.specs.declared.styles.Style.{Style}
 use Rattle.scott_types.specs.Database.{Database}
 use Rattle.source_reader.specs.Text.{SourceText}
@@ -27,7 +27,7 @@ use Rattle.scott_tool.specs.Compile.{compiled_from, IsNoSource}
 use Rattle.scott_tool.specs.Play.{draws_from, DrawsAre, AreNoDraws}
 use Rattle.scott_tool.specs.Translate.{translatable}
 use Rattle.scott_tool.specs.Run.{program_of_file}
-use Rattle.scott_tool.specs.Work.{exactly, translation, Task, saying, storing, Does, task_statuses, late_of, play_task, run_task}
+use Rattle.scott_tool.specs.Work.{exactly, translation, Task, saying, storing, Does, task_statuses, late_of, play_task, run_task, hall_task}
 
 -- The file of this name is read as a database, as a source of one, or as a program for words of
 -- this width; the draws are read; that no number of the database is too wide for words of this
@@ -53,6 +53,7 @@ plan (translate t) =
 plan (run r) =
     of_program r.width r.program
     (λ p. with_draws r.source (λ draws. doing (run_task r.width p r.steps draws)))
+plan (hall game count) = of_game game (λ db. doing (hall_task db count))
 
 -- ---- a plan on what was loaded: its task, or the first content that is refused
 

@@ -4,7 +4,7 @@ use Rattle.adv_io.specs.Console.{ConsoleView}
 use Rattle.adv_io.specs.Faults.{Rose}
 use Rattle.adv_io.specs.History.{grown}
 use Rattle.adv_io.specs.Shelf.{Files, ShelfView, with_file}
-use Rattle.scott_requests.specs.Request.{PlayRequest, TranslationRequest, RunRequest, Request, check, compile, decompile, play, translate, run}
+use Rattle.scott_requests.specs.Request.{PlayRequest, TranslationRequest, RunRequest, Request, check, compile, decompile, play, translate, run, hall}
 use Rattle.scott_types.specs.declared.styles.Style.{Style}
 use Rattle.scott_types.specs.Database.{Database}
 use Rattle.scott_tool.specs.Refusal.{no_request, unread}
@@ -21,6 +21,7 @@ use Rattle.scott_tool.specs.Play.{Played}
 use Rattle.scott_tool.specs.Translate.{Translated}
 use Rattle.scott_tool.specs.Run.{Ran}
 use Rattle.scott_tool.specs.Replay.{IsReplay, Replayed}
+use Rattle.scott_tool.specs.Hall.{HallPlayed}
 
 -- where the files and the lines are known, this holds of both
 abbrev pub IfKnown : ShelfView → ConsoleView → (Files → List (List ℕ) → Type 0) → Type 0
@@ -161,6 +162,11 @@ HasReplayed shelf console console' asked status =
     → IfKnown shelf console
     (λ files lines. IsReplay files lines r.program r.steps r.width style db
     → Replayed files lines r.source style db console console' status)
+
+abbrev pub HasPlayedHall : ShelfView → (console console' : ConsoleView) → Option Request → Type 0
+HasPlayedHall shelf console console' asked =
+    (game : List ℕ) (count : ℕ) → asked ≡ Some (hall game count)
+    → IfKnown shelf console (λ files lines. HallPlayed files lines game count console console')
 
 -- ---- counts of faults
 

@@ -57,8 +57,9 @@ status_of (unwritten name) = 2
 
 -- how the program is called
 unfoldable pub usage : List ℕ
-usage = codes
-    "usage: scott check F | compile S F | decompile F S | play F | translate F G | run G\n"
+usage =
+    codes "usage: scott check F | compile S F | decompile F S | play F | translate F G | run G"
+    ++ codes " | hall F N\n"
 
 unfoldable pub cannot_read : List ℕ
 cannot_read = codes "cannot read "

@@ -1,5 +1,6 @@
 -- Tasks: what is done for a request, once all that it reads is accepted.
 use Rattle.std.specs.Prelude.{◌≡◌, ℕ, List, [], ◌∷◌, Option, Some, None, option_map}
+use Rattle.adv_hall.specs.Alone.{hall_events}
 use Rattle.adv_io.specs.declared.events.Event.{Event}
 use Rattle.adv_io.specs.History.{says, shown}
 use Rattle.adv_io.specs.Steps.{trace_of}
@@ -106,6 +107,10 @@ abbrev pub play_task : Style → Database → List ℕ → Task
 play_task style db draws =
     playing
     (showing (λ lines. shown (trace_of (rules.play (in_style style db) lines draws).events))) None
+
+-- so many sessions of a database, each as it plays alone
+abbrev pub hall_task : Database → ℕ → Task
+hall_task db count = playing (showing (λ lines. hall_events db count lines)) None
 
 -- a program for words of this width and so many steps at most, with these draws
 abbrev pub run_task : Width → List DirectiveTree → ℕ → List ℕ → Task

@@ -1,4 +1,5 @@
 //! The commands, each on what was loaded for it.
+ghost use Rattle.scott_requests.specs.Request.{IsSized};
 ghost use Rattle.scott_requests.specs.Views.{request_of};
 ghost use Rattle.scott_tool.specs.Refusal.{refusing};
 ghost use Rattle.scott_tool.specs.Plan.{work};
@@ -8,6 +9,7 @@ ghost use Rattle.scott_tool.specs.Obeying.{Obeys, MainFits};
 mod check;
 mod compile;
 mod decompile;
+mod hall;
 mod play;
 mod run;
 mod saying;
@@ -20,6 +22,7 @@ use adv_io::{Console, Shelf};
 use check::report_on;
 use compile::database_text;
 use decompile::source_text;
+use hall::play_hall;
 use play::play;
 use run::run;
 use saying::say_made;
@@ -36,7 +39,8 @@ pub fn work<S: Shelf, C: Console>(
     shelf: &mut S,
     console: &mut C,
 ) -> Status
-    requires { MainFits (request_of request) (texts_in texts.now) }
+    requires fits { MainFits (request_of request) (texts_in texts.now) }
+    requires sized { IsSized (request_of request) }
     ensures { Obeys (S.seen shelf.old) (S.seen shelf.new) (C.seen console.old) (C.seen console.new)
         (refusing (work (request_of request.entry) (texts_in texts.now))) (number_of result) }
 {
@@ -56,5 +60,6 @@ pub fn work<S: Shelf, C: Console>(
             store_made(alloc, asked.program, made, shelf, console)
         }
         Request::Run(asked) => run(alloc, asked, texts, console),
+        Request::Hall(game, count) => play_hall(alloc, game, count, texts, console),
     }
 }

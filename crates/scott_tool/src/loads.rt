@@ -108,6 +108,7 @@ fn loads_of(request: Request<'_>) -> Loads<'_>
             main: Some(program_load(run.program)),
             draws: draws_load(run.source),
         },
+        Request::Hall(game, _) => only(database_load(game)),
     }
 }
 

@@ -1,11 +1,11 @@
 //! The program's one call.
 ghost use Rattle.std.specs.Prelude.{◌≡◌, Some};
-ghost use Rattle.scott_requests.specs.Request.{asked_by};
+ghost use Rattle.scott_requests.specs.Request.{IsSized, asked_by};
 ghost use Rattle.scott_requests.specs.Views.{request_of};
 ghost use Rattle.scott_tool.specs.Laws.{Laws};
 ghost use Rattle.scott_tool.specs.Views.{number_of};
 ghost use Rattle.scott_tool.specs.Obeying.{Handled};
-ghost use Rattle.scott_tool.specs.Promises.{HasStatus, IsSeen, KeepsFiles, Completes, IsEnd, HasDone, HasChecked, HasCompiled, HasDecompiled, HasPlayed, HasTranslated, HasRun, HasReplayed, Counts};
+ghost use Rattle.scott_tool.specs.Promises.{HasStatus, IsSeen, KeepsFiles, Completes, IsEnd, HasDone, HasChecked, HasCompiled, HasDecompiled, HasPlayed, HasTranslated, HasRun, HasReplayed, HasPlayedHall, Counts};
 
 use crate::commands::work;
 use crate::loads::load_texts;
@@ -25,6 +25,7 @@ fn obey<S: Shelf, C: Console>(
     shelf: &mut S,
     console: &mut C,
 ) -> Status
+    requires { IsSized (request_of request) }
     ensures { Handled (S.seen shelf.old) (S.seen shelf.new) (C.seen console.old)
         (C.seen console.new) (Some (request_of request.entry)) (number_of result) }
 {
@@ -137,6 +138,11 @@ pub fn scott<S: Shelf, C: Console>(
     // play of the database.
     ensures replayed { HasReplayed (S.seen shelf.old)
         (C.seen console.old) (C.seen console.new) (asked_by words.now) result }
+
+    // With 0 `hall` has shown each line that it took and what is said of it, which of each session
+    // is what it would say on its lines alone.
+    ensures played_hall { result ≡ 0 → HasPlayedHall (S.seen shelf.old)
+        (C.seen console.old) (C.seen console.new) (asked_by words.now) }
 
     // No count of faults falls. The console's stays with every status but 3, and the shelf's with
     // every one but 2 and 3.

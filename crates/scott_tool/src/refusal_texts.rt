@@ -7,7 +7,8 @@ ghost use Rattle.scott_tool.specs.Refusal.{usage, cannot_read, cannot_write, aft
 pub fn usage<'a>() -> &'a [u8]
     ensures { result.now ≡ usage }
 {
-    b"usage: scott check F | compile S F | decompile F S | play F | translate F G | run G\n"
+    b"usage: scott check F | compile S F | decompile F S | play F | translate F G | run G\
+    \x20| hall F N\n"
 }
 
 #[tactic(auto, unfolding(crate::specs::Refusal::cannot_read))]

@@ -5,7 +5,7 @@ use crate::refusals::{self, USAGE};
 use crate::trying::{
     Case, File, NOTHING, Translated, answer_of, console_of, expect, expect_translated, steps_needed,
 };
-use crate::{expect, lines, runs, sources, translations};
+use crate::{expect, halls, lines, runs, sources, translations};
 use adv_io::{MemoryConsole, MemoryShelf};
 use scott_tool::{scott, status_without_words};
 use std::io::ErrorKind;
@@ -33,6 +33,11 @@ fn is_in(part: &[u8], text: &[u8]) -> bool {
 #[test]
 fn plays_are_answered(rt: HostRuntime) {
     expect_all(&rt, &plays::ALL);
+}
+
+#[test]
+fn halls_are_answered(rt: HostRuntime) {
+    expect_all(&rt, &halls::ALL);
 }
 
 #[test]
@@ -247,6 +252,11 @@ fn expect_failures<R: Abort + AllocGlobal>(rt: &R, case: &Case<'_>) -> u64 {
 #[test]
 fn consoles_of_plays_fail(rt: HostRuntime) {
     expect!(rt; 8 <= expect_failures(&rt, &WALK));
+}
+
+#[test]
+fn consoles_of_halls_fail(rt: HostRuntime) {
+    expect!(rt; 8 <= expect_failures(&rt, &halls::TWO_SESSIONS));
 }
 
 #[test]

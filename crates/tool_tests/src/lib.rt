@@ -14,6 +14,8 @@ mod trying;
 
 // What is expected, as tables.
 #[cfg(test)]
+mod halls;
+#[cfg(test)]
 mod lines;
 #[cfg(test)]
 mod plays;

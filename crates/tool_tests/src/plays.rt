@@ -4,11 +4,11 @@ use crate::trying::{Case, File, NOTHING};
 
 pub const HALL: &str = "I'm in a hall\nObvious exits: North.\n\nI can also see: Rug\n";
 
-const HILL: &str = "I'm on a hill\nObvious exits: South.\n";
+pub const HILL: &str = "I'm on a hill\nObvious exits: South.\n";
 
 pub const ASK: &str = "\nTell me what to do ? ";
 
-const MOVED: &str = "O.K.\n";
+pub const MOVED: &str = "O.K.\n";
 
 /// No head is for the command.
 pub const NO: &str = "I don't understand your command. ";

@@ -4,7 +4,8 @@ use crate::plays::{ASK, HALL};
 use crate::trying::{Case, File, NOTHING};
 
 pub const USAGE: &str =
-    "usage: scott check F | compile S F | decompile F S | play F | translate F G | run G\n";
+    "usage: scott check F | compile S F | decompile F S | play F | translate F G | run G \
+    | hall F N\n";
 
 const UNASKED: Case<'static> = Case {
     status: 1,
@@ -12,8 +13,28 @@ const UNASKED: Case<'static> = Case {
     ..NOTHING
 };
 
-const NO_REQUESTS: [Case<'static>; 12] = [
+const NO_REQUESTS: [Case<'static>; 17] = [
     UNASKED,
+    Case {
+        command: "hall t.dat",
+        ..UNASKED
+    },
+    Case {
+        command: "hall t.dat 0",
+        ..UNASKED
+    },
+    Case {
+        command: "hall t.dat 65",
+        ..UNASKED
+    },
+    Case {
+        command: "hall t.dat two",
+        ..UNASKED
+    },
+    Case {
+        command: "hall t.dat 2 seed=1",
+        ..UNASKED
+    },
     Case {
         command: "run",
         ..UNASKED

@@ -28,3 +28,7 @@ pub returns-in-Translate : goal.returns-in-Translate
 returns-in-Translate g c =
     c.store_made-in-Translate.ensures (work (request_of c.args.request) (texts_in c.args.texts.now))
     (rw c.in-Translate.is c.program_text-made.ensures)
+
+pub returns-in-Hall : goal.returns-in-Hall
+returns-in-Hall g c =
+    rw c.in-Hall.is (c.play_hall.ensures (g.S.Shelf.seen c.args.shelf.now))

@@ -20,5 +20,6 @@ returns g c =
       translated = means.translated_is;
       ran = means.ran_is;
       replayed = means.replayed_is;
+      played_hall = means.played_hall_is;
       counts = all.counts;
     }
