@@ -5,8 +5,8 @@ use Rattle.inform_tree.specs.Statements.{statements}
 use Rattle.inform_tree.specs.declared.widths.Width.TheVariants.{W16}
 use Rattle.inform_meaning.proofs.Opened.{opened}
 use Rattle.inform_simplify.specs.Redexes.{IsOpenIf, AreReduced}
-use Rattle.inform_simplify.specs.Simplifying.{Shortens, nothing, each, cut, dropped, leaf, if_true, routine, ProgramShortens, no_directives, each_directive}
-use Rattle.inform_simplify.specs.Worked.{print, are_equal, known_test, one_block, never_entered, main, KnownTestsGo, ClosedLoopsGo, CallsStay}
+use Rattle.inform_simplify.specs.Simplifying.{Shortens, nothing, each, cut, dropped, leaf, if_true, if_open, routine, ProgramShortens, no_directives, each_directive}
+use Rattle.inform_simplify.specs.Worked.{print, are_equal, known_test, one_block, never_entered, calls_f, calling_test, main, KnownTestsGo, ClosedLoopsGo, CallsStay}
 use Rattle.inform_simplify.proofs.Plain.{no}
 
 -- the list of one statement in which no list stands
@@ -34,8 +34,21 @@ closed_loops_go = (closed_loop_goes, refl, refl)
 alone_reduced : (text : List ℕ) → AreReduced W16 (statements (print text ∷ []))
 alone_reduced text = (tt, (λ leaves. refl), tt)
 
+-- the test is neither constant nor plain
+test_is_open : IsOpenIf W16 calls_f (statements (print (codes "a") ∷ []))
+    (statements (print (codes "a") ∷ []))
+test_is_open = record { unknown = refl; different = λ plain same. no plain }
+
+calling_test_stays : ProgramShortens W16 calling_test calling_test
+calling_test_stays = each_directive _ _ _ _ (routine _ _ (alone (codes "x")))
+    (each_directive _ _ _ _ (routine _ _ (each _ _ _ _ refl
+    (if_open calls_f _ _ _ _ test_is_open (alone (codes "a")) (alone (codes "a"))) nothing))
+    no_directives)
+
 pub calls_stay : CallsStay
 unfolding opened
-calls_stay = let body = alone_reduced (codes "a") in
-    let test : IsOpenIf W16 _ _ _ = record { unknown = refl; different = λ plain same. no plain } in
-    ((alone_reduced (codes "x"), (((test, body, body), (λ leaves. refl), tt), tt)), refl)
+calls_stay = let body = alone_reduced (codes "a") in (
+  (alone_reduced (codes "x"), (((test_is_open, body, body), (λ leaves. refl), tt), tt)),
+  calling_test_stays,
+  refl,
+)

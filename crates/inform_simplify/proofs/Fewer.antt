@@ -129,6 +129,7 @@ when-fewer false h k = k
 -- ---- what frames do
 
 module _ {b : ℕ} (f f' : Frame) where
+  -- a frame goes on, or hands on what it was handed
   normal-on : {m m' : Meaning} → Fewer b m m' → (e e' : Outcome) → Same e e' → Any e
       → By b (on_normal f m e) (on_normal f' m' e')
   unfolding on_normal
@@ -152,6 +153,7 @@ module _ {b : ℕ} (f f' : Frame) where
     goes_on = normal-on h;
   }
 
+  -- the same where what it goes on with makes no difference, since it never does
   left-on : (m m' : Meaning) (e e' : Outcome) → Same e e' → IsLeft e
       → By b (on_normal f m e) (on_normal f' m' e')
   unfolding on_normal
@@ -176,6 +178,7 @@ module _ {b : ℕ} (f f' : Frame) where
     goes_on = left-on m m';
   }
 
+  -- a frame that waits for a value
   value-on : {k k' : ℤ → Meaning} → ((v : ℤ) → Fewer b (k v) (k' v)) → (e e' : Outcome)
       → Same e e' → Any e → By b (on_value f k e) (on_value f' k' e')
   unfolding on_value
@@ -199,6 +202,7 @@ module _ {b : ℕ} (f f' : Frame) where
     goes_on = value-on h;
   }
 
+  -- and one that waits for a truth value
   truth-on : {k k' : Bool → Meaning} → ((a : Bool) → Fewer b (k a) (k' a)) → (e e' : Outcome)
       → Same e e' → Any e → By b (on_truth f k e) (on_truth f' k' e')
   unfolding on_truth
@@ -222,6 +226,7 @@ module _ {b : ℕ} (f f' : Frame) where
     goes_on = truth-on h;
   }
 
+  -- a loop, after its body
   body-on : {m m' : Meaning} → Fewer b m m' → (e e' : Outcome) → Same e e' → Any e
       → By b (on_body f m e) (on_body f' m' e')
   unfolding on_body
@@ -246,6 +251,7 @@ module _ {b : ℕ} (f f' : Frame) where
   }
 
 module _ {b : ℕ} where
+  -- a call, after the body of its routine
   return-on : (s : Scope) (e e' : Outcome) → Same e e' → Any e
       → By b (on_return s e) (on_return s e')
   unfolding on_return
@@ -268,6 +274,7 @@ module _ {b : ℕ} where
     goes_on = return-on s;
   }
 
+  -- and the end of `Main`
   main-on : (e e' : Outcome) → Same e e' → Any e → By b (on_main e) (on_main e')
   unfolding on_main
   main-on e e' (equal Normal) any = stay-by (equal _)

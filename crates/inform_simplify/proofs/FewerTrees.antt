@@ -83,6 +83,7 @@ module _ (l l' : Loop) (same : (a : Bool) → loop_goes_on l a ≡ loop_goes_on 
         (loop l' x' body' change' (plus k c))) (sym none) (let more = after (plus k c) in
         spent (Begins (f.TurnDue l) ∷ []) c _ more.events more.past)
 
+    -- the loop's next turn, and then the loop with a step less
     at : (b : ℕ) → Fewer b x x' → Fewer b body body' → Fewer b change change'
         → By b (loop l x body change) (loop l' x' body' change')
     at zero hx hb hc c k few = no_turn c k (omega (arith, few))
@@ -102,29 +103,29 @@ module _ (l l' : Loop) (same : (a : Bool) → loop_goes_on l a ≡ loop_goes_on 
 
 -- ---- values, conditions, changes and items
 
+-- a program of which nothing is noted
+abbrev pub unnoted : Width → (List ℕ → Option ℤ) → (List ℕ → Option Routine) → Program
+unnoted width constants routines = record {
+  width = width;
+  constants = constants;
+  routines = routines;
+  notes = no_notes;
+}
+
+-- two programs that differ in their routines alone
 module _ (width : Width) (constants : List ℕ → Option ℤ)
     (routines routines' : List ℕ → Option Routine) where
-  -- a program, and the one with other routines
-  abbrev pub old_program : Program
-  old_program = record {
-    width = width;
-    constants = constants;
-    routines = routines;
-    notes = no_notes;
-  }
+  abbrev old : Program
+  old = unnoted width constants routines
 
-  abbrev pub new_program : Program
-  new_program = record {
-    width = width;
-    constants = constants;
-    routines = routines';
-    notes = no_notes;
-  }
+  abbrev new : Program
+  new = unnoted width constants routines'
 
   module _ {b : ℕ} (call call' : Calls) (hc : FewerCalls b call call') where
+    -- what is the same tree in both differs in its calls alone
     mutual
       pub eval-fewer : (x : Expression)
-          → Fewer b (eval old_program call x) (eval new_program call' x)
+          → Fewer b (eval old call x) (eval new call' x)
       eval-fewer (v.Number n) = stays
       eval-fewer (v.Char byte) = stays
       eval-fewer (v.Name name) = acts _ (λ w. w)
@@ -143,8 +144,8 @@ module _ (width : Width) (constants : List ℕ → Option ℤ)
           (λ a. eval_product-fewer a xs)
 
       pub eval_call-fewer : (name : List ℕ) (values : List ℤ) (xs : Arguments)
-          → Fewer b (eval_call old_program call name values xs)
-          (eval_call new_program call' name values xs)
+          → Fewer b (eval_call old call name values xs)
+          (eval_call new call' name values xs)
       eval_call-fewer name values v.NoArguments = tick-fewer (Begins (f.CallDue name values))
           (Begins (f.CallDue name values)) (hc name values)
       eval_call-fewer name values (v.MoreArguments x xs) =
@@ -152,14 +153,14 @@ module _ (width : Width) (constants : List ℕ → Option ℤ)
           (eval-fewer x) (λ a. eval_call-fewer name (with_argument values a) xs)
 
       eval_sum-fewer : (a : ℤ) (xs : Terms)
-          → Fewer b (eval_sum old_program call a xs) (eval_sum new_program call' a xs)
+          → Fewer b (eval_sum old call a xs) (eval_sum new call' a xs)
       eval_sum-fewer a v.NoTerms = stays
       eval_sum-fewer a (v.MoreTerms op x xs) =
           value-fewer (Wants (f.SumOnto op a xs)) (Wants (f.SumOnto op a xs)) (eval-fewer x)
           (λ c. eval_sum-fewer (summed width op a c) xs)
 
       eval_product-fewer : (a : ℤ) (xs : Factors)
-          → Fewer b (eval_product old_program call a xs) (eval_product new_program call' a xs)
+          → Fewer b (eval_product old call a xs) (eval_product new call' a xs)
       eval_product-fewer a v.NoFactors = stays
       eval_product-fewer a (v.MoreFactors op x xs) =
           value-fewer (Wants (f.ProductOnto op a xs)) (Wants (f.ProductOnto op a xs))
@@ -168,7 +169,7 @@ module _ (width : Width) (constants : List ℕ → Option ℤ)
 
     mutual
       pub test-fewer : (x : Condition)
-          → Fewer b (test old_program call x) (test new_program call' x)
+          → Fewer b (test old call x) (test new call' x)
       test-fewer (d.Compare relation x y) =
           value-fewer (Wants (f.LeftOf relation y)) (Wants (f.LeftOf relation y)) (eval-fewer x)
           (λ a. value-fewer (Wants (f.RightOf relation a)) (Wants (f.RightOf relation a))
@@ -181,26 +182,26 @@ module _ (width : Width) (constants : List ℕ → Option ℤ)
           truth-fewer (Decides f.Flips) (Decides f.Flips) (test-fewer x) (λ a. stays)
 
       test_all-fewer : (xs : Conditions)
-          → Fewer b (test_all old_program call xs) (test_all new_program call' xs)
+          → Fewer b (test_all old call xs) (test_all new call' xs)
       test_all-fewer d.NoConditions = stays
       test_all-fewer (d.MoreConditions x xs) =
           truth-fewer (Decides (f.AllOf xs)) (Decides (f.AllOf xs)) (test-fewer x)
           (λ a. when-fewer a (test_all-fewer xs) stays)
 
       test_any-fewer : (xs : Conditions)
-          → Fewer b (test_any old_program call xs) (test_any new_program call' xs)
+          → Fewer b (test_any old call xs) (test_any new call' xs)
       test_any-fewer d.NoConditions = stays
       test_any-fewer (d.MoreConditions x xs) =
           truth-fewer (Decides (f.AnyOf xs)) (Decides (f.AnyOf xs)) (test-fewer x)
           (λ a. when-fewer a stays (test_any-fewer xs))
 
     pub test_if_any-fewer : (x : Option Condition)
-        → Fewer b (test_if_any old_program call x) (test_if_any new_program call' x)
+        → Fewer b (test_if_any old call x) (test_if_any new call' x)
     test_if_any-fewer None = stays
     test_if_any-fewer (Some x) = test-fewer x
 
     pub alter-fewer : (x : Assignment)
-        → Fewer b (alter old_program call x) (alter new_program call' x)
+        → Fewer b (alter old call x) (alter new call' x)
     alter-fewer (s.Set name x) = value-fewer (Wants (f.Sets name)) (Wants (f.Sets name))
         (eval-fewer x) (λ a. changes-fewer _)
     alter-fewer (s.SetEntry name words x y) =
@@ -212,12 +213,12 @@ module _ (width : Width) (constants : List ℕ → Option ℤ)
     alter-fewer (s.Dec name) = changes-fewer _
 
     pub alter_if_any-fewer : (x : Option Assignment)
-        → Fewer b (alter_if_any old_program call x) (alter_if_any new_program call' x)
+        → Fewer b (alter_if_any old call x) (alter_if_any new call' x)
     alter_if_any-fewer None = stays
     alter_if_any-fewer (Some x) = alter-fewer x
 
     pub print_items-fewer : (xs : List PrintItem)
-        → Fewer b (print_items old_program call xs) (print_items new_program call' xs)
+        → Fewer b (print_items old call xs) (print_items new call' xs)
     print_items-fewer [] = stays
     print_items-fewer (s.Text text ∷ xs) = saying-fewer text (print_items-fewer xs)
     print_items-fewer (s.Value x ∷ xs) =

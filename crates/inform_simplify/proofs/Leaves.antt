@@ -5,6 +5,7 @@ use Rattle.inform_tree.specs.Statements.{Statement}
 use Rattle.inform_simplify.specs.Redexes.{leaves}
 use Rattle.inform_simplify.specs.Simplifying.{is_leaf}
 
+-- each of the six is such a statement
 pub leaving-leaf : (x : Statement) → leaves x ≡ true → is_leaf x ≡ true
 leaving-leaf s.Break is = refl
 leaving-leaf s.Continue is = refl

@@ -22,6 +22,7 @@ use Rattle.inform_simplify.proofs.Plain.{no}
 pub record Left (m : Meaning) : Type 0 where
   pub by : (c : Config) → IsLeft (m c).0
 
+-- what a frame does with a value, where its part never comes to the end of a statement
 on_value-left : (x : Frame) {k : ℤ → Meaning} → ((a : ℤ) → Left (k a)) → (e : Outcome) → IsLeft e
     → Left (on_value x k e)
 unfolding on_value
@@ -73,6 +74,7 @@ abbrev pub LeftCalls : Calls → Type 0
 LeftCalls call = (name : List ℕ) (values : List ℤ) → Left (call name values)
 
 module _ (p : Program) (call : Calls) (hc : LeftCalls call) where
+  -- values, by their trees
   mutual
     eval-left : (x : Expression) → Left (eval p call x)
     eval-left (v.Number n) = record { by = λ c. tt }

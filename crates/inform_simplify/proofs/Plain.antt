@@ -66,6 +66,7 @@ chosen false h k = k
 -- ---- plain values and tests
 
 module _ (p : Program) (call : Calls) (c : Config) where
+  -- a plain value has a value at once, and nothing happens
   mutual
     unfolding on_value
 
@@ -104,6 +105,7 @@ module _ (p : Program) (call : Calls) (c : Config) where
     plain-product a (v.MoreFactors Div x xs) is = absurd (no is)
     plain-product a (v.MoreFactors Rem x xs) is = absurd (no is)
 
+  -- and so has a plain test a truth value
   mutual
     unfolding on_value on_truth when
 
@@ -137,6 +139,7 @@ module _ (p : Program) (call : Calls) (c : Config) where
 
   -- ---- constant tests
 
+  -- a constant has its word
   constant-value : (x : Expression) (a : ℤ) → word_of p.width x ≡ Some a
       → Comes (eval p call x) (Value a) c
   constant-value (v.Number n) a is = here (ap (λ o. (Value (unwrap_or o (pos 0)), c)) is)

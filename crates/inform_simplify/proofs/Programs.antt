@@ -20,7 +20,7 @@ use Rattle.inform_meaning.proofs.GoingRuns.{call_at-going}
 use Rattle.inform_simplify.specs.Simplifying.{Shortens, nothing, DirectiveShortens, constant, global, array, routine, ProgramShortens, no_directives, each_directive}
 use Rattle.inform_simplify.specs.Laws.{SameRun, IsShorterRun, RunsShorter}
 use Rattle.inform_simplify.proofs.Fewer.{plus, Same, equal, waiting, Ends, alike, spent, By, Fewer, Any, Follows, bind-fewer, on_return-fewer, on_main-fewer, trap-fewer}
-use Rattle.inform_simplify.proofs.FewerTrees.{FewerCalls, old_program, new_program}
+use Rattle.inform_simplify.proofs.FewerTrees.{FewerCalls, unnoted}
 use Rattle.inform_simplify.proofs.Leaving.{LeftCalls, call_at-left}
 use Rattle.inform_simplify.proofs.Shortening.{shortens-fewer}
 
@@ -38,10 +38,10 @@ module _ (width : Width) (constants : List ℕ → Option ℤ)
     (shorter : (name : List ℕ) → RoutineShortens width (routines name) (routines' name))
   where
     abbrev old : Program
-    old = old_program width constants routines routines'
+    old = unnoted width constants routines
 
     abbrev new : Program
-    new = new_program width constants routines routines'
+    new = unnoted width constants routines'
 
     enter-by : {b : ℕ} (call call' : Calls) → FewerCalls b call call' → LeftCalls call
         → (name : List ℕ) {o o' : Option Routine} → RoutineShortens width o o' → (values : List ℤ)
@@ -187,12 +187,12 @@ module _ (width : Width) (xs xs' : List DirectiveTree) (h : ProgramShortens widt
       (same_scope (shorter_routines (codes "main")))
 
   abbrev shortened : Program
-  shortened = new_program width (λ name. word_of_meaning (meanings width xs name))
-      (routine_named width xs) (routine_named width xs')
+  shortened = unnoted width (λ name. word_of_meaning (meanings width xs name))
+      (routine_named width xs')
 
   same_program : program_in width xs' no_notes ≡ shortened
-  same_program = ap (λ known. new_program width (λ name. word_of_meaning (known name))
-      (routine_named width xs) (routine_named width xs')) same_meanings
+  same_program = ap (λ known. unnoted width (λ name. word_of_meaning (known name))
+      (routine_named width xs')) same_meanings
 
   module _ (steps : ℕ) (lines : List (List ℕ)) (draws : List ℕ) where
     same_opening : plus 0 (opening width xs steps lines draws) ≡ opening width xs' steps lines draws
@@ -202,6 +202,7 @@ module _ (width : Width) (xs xs' : List DirectiveTree) (h : ProgramShortens widt
         none_more : steps + 0 ≡ steps
         none_more = omega arith
 
+    -- from the same opening, with no step more
     runs_alike : Ends 0 (run_of width xs no_notes steps lines draws)
         (run_of width xs' no_notes steps lines draws)
     runs_alike = subst (λ p. Ends 0 (run_of width xs no_notes steps lines draws)
@@ -216,6 +217,7 @@ module _ (width : Width) (xs xs' : List DirectiveTree) (h : ProgramShortens widt
 
 -- ---- the law
 
+-- the same outcome but for what has begun is the same stop
 same_stop : (e e' : Outcome) (c : Config) (j : ℕ) → Same e e' → SameRun (e, c) (e', plus j c)
 same_stop e e' c j (equal _) = record {
   trace = refl;

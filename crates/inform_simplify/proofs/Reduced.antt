@@ -11,6 +11,7 @@ use Rattle.inform_simplify.proofs.Plain.{no}
 use Rattle.inform_simplify.proofs.Leaves.{leaving-leaf}
 
 module _ (width : Width) where
+  -- a statement in which no list stands has no redex
   leaf-reduced : (x : Statement) → is_leaf x ≡ true → IsReduced width x
   leaf-reduced s.Empty is = tt
   leaf-reduced (s.Assign x) is = tt
@@ -31,6 +32,7 @@ module _ (width : Width) where
   leaf-reduced (s.For first x change body) is = absurd (no is)
   leaf-reduced (s.Switch x xs rest) is = absurd (no is)
 
+  -- what is left stands in the premises of each case
   mutual
     shortens-reduced : {xs xs' : Statements} → Shortens width xs xs' → AreReduced width xs'
     shortens-reduced nothing = tt

@@ -1,13 +1,14 @@
 -- What a statement or a list becomes does what it did, in at most as many steps.
 use Rattle.std.proofs.Common.{◌≡◌, ℕ, ℤ, Bool, true, false, List, [], ◌∷◌, Option, Some, None, refl, sym, ap, subst}
 use Rattle.inform_tree.specs.declared.widths.Width.{Width}
+use Rattle.inform_tree.specs.Values.{Expression}
 use Rattle.inform_tree.specs.Conditions.{Condition}
 use Rattle.inform_tree.specs.Statements as s
-use Rattle.inform_tree.specs.Statements.{Statement, Statements, Cases, Default}
+use Rattle.inform_tree.specs.Statements.{Statement, Statements, Cases, Default, Assignment}
 use Rattle.inform_meaning.specs.Worlds.{Routine, Program, Config}
 use Rattle.inform_meaning.specs.Frames as f
 use Rattle.inform_meaning.specs.Frames.{Frame, Begins, Wants, Decides, Outcome, Truth, Meaning, gives, bind, when, on_normal, on_truth}
-use Rattle.inform_meaning.specs.Meaning.{Calls, test}
+use Rattle.inform_meaning.specs.Meaning.{Calls, eval, test, alter_if_any}
 use Rattle.inform_meaning.specs.Statements.{while_loop, do_loop, for_loop, loop, fits_any, act, exec_all, exec_cases, exec_default}
 use Rattle.inform_meaning.proofs.Going.{Going, bind-going, stays as still-going}
 use Rattle.inform_meaning.proofs.GoingTrees.{after_test-going, loop-going, test-going, act-going, exec_all-going}
@@ -16,7 +17,7 @@ use Rattle.inform_simplify.specs.Tests.{truth_of, is_plain_test}
 use Rattle.inform_simplify.specs.Redexes.{leaves}
 use Rattle.inform_simplify.specs.Simplifying.{is_leaf, Shortens, nothing, each, cut, dropped, Becomes, leaf, in_block, if_true, if_false, if_either, if_open, in_while, in_do, in_for, in_switch, CasesShorten, no_cases, each_case, DefaultShortens, no_default, some_default}
 use Rattle.inform_simplify.proofs.Fewer.{plus, Ends, Fewer, first_is, stays, bind-where, when-fewer, on_left-fewer, tick-fewer, tick-skipped, read_line-fewer, saying-fewer}
-use Rattle.inform_simplify.proofs.FewerTrees.{value-fewer, truth-fewer, normal-fewer, FewerCalls, body-fewer, loop-fewer, old_program, new_program, eval-fewer, eval_call-fewer, test-fewer, test_if_any-fewer, alter-fewer, alter_if_any-fewer, print_items-fewer}
+use Rattle.inform_simplify.proofs.FewerTrees.{value-fewer, truth-fewer, normal-fewer, FewerCalls, body-fewer, loop-fewer, unnoted, eval-fewer, eval_call-fewer, test-fewer, test_if_any-fewer, alter-fewer, alter_if_any-fewer, print_items-fewer}
 use Rattle.inform_simplify.proofs.Plain.{no, plain-truth, constant-truth}
 use Rattle.inform_simplify.proofs.Leaves.{leaving-leaf}
 use Rattle.inform_simplify.proofs.Leaving.{LeftCalls, exec-left}
@@ -88,10 +89,10 @@ skipped p call going x body is = let l = while_loop x body in
 module _ (width : Width) (constants : List ℕ → Option ℤ)
     (routines routines' : List ℕ → Option Routine) where
   abbrev old : Program
-  old = old_program width constants routines routines'
+  old = unnoted width constants routines
 
   abbrev new : Program
-  new = new_program width constants routines routines'
+  new = unnoted width constants routines'
 
   module _ {b : ℕ} (call call' : Calls) (hc : FewerCalls b call call') (left : LeftCalls call)
     where
@@ -101,10 +102,21 @@ module _ (width : Width) (constants : List ℕ → Option ℤ)
       goes' : (name : List ℕ) (values : List ℤ) → Going (call' name values)
       goes' name values = (hc name values).after
 
+      tests : (x : Condition) → Fewer b (test old call x) (test new call' x)
+      tests = test-fewer width constants routines routines' call call' hc
+
+      evals : (x : Expression) → Fewer b (eval old call x) (eval new call' x)
+      evals = eval-fewer width constants routines routines' call call' hc
+
+      alters : (x : Option Assignment)
+          → Fewer b (alter_if_any old call x) (alter_if_any new call' x)
+      alters = alter_if_any-fewer width constants routines routines' call call' hc
+
       going_if : (x : Condition) (body other : Statements)
           → Going (act old call (s.If x body other))
       going_if x body other = act-going old call goes (s.If x body other)
 
+      -- a statement in which no list stands is the same in both
       leaf-fewer : (x : Statement) → is_leaf x ≡ true → Fewer b (act old call x) (act new call' x)
       leaf-fewer s.Empty is = stays
       leaf-fewer (s.Assign x) is =
@@ -119,7 +131,7 @@ module _ (width : Width) (constants : List ℕ → Option ℤ)
       leaf-fewer s.Rfalse is = stays
       leaf-fewer (s.Return None) is = stays
       leaf-fewer (s.Return (Some x)) is = value-fewer (Wants f.Gives) (Wants f.Gives)
-          (eval-fewer width constants routines routines' call call' hc x) (λ a. stays)
+          (evals x) (λ a. stays)
       leaf-fewer s.NewLine is = saying-fewer (10 ∷ []) stays
       leaf-fewer (s.Print xs) is =
           print_items-fewer width constants routines routines' call call' hc xs
@@ -142,6 +154,7 @@ module _ (width : Width) (constants : List ℕ → Option ℤ)
           (tick-fewer (Begins (f.Due x)) (Begins (f.Due x))
           (leaf-fewer x (leaving-leaf x is)))
 
+      -- by what became of the list, and of each statement in it
       mutual
         pub shortens-fewer : {xs xs' : Statements} → Shortens width xs xs'
             → Fewer b (exec_all old call xs) (exec_all new call' xs')
@@ -167,34 +180,29 @@ module _ (width : Width) (constants : List ℕ → Option ℤ)
             (when_false _ (shortens-fewer h))
         becomes-fewer (if_either x body other both is h k) =
             indifferent old call x (Decides (f.Branches body other)) _
-            (going_if x body other) is
-            (exec_all-going new call' goes' both)
+            (going_if x body other) is (exec_all-going new call' goes' both)
             (either (shortens-fewer h) (shortens-fewer k))
         becomes-fewer (if_open x body other body' other' unknown h k) =
             truth-fewer (Decides (f.Branches body other)) (Decides (f.Branches body' other'))
-            (test-fewer width constants routines routines' call call' hc x)
-            (λ a. when-fewer a (shortens-fewer h) (shortens-fewer k))
+            (tests x) (λ a. when-fewer a (shortens-fewer h) (shortens-fewer k))
         becomes-fewer (in_while x body body' entered h) =
             loop-fewer (while_loop x body) (while_loop x body') (λ a. refl) b
-            (test-fewer width constants routines routines' call call' hc x) (shortens-fewer h)
-            stays
+            (tests x) (shortens-fewer h) stays
         becomes-fewer (in_do body body' x h) =
             body-fewer (do_loop body x) (do_loop body' x) (λ a. refl)
-            (test-fewer width constants routines routines' call call' hc x) (shortens-fewer h)
-            stays (loop-fewer (do_loop body x) (do_loop body' x) (λ a. refl) b
-            (test-fewer width constants routines routines' call call' hc x) (shortens-fewer h)
-            stays)
+            (tests x) (shortens-fewer h) stays
+            (loop-fewer (do_loop body x) (do_loop body' x) (λ a. refl) b (tests x)
+            (shortens-fewer h) stays)
         becomes-fewer (in_for first x change body body' h) =
             normal-fewer (Begins (f.TurnDue (for_loop x change body)))
-            (Begins (f.TurnDue (for_loop x change body')))
-            (alter_if_any-fewer width constants routines routines' call call' hc first)
+            (Begins (f.TurnDue (for_loop x change body'))) (alters first)
             (loop-fewer (for_loop x change body) (for_loop x change body') (λ a. refl) b
             (test_if_any-fewer width constants routines routines' call call' hc x)
             (shortens-fewer h)
-            (alter_if_any-fewer width constants routines routines' call call' hc change))
+            (alters change))
         becomes-fewer (in_switch x xs xs' rest rest' h k) =
             value-fewer (Wants (f.Picks xs rest)) (Wants (f.Picks xs' rest'))
-            (eval-fewer width constants routines routines' call call' hc x)
+            (evals x)
             (λ a. cases-fewer a h (default-fewer k))
 
         cases-fewer : (a : ℤ) {xs xs' : Cases} → CasesShorten width xs xs'

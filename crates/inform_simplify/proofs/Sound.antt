@@ -27,6 +27,7 @@ use Rattle.inform_simplify.proofs.Programs.{same_meanings}
 module _ (width : Width) where
   -- ---- depths
 
+  -- nothing gets deeper
   mutual
     shortens-depth : {xs xs' : Statements} → Shortens width xs xs'
         → statements_depth xs' ≤ statements_depth xs
@@ -70,6 +71,7 @@ module _ (width : Width) where
   -- ---- places
 
   module _ (scope : Scope) where
+    -- each place of what is left was a place of the program, with the same loops round it
     mutual
       shortens-fine : (e : Enclosure) {xs xs' : Statements} → Shortens width xs xs'
           → IsFine scope (statements_demands e xs) → IsFine scope (statements_demands e xs')
@@ -109,6 +111,7 @@ module _ (width : Width) where
 
   -- ---- forms
 
+  -- and each part was a part of it
   mutual
     shortens-formed : {xs xs' : Statements} → Shortens width xs xs'
         → are_formed_statements xs ≡ true → are_formed_statements xs' ≡ true
@@ -214,6 +217,7 @@ not_deeper n n' fault less is = by (nat_lt DEEPEST n) refl is where
       in rw shallow
 
 module _ (fine : FaultlessPlacesAreFine) (width : Width) (known : Known) where
+  -- a routine has the same name and locals, and a body that is no deeper
   directive-faultless : (at total : ℕ) {x x' : DirectiveTree} → DirectiveShortens width x x'
       → directive_fault width known at total x ≡ None
       → directive_fault width known at total x' ≡ None

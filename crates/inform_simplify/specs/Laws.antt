@@ -62,3 +62,22 @@ ShortenedStaysSound = (width : Width) (old new : List DirectiveTree)
 abbrev pub ShortenedHasNoRedex : Type 0
 ShortenedHasNoRedex = (width : Width) (old new : List DirectiveTree)
     → ProgramShortens width old new → HasNoRedex width new
+
+-- ---- all of it
+
+-- A program that is simpler than an accepted one: it is accepted, and well formed where that one
+-- is; it has the same directives but for the bodies of its routines, and no redex; and with the
+-- same steps, lines and draws it runs like it, in at most as many steps.
+pub record IsSimpler (width : Width) (old new : List DirectiveTree) : Type 0 where
+  pub accepted : name_fault width new ≡ None
+  pub formed : is_well_formed old ≡ true → is_well_formed new ≡ true
+  pub directives : map but_for_body new ≡ map but_for_body old
+  pub reduced : HasNoRedex width new
+  pub runs : (steps : ℕ) (lines : List (List ℕ)) (draws : List ℕ)
+      → IsShorterRun (run_of width old no_notes steps lines draws)
+      (run_of width new no_notes steps lines draws)
+
+-- What an accepted program shortens to is simpler.
+abbrev pub ShortenedIsSimpler : Type 0
+ShortenedIsSimpler = (width : Width) (old new : List DirectiveTree) → name_fault width old ≡ None
+    → ProgramShortens width old new → IsSimpler width old new

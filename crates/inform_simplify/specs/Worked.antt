@@ -66,12 +66,16 @@ abbrev pub ClosedLoopsGo : Type 0
 ClosedLoopsGo = ProgramShortens W16 never_entered (main (print (codes "z") ∷ []))
     × Says never_entered (codes "z") 6 × Says (main (print (codes "z") ∷ [])) (codes "z") 8
 
+-- `F() == 1`
+abbrev pub calls_f : Condition
+calls_f = c.Compare Eq (v.Call (codes "f") v.NoArguments) (v.Number 1)
+
 -- `[ F; print "x"; ]; [ Main; if (F() == 1) { print "a"; } else { print "a"; } ];`
 abbrev pub calling_test : List DirectiveTree
 calling_test = routine (codes "f") (print (codes "x") ∷ [])
-    ∷ main (if_else (c.Compare Eq (v.Call (codes "f") v.NoArguments) (v.Number 1))
-    (print (codes "a")) (print (codes "a")) ∷ [])
+    ∷ main (if_else calls_f (print (codes "a")) (print (codes "a")) ∷ [])
 
 -- a test with a call in it stays, whatever its two lists are
 abbrev pub CallsStay : Type 0
-CallsStay = HasNoRedex W16 calling_test × Says calling_test (codes "xa") 5
+CallsStay = HasNoRedex W16 calling_test × ProgramShortens W16 calling_test calling_test
+    × Says calling_test (codes "xa") 5

@@ -1,5 +1,5 @@
 //! The laws of simplified programs. Each is the contract of a function that does nothing else.
-ghost use Rattle.inform_simplify.specs.Laws.{RunsShorter, ShortenedHasNoRedex, ShortenedStaysSound};
+ghost use Rattle.inform_simplify.specs.Laws.{RunsShorter, ShortenedHasNoRedex, ShortenedIsSimpler, ShortenedStaysSound};
 
 use inform_names::laws::faultless_places_are_fine;
 
@@ -19,4 +19,13 @@ pub fn shortened_stays_sound()
     ensures { ShortenedStaysSound }
 {
     faultless_places_are_fine();
+}
+
+/// So what an accepted program shortens to is simpler.
+pub fn shortened_is_simpler()
+    ensures { ShortenedIsSimpler }
+{
+    runs_shorter();
+    shortened_has_no_redex();
+    shortened_stays_sound();
 }
