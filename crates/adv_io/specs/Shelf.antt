@@ -1,5 +1,5 @@
 -- What a shelf answers, by the files that are known.
-use Rattle.std.specs.Prelude.{◌≡◌, ℕ, ◌<◌, ◌≤◌, ◌⊎◌, List, length, Option, Some, None, IfSome, IsSomeAnd, option_map, Result, Err, OnOk, IfOk, IfErr, Vec}
+use Rattle.std.specs.Prelude.{◌≡◌, ℕ, ◌<◌, ◌≤◌, ◌⊎◌, List, length, take, drop, Option, Some, None, IfSome, IsSomeAnd, option_map, Result, Err, OnOk, IfOk, IfErr, Vec}
 use Rattle.std.specs.Ordering.{nat_cmp}
 use Rattle.std.specs.Cmp.Lexicographic.{slice_cmp}
 use Rattle.std.specs.FinMap.{FinMap, get, insert, remove}
@@ -43,6 +43,34 @@ pub record Loads {A : Type 0} (old new : ShelfView) (name : List ℕ) (limit : �
   pub within : IfOk result (λ bytes. length bytes.items ≤ limit)
   pub found : IfOk result (λ bytes. IsFile old.files name bytes.items)
   pub refused : IfErr result (RefusesLoad old new name limit)
+  pub files_stay : new.files ≡ old.files
+  pub later : old.faults ≤ new.faults
+  pub steady : OnOk result (new.faults ≡ old.faults)
+
+-- the bytes of a file from a place on, as many as there is room for
+abbrev pub part_at : List ℕ → (at room : ℕ) → List ℕ
+part_at bytes at room = take room (drop at bytes)
+
+-- where the files are known, the name has a file, and this is its part from a place on
+abbrev pub IsPart : Option Files → (name : List ℕ) → (at room : ℕ) → List ℕ → Type 0
+IsPart known name at room part =
+    IfSome known (λ files. IsSomeAnd (get files name) (λ bytes. part ≡ part_at bytes at room))
+
+-- why a load of a part was refused; only a shelf that failed counts it
+abbrev pub RefusesPart : (old new : ShelfView) → (name : List ℕ) → ShelfFault → Type 0
+RefusesPart old new name Absent = Lacks old.files name × (new.faults ≡ old.faults)
+RefusesPart old new name Failed = Rose old.faults new.faults
+RefusesPart old new name (TooLong n) = ⊥
+RefusesPart old new name Memory = ⊥
+
+-- what a call promises that loads the part of a file from a place on, into bytes that were before
+-- and are after; the result is how many bytes the part has
+pub record LoadsPart (old new : ShelfView) (name : List ℕ) (at : ℕ) (before after : List ℕ)
+    (result : Result ℕ ShelfFault) : Type 0 where
+  pub within : IfOk result (λ n. n ≤ length before)
+  pub found : IfOk result (λ n. IsPart old.files name at (length before) (take n after))
+  pub others_stay : IfOk result (λ n. drop n after ≡ drop n before)
+  pub refused : IfErr result (RefusesPart old new name)
   pub files_stay : new.files ≡ old.files
   pub later : old.faults ≤ new.faults
   pub steady : OnOk result (new.faults ≡ old.faults)

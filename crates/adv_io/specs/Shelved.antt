@@ -1,10 +1,10 @@
 -- A shelf in memory: its files, and what it answers.
-use Rattle.std.specs.Prelude.{◌≡◌, ℕ, ◌&&◌, Bool, true, not, nat_le, List, [], ◌∷◌, map, length, Option, Some, None, Result, Ok, Err, is_ok, if◌then◌else◌, bytes_eq, string_bytes, String, Vec, refl}
+use Rattle.std.specs.Prelude.{◌≡◌, ℕ, ◌&&◌, Bool, true, not, nat_le, List, [], ◌∷◌, ◌++◌, map, length, drop, Option, Some, None, Result, Ok, Err, is_ok, if◌then◌else◌, bytes_eq, string_bytes, String, Vec, refl}
 use Rattle.std.specs.Coded.{Coded, code_by, coded×, coded_ℕ, coded_list}
 use Rattle.std.specs.List.{list_any}
 use Rattle.std.specs.FinMap.{get, insert, from_entries, code}
 use Rattle.adv_io.specs.CallCount.{CallCount, coded_call_count, unused, fails_next, after_next}
-use Rattle.adv_io.specs.Shelf.{Files, ShelfView}
+use Rattle.adv_io.specs.Shelf.{Files, ShelfView, part_at}
 use Rattle.adv_io.specs.declared.faults.ShelfFault.{ShelfFault}
 use Rattle.adv_io.specs.declared.faults.ShelfFault.TheVariants.{Absent, Failed, TooLong, Memory}
 
@@ -66,6 +66,24 @@ abbrev pub AnswersLoad : {A : Type 0} → Result (List ℕ) ShelfFault → Resul
 AnswersLoad answer (Ok bytes) = answer ≡ Ok bytes.items
 AnswersLoad answer (Err Memory) = is_ok answer ≡ true
 AnswersLoad answer (Err fault) = answer ≡ Err fault
+
+-- the part of a file from a place on, if there is the file
+abbrev pub part_of : (at room : ℕ) → Option (List ℕ) → Result (List ℕ) ShelfFault
+part_of at room None = Err Absent
+part_of at room (Some bytes) = Ok (part_at bytes at room)
+
+-- what a load of a part gives
+abbrev pub part_loaded : Shelved → List ℕ → (at room : ℕ) → Result (List ℕ) ShelfFault
+part_loaded shelf name at room =
+    if fails_next shelf.calls then Err Failed else part_of at room (get shelf.files name)
+
+-- the part stands before those of the bytes that stay, and its length was answered; or the fault
+-- was
+abbrev pub AnswersPart : Result (List ℕ) ShelfFault → (before after : List ℕ) → Result ℕ ShelfFault
+    → Type 0
+AnswersPart (Ok part) before after result =
+    (result ≡ Ok (length part)) × (after ≡ part ++ drop (length part) before)
+AnswersPart (Err fault) before after result = result ≡ Err fault
 
 -- what a store leaves, by what it answers
 abbrev pub LeavesStored : Shelved → List ℕ → List ℕ → Result (Unit {0}) ShelfFault → Shelved

@@ -2,13 +2,14 @@
 //!
 //! Trusted here and only tested: that a path names one file, that a file has the bytes that were
 //! written last, and that the runtime's calls do what they say. No clause speaks of a file's bytes.
-ghost use Rattle.std.specs.Prelude.{◌≡◌, ◌≤◌, ◌+◌, ◌⊎◌, ◌↔◌, IfErr};
+ghost use Rattle.std.specs.Prelude.{◌≡◌, ◌≤◌, ◌+◌, ◌⊎◌, ◌↔◌, IfOk, IfErr, length, drop};
 ghost use Rattle.std.specs.IoError.{error_kind};
 ghost use Rattle.adv_io.specs.declared.faults.ShelfFault.TheVariants.{Memory, Failed};
 ghost use Rattle.adv_io.specs.Faults.{raised};
-ghost use Rattle.adv_io.specs.Shelf.{Loads, Stores, TellsLength, count_after, disk_stock};
+ghost use Rattle.adv_io.specs.Shelf.{Loads, LoadsPart, Stores, TellsLength, count_after, disk_stock};
 
 use crate::faults::ShelfFault;
+use crate::reading::{OpenPart, fill_part, open_at};
 use crate::shelves::Shelf;
 use crate::writing::{fill, open_target};
 use std::alloc::Global;
@@ -23,6 +24,8 @@ use std::{fs, io};
 pub struct DiskShelf<'a, R: Files> {
     rt: &'a R,
     faults: u64,
+    // The file of the last part, where the next one may go on.
+    open: Option<OpenPart<R::File>>,
 }
 
 impl<'a, R: Files> Model for DiskShelf<'a, R> {
@@ -35,7 +38,11 @@ impl<'a, R: Files> Model for DiskShelf<'a, R> {
 
 impl<'a, R: Files> Drop for DiskShelf<'a, R> {
     fn drop(self) {
-        let DiskShelf { rt: _, faults: _ } = self;
+        let DiskShelf {
+            rt: _,
+            faults: _,
+            open: _,
+        } = self;
     }
 }
 
@@ -44,7 +51,11 @@ impl<'a, R: Files> DiskShelf<'a, R> {
     pub fn new(rt: &'a R) -> DiskShelf<'a, R>
         ensures { result ≡ 0 }
     {
-        DiskShelf { rt, faults: 0 }
+        DiskShelf {
+            rt,
+            faults: 0,
+            open: None,
+        }
     }
 
     // What a failure of the system is for a shelf: it counts as a fault, but for want of memory.
@@ -67,6 +78,32 @@ impl<'a, R: Files> DiskShelf<'a, R> {
     {
         self.faults = self.faults.saturating_add(1);
         ShelfFault::Failed
+    }
+
+    // The file of this name at this place: the one that is open, or else opened anew.
+    fn file_at(&mut self, name: &str, at: usize) -> io::Result<R::File>
+        ensures uncounted { self.new ≡ self.old }
+    {
+        if let Some(open) = self.open.take() {
+            if open.goes_on(name, at) {
+                return Ok(open.into_file());
+            }
+        }
+        open_at(self.rt, name, at)
+    }
+
+    // Fills `out` from this place on of the file, and keeps the file open where it may go on.
+    fn read_part(&mut self, name: &str, at: usize, out: &mut [u8]) -> io::Result<usize>
+        ensures within { IfOk result (λ n. n ≤ length out.old) }
+        ensures others_stay { IfOk result (λ n. drop n out.new ≡ drop n out.old) }
+        ensures uncounted { self.new ≡ self.old }
+    {
+        let mut file = self.file_at(name, at)?;
+        let count = fill_part(&mut file, out)?;
+        if count == out.len() {
+            self.open = OpenPart::of(name, at.saturating_add(count), file);
+        }
+        Ok(count)
     }
 }
 
@@ -95,6 +132,23 @@ impl<'a, R: Files> Shelf for DiskShelf<'a, R> {
         }
     }
 
+    /// The file stays open while each part fills `out` and the next one goes on where it ended, so
+    /// that a file is opened once, a pipe can be read, and one that is replaced meanwhile is read as
+    /// it was. A name of more than 255 bytes is the exception: its file is opened for each part.
+    /// Each failure counts as a fault, want of memory too.
+    fn load_part(&mut self, name: &str, at: usize, out: &mut [u8]) -> Result<usize, ShelfFault>
+        ensures counted { self.new ≡ count_after result self.old }
+
+        // As every shelf.
+        ensures every { LoadsPart (disk_stock self.old)
+            (disk_stock self.new) name.now at out.old out.new result }
+    {
+        match self.read_part(name, at, out) {
+            Ok(count) => Ok(count),
+            Err(_) => Err(self.count_fault()),
+        }
+    }
+
     /// The old file stays where the new one can't be written, but for one that can't be replaced:
     /// crate::writing has the rule. Want of memory is answered only where nothing was touched; each
     /// failure after that counts as a fault.
@@ -105,6 +159,7 @@ impl<'a, R: Files> Shelf for DiskShelf<'a, R> {
         ensures every { Stores (disk_stock self.old)
             (disk_stock self.new) name.now bytes.now result }
     {
+        self.open = None;
         let target = match open_target(self.rt, alloc, name) {
             Ok(target) => target,
             Err(fault) => return Err(self.failed(&fault)),

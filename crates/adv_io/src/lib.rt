@@ -21,6 +21,7 @@ pub mod script_console;
 
 // Both of the system.
 pub mod disk_shelf;
+mod reading;
 pub mod std_console;
 mod writing;
 

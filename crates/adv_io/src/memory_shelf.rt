@@ -1,11 +1,11 @@
 //! A shelf in memory: its files are known, and it fails at the calls that are given.
-ghost use Rattle.std.specs.Prelude.{◌≡◌, ◌↔◌, IsTrue, OnOk, IsErrOf, OnErr, bytes_eq, string_bytes};
+ghost use Rattle.std.specs.Prelude.{◌≡◌, ◌↔◌, ◌<◌, ◌++◌, IsTrue, OnOk, IsErrOf, OnErr, bytes_eq, string_bytes, length, drop};
 ghost use Rattle.std.specs.Option.{option_copied};
 ghost use Rattle.std.specs.List.{position};
 ghost use Rattle.std.specs.FinMap as map;
-ghost use Rattle.adv_io.specs.Shelf.{Loads, Stores};
+ghost use Rattle.adv_io.specs.Shelf.{Loads, LoadsPart, Stores, part_at};
 ghost use Rattle.adv_io.specs.CallCount.{fails_next};
-ghost use Rattle.adv_io.specs.Shelved.{stock_of, shelved, names_differ, called, loaded, AnswersLoad, LeavesStored};
+ghost use Rattle.adv_io.specs.Shelved.{stock_of, shelved, names_differ, called, loaded, part_loaded, AnswersLoad, AnswersPart, LeavesStored};
 
 use crate::calls::Calls;
 use crate::faults::ShelfFault;
@@ -15,8 +15,8 @@ use std::marker::Model;
 
 /// A shelf in memory, for tests and for programs that need no disk.
 ///
-/// A clause sees the map of its files and its calls. `load` and `store` are numbered together,
-/// from 1.
+/// A clause sees the map of its files and its calls. `load`, `load_part` and `store` are numbered
+/// together, from 1.
 pub struct MemoryShelf {
     files: Vec<(String, Vec<u8>)>,
     calls: Calls,
@@ -87,6 +87,19 @@ fn place_of(files: &[(String, Vec<u8>)], name: &str) -> Option<usize>
     files.iter().position(|file| file.0.as_str() == name)
 }
 
+// Copies the part of the bytes from a place on for which there is room, and answers its length.
+fn copy_part(bytes: &[u8], at: usize, out: &mut [u8]) -> usize
+    ensures count { result ≡ length (part_at bytes.now at (length out.old)) }
+    ensures part { out.new ≡ part_at bytes.now at (length out.old) ++ drop result out.old }
+{
+    if bytes.len() <= at {
+        return 0;
+    }
+    let count = out.len().min(bytes.len() - at);
+    out[..count].copy_from_slice(&bytes[at..at + count]);
+    count
+}
+
 impl Shelf for MemoryShelf {
     ghost use Rattle.adv_io.specs.Shelved.{stock_of};
 
@@ -113,6 +126,26 @@ impl Shelf for MemoryShelf {
         match Vec::from_slice(alloc, bytes) {
             Ok(copy) => Ok(copy),
             Err(_) => Err(ShelfFault::Memory),
+        }
+    }
+
+    fn load_part(&mut self, name: &str, at: usize, out: &mut [u8]) -> Result<usize, ShelfFault>
+        // It fails at the calls that are to fail, and counts each call.
+        ensures failing { IsErrOf result ShelfFault.Failed ↔ IsTrue (fails_next self.old.calls) }
+        ensures exact { AnswersPart (part_loaded self.old name.now at (length out.old))
+            out.old out.new result }
+        ensures counted { self.new ≡ called self.old }
+
+        // As every shelf.
+        ensures every { LoadsPart (stock_of self.old)
+            (stock_of self.new) name.now at out.old out.new result }
+    {
+        if self.calls.next_fails() {
+            return Err(ShelfFault::Failed);
+        }
+        match self.file(name) {
+            Some(bytes) => Ok(copy_part(bytes, at, out)),
+            None => Err(ShelfFault::Absent),
         }
     }
 

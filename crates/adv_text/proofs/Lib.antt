@@ -9,3 +9,4 @@ pub mod Answered
 pub mod Pieces
 pub mod ShortNumbers
 pub mod PlainStrings
+pub mod Stays

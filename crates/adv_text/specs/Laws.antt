@@ -1,9 +1,9 @@
 -- The laws of reading and writing: what is read is so spelled, what is so spelled is read, and what
 -- was written reads back.
-use Rattle.std.specs.Prelude.{ℕ, Bool, nat_lt, ◌≡◌, ◌+◌, ◌↔◌, ◌≤ℤ◌, List, ◌++◌, ℤ, pos, negsuc, IsTrue, Ok, Err}
+use Rattle.std.specs.Prelude.{ℕ, Bool, nat_lt, ◌≡◌, ◌+◌, ◌<◌, ◌↔◌, ◌≤ℤ◌, List, ◌++◌, length, Result, ℤ, pos, negsuc, IsTrue, Ok, Err}
 use Rattle.std.specs.List.{list_all}
 use Rattle.adv_text.specs.Spelling.{AfterWhitespace, Number, NoNumber, BigNumber, NoDigit, Quoted, NoString, Opened, Unclosed, Overlong, NoQuote}
-use Rattle.adv_text.specs.Reading.{Spot, SameEnd, Fault, no_number, big_number, no_quote, open_string, long_string, number_at, quoted_at}
+use Rattle.adv_text.specs.Reading.{Spot, with_more, SameEnd, Fault, no_number, big_number, no_quote, open_string, long_string, number_at, quoted_at}
 use Rattle.adv_io.specs.Text.{is_text}
 use Rattle.adv_text.specs.Writing.{number_text, quoted_text}
 
@@ -93,6 +93,34 @@ abbrev pub StringLeavesBytes : Type 0
 StringLeavesBytes =
     (text bytes rest : List ℕ) → Quoted text bytes rest → AreBytes bytes → AreBytes text
     × AreBytes rest
+
+-- ---- bytes that come in pieces
+
+-- a fault of bytes that end there stands whatever follows them
+abbrev pub IsSettled : (end : ℕ) → Fault → Type 0
+IsSettled end (no_number place) = place + 1 < end
+IsSettled end (big_number place) = Unit {0}
+IsSettled end (no_quote place) = place < end
+IsSettled end (open_string place) = ⊥
+IsSettled end (long_string place) = Unit {0}
+
+-- what was read of bytes is read of them with more behind them too, where a byte follows it or its
+-- fault is settled
+abbrev pub Stays : {X : Type 0} → (more : List ℕ) → (end : ℕ) → (read longer : Result (X × Spot) Fault)
+    → Type 0
+Stays more end (Ok read) longer =
+    0 < length read.1.rest → longer ≡ Ok (read.0, with_more read.1 more)
+Stays more end (Err fault) longer = IsSettled end fault → longer ≡ Err fault
+
+abbrev pub NumberStays : Type 0
+NumberStays =
+    (s : Spot) (more : List ℕ)
+    → Stays more (s.at + length s.rest) (number_at s) (number_at (with_more s more))
+
+abbrev pub StringStays : Type 0
+StringStays =
+    (s : Spot) (more : List ℕ)
+    → Stays more (s.at + length s.rest) (quoted_at s) (quoted_at (with_more s more))
 
 -- ---- texts that were written
 

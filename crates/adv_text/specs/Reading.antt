@@ -1,5 +1,5 @@
 -- Reading from left to right, with the first fault that is reached.
-use Rattle.std.specs.Prelude.{ℕ, ◌≡◌, ◌+◌, ◌-◌, ◌*◌, ◌≤◌, ◌<◌, ◌⊎◌, ◌==◌, nat_le, nat_lt, Bool, true, false, if◌then◌else◌, Option, Some, None, drop, List, [], ◌∷◌, ◌++◌, length, ℤ, Result, Ok, Err}
+use Rattle.std.specs.Prelude.{ℕ, ◌≡◌, ◌+◌, ◌-◌, ◌*◌, ◌≤◌, ◌<◌, ◌==◌, nat_le, nat_lt, Bool, true, false, if◌then◌else◌, Option, Some, None, drop, List, [], ◌∷◌, ◌++◌, length, ℤ, Result, Ok, Err}
 use Rattle.std.specs.Global.{Vec}
 use Rattle.std.specs.Char.{is_ascii_digit}
 use Rattle.adv_io.specs.Answers.{IsExpected, IsExactly, IsErrOr}
@@ -15,6 +15,10 @@ pub record Spot : Type 0 where
 
 abbrev pub spot : ℕ → List ℕ → Spot
 spot at rest = record { at = at; rest = rest }
+
+-- the same spot, where more bytes follow
+abbrev pub with_more : Spot → List ℕ → Spot
+with_more s more = spot s.at (s.rest ++ more)
 
 -- two spots are as far from the end as their places say
 abbrev pub SameEnd : Spot → Spot → Type 0

@@ -1,5 +1,5 @@
 //! The laws of reading and writing. Each is the contract of a function that does nothing.
-ghost use Rattle.adv_text.specs.Laws.{NumberIsSpelled, SpelledNumberIsRead, NumberFaultIsExact, StringIsSpelled, SpelledStringIsRead, StringFaultIsExact, NumberEnds, StringEnds, NumberFits, StringIsText, NumberLeavesBytes, StringLeavesBytes, WrittenNumberIsSpelled, WrittenStringIsSpelled};
+ghost use Rattle.adv_text.specs.Laws.{NumberIsSpelled, SpelledNumberIsRead, NumberFaultIsExact, StringIsSpelled, SpelledStringIsRead, StringFaultIsExact, NumberEnds, StringEnds, NumberFits, StringIsText, NumberLeavesBytes, StringLeavesBytes, NumberStays, StringStays, WrittenNumberIsSpelled, WrittenStringIsSpelled};
 
 /// A number that is read is spelled so.
 pub fn number_is_spelled()
@@ -59,6 +59,16 @@ pub fn number_leaves_bytes()
 /// The text of a string in a list of bytes, and what follows it, are bytes.
 pub fn string_leaves_bytes()
     ensures { StringLeavesBytes }
+{}
+
+/// A number that a byte follows, or a fault that is settled, is the same with more bytes behind.
+pub fn number_stays()
+    ensures { NumberStays }
+{}
+
+/// A string that a byte follows, or a fault that is settled, is the same with more bytes behind.
+pub fn string_stays()
+    ensures { StringStays }
 {}
 
 /// The text that is written of a number is a spelling of it, whatever follows but a digit.

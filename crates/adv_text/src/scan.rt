@@ -58,6 +58,14 @@ impl<'a> Scan<'a> {
         Scan { at: 0, rest: bytes }
     }
 
+    /// A scan that stands at this place, with these bytes from there on.
+    pub fn on(at: usize, rest: &'a [u8]) -> Scan<'a>
+        requires { at + length rest.now < 2 ^ 64 }
+        ensures { result ≡ spot at rest.now }
+    {
+        Scan { at, rest }
+    }
+
     /// The place of the scan, counted from the beginning.
     pub fn at(&self) -> usize
         ensures { result ≡ self.now.at }

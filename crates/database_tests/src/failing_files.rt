@@ -10,6 +10,8 @@ use std::rt::Files;
 #[derive(Clone, Copy, PartialEq, Eq)]
 pub enum Call {
     CreateNew,
+    Seek,
+    Read,
     Write,
     Sync,
     Rename,
@@ -53,6 +55,7 @@ fn pass(fails: bool, kind: ErrorKind) -> io::Result<()> {
 
 impl<F: Read> Read for FailingFile<F> {
     fn read(&mut self, buf: &mut [u8]) -> io::Result<usize> {
+        self.pass(Call::Read)?;
         self.file.read(buf)
     }
 }
@@ -70,6 +73,7 @@ impl<F: Write> Write for FailingFile<F> {
 
 impl<F: Seek> Seek for FailingFile<F> {
     fn seek(&mut self, to: SeekFrom) -> io::Result<u64> {
+        self.pass(Call::Seek)?;
         self.file.seek(to)
     }
 }

@@ -29,7 +29,7 @@ both : {A : Type 0} {r : Result A Fault} (x : A) (fault : Fault) → r ≡ Ok x 
 both x fault e f = cc
 
 -- the fault that stands is known
-stands : {A : Type 0} (fault : Fault) (r : Result A Fault) → Stands (fault_answer fault) r → r ≡ Err fault
+pub stands : {A : Type 0} (fault : Fault) (r : Result A Fault) → Stands (fault_answer fault) r → r ≡ Err fault
 stands (text (no_number at)) r e = e
 stands (text (big_number at)) r e = e
 stands (text (no_quote at)) r e = e
@@ -40,7 +40,7 @@ stands (no_start value) r e = e
 stands (negative_action k) r e = e
 
 -- a fault of the program is Memory, or stands for one of the format
-fault_or_memory : {A : Type 0} (fault : FormatFault) (r : Result A Fault) → Stands fault r → (fault ≡ answer.Memory) ⊎ ((f : Fault) × (fault ≡ fault_answer f) × (r ≡ Err f))
+pub fault_or_memory : {A : Type 0} (fault : FormatFault) (r : Result A Fault) → Stands fault r → (fault ≡ answer.Memory) ⊎ ((f : Fault) × (fault ≡ fault_answer f) × (r ≡ Err f))
 fault_or_memory (answer.NoNumber at) r e = inr (text (no_number at), refl, e)
 fault_or_memory (answer.BigNumber at) r e = inr (text (big_number at), refl, e)
 fault_or_memory (answer.NoQuote at) r e = inr (text (no_quote at), refl, e)
@@ -52,7 +52,7 @@ fault_or_memory (answer.NegativeAction k) r e = inr (negative_action k, refl, e)
 fault_or_memory answer.Memory r e = inl refl
 
 -- a fault stands for a reading without the spot after it
-stands_value : {X : Type 0} (fault : FormatFault) (r : Result (X × Spot) Fault) → Stands fault r → Stands fault (value_of r)
+pub stands_value : {X : Type 0} (fault : FormatFault) (r : Result (X × Spot) Fault) → Stands fault r → Stands fault (value_of r)
 stands_value (answer.NoNumber at) r e = ap value_of e
 stands_value (answer.BigNumber at) r e = ap value_of e
 stands_value (answer.NoQuote at) r e = ap value_of e
@@ -64,11 +64,11 @@ stands_value (answer.NegativeAction k) r e = ap value_of e
 stands_value answer.Memory r e = tt
 
 -- a value without the spot is a value with one
-value_back : {X : Type 0} (r : Result (X × Spot) Fault) (x : X) → value_of r ≡ Ok x → (after : Spot) × (r ≡ Ok (x, after))
+pub value_back : {X : Type 0} (r : Result (X × Spot) Fault) (x : X) → value_of r ≡ Ok x → (after : Spot) × (r ≡ Ok (x, after))
 value_back (Ok read) x e = let same : read.0 ≡ x = cc in (read.1, ap (λ y. Ok (y, read.1)) same)
 value_back (Err fault) x e = absurd cc
 
-fault_back : {X : Type 0} (r : Result (X × Spot) Fault) (fault : Fault) → value_of r ≡ Err fault → r ≡ Err fault
+pub fault_back : {X : Type 0} (r : Result (X × Spot) Fault) (fault : Fault) → value_of r ≡ Err fault → r ≡ Err fault
 fault_back (Ok read) fault e = absurd cc
 fault_back (Err own) fault e = let same : own ≡ fault = cc in ap Err same
 

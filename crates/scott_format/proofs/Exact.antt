@@ -18,11 +18,11 @@ value_is x y e = cc
 pub one_fault : {A : Type 0} {r : Result A Fault} (f g : Fault) → r ≡ Err f → r ≡ Err g → f ≡ g
 one_fault f g e h = cc
 
-check-ok : {X : Type 0} (test : Bool) (fault : Fault) (r : Result (X × Spot) Fault) (x : X × Spot) → cond test r (Err fault) ≡ Ok x → (test ≡ true) × (r ≡ Ok x)
+pub check-ok : {X : Type 0} (test : Bool) (fault : Fault) (r : Result (X × Spot) Fault) (x : X × Spot) → cond test r (Err fault) ≡ Ok x → (test ≡ true) × (r ≡ Ok x)
 check-ok true fault r x e = (refl, e)
 check-ok false fault r x e = absurd (cc)
 
-onward-ok : {A X : Type 0} (r : Result (A × Spot) TextFault) (go_on : A → Spot → Result (X × Spot) Fault) (x : X × Spot) → onward r go_on ≡ Ok x
+pub onward-ok : {A X : Type 0} (r : Result (A × Spot) TextFault) (go_on : A → Spot → Result (X × Spot) Fault) (x : X × Spot) → onward r go_on ≡ Ok x
     → (a : A) × (s : Spot) × (r ≡ Ok (a, s)) × (go_on a s ≡ Ok x)
 onward-ok (Ok y) go_on x e = (y.0, y.1, refl, e)
 onward-ok (Err fault) go_on x e = absurd (cc)

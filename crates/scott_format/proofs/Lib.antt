@@ -13,4 +13,10 @@ pub mod Texts
 pub mod Wrongs
 pub mod ActionNumbers
 pub mod EightInARow
+pub mod Leaving
+pub mod Staying
+pub mod Dues
+pub mod ListSteps
+pub mod BodySteps
+pub mod ReaderSteps
 pub mod SevenInARow

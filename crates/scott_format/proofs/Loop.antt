@@ -27,7 +27,7 @@ module _ {X : Type 0} (p : ℕ → Plan X) where
   abbrev others : ℕ → ℕ → X → Plan (List X)
   others k n x = many p (k + 1) n >>= λ xs. done (x ∷ xs)
 
-  many-suc : (k n : ℕ) → many p k (suc n) ≡ (p k >>= others k n)
+  pub many-suc : (k n : ℕ) → many p k (suc n) ≡ (p k >>= others k n)
   unfolding many
   many-suc k n = refl
 

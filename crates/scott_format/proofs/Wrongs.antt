@@ -11,12 +11,12 @@ use Rattle.scott_format.proofs.Exact.{one_fault}
 
 -- ---- what a reading that gave a fault went through
 
-check-err : {X : Type 0} (test : Bool) (own fault : Fault) (r : Result (X × Spot) Fault) → cond test r (Err own) ≡ Err fault
+pub check-err : {X : Type 0} (test : Bool) (own fault : Fault) (r : Result (X × Spot) Fault) → cond test r (Err own) ≡ Err fault
     → ((test ≡ false) × (fault ≡ own)) ⊎ ((test ≡ true) × (r ≡ Err fault))
 check-err true own fault r e = inr (refl, e)
 check-err {X = X} false own fault r e = inl (refl, sym (one_fault {A = X × Spot} own fault refl e))
 
-onward-err : {A X : Type 0} (r : Result (A × Spot) TextFault) (go_on : A → Spot → Result (X × Spot) Fault) (fault : Fault) → onward r go_on ≡ Err fault
+pub onward-err : {A X : Type 0} (r : Result (A × Spot) TextFault) (go_on : A → Spot → Result (X × Spot) Fault) (fault : Fault) → onward r go_on ≡ Err fault
     → ((own : TextFault) × (r ≡ Err own) × (fault ≡ text own)) ⊎ ((a : A) × (after : Spot) × (r ≡ Ok (a, after)) × (go_on a after ≡ Err fault))
 onward-err (Ok y) go_on fault e = inr (y.0, y.1, refl, e)
 onward-err {X = X} (Err own) go_on fault e = inl (own, refl, sym (one_fault {A = X × Spot} (text own) fault refl e))

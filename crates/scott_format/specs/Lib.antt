@@ -4,6 +4,10 @@ pub mod Plan
 pub mod Sections
 pub mod File
 pub mod Reading
+pub mod Pieces
+pub mod Bodies
+pub mod Readers
+pub mod Steady
 pub mod TextLaws
 pub mod Laws
 pub mod Canon

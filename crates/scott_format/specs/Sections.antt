@@ -10,6 +10,7 @@ use Rattle.scott_format.specs.declared.faults.Field.TheVariants.{HighestItem, Hi
 use Rattle.scott_format.specs.declared.header.Sizes.{Sizes}
 use Rattle.scott_format.specs.declared.header.PlayNumbers.{PlayNumbers}
 use Rattle.scott_format.specs.declared.header.Closing.{Closing}
+use Rattle.scott_format.specs.declared.bodies.Head.{Head}
 use Rattle.scott_format.specs.Faults.{Fault, limit, no_start, negative_action}
 use Rattle.scott_format.specs.Plan.{Plan, done, check, number, quoted, perhaps, ◌>>=◌}
 
@@ -65,6 +66,14 @@ closing = do
   messages ← limited HighestMessage 0 999
   home ← any_number
   done (record { messages = messages; home = home })
+
+-- the header whole
+unfoldable pub head : Plan Head
+head = do
+  counts ← sizes
+  numbers ← play_numbers counts.rooms
+  end ← closing
+  done (record { sizes = counts; numbers = numbers; closing = end })
 
 -- ---- entries of the lists
 

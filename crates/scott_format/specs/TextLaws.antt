@@ -1,5 +1,5 @@
 -- What is known of numbers and strings.
-use Rattle.adv_text.specs.Laws.{NumberIsSpelled, SpelledNumberIsRead, NumberFaultIsExact, StringIsSpelled, SpelledStringIsRead, StringFaultIsExact, NumberEnds, StringEnds, NumberFits, StringIsText, NumberLeavesBytes, StringLeavesBytes, WrittenNumberIsSpelled, WrittenStringIsSpelled}
+use Rattle.adv_text.specs.Laws.{NumberIsSpelled, SpelledNumberIsRead, NumberFaultIsExact, StringIsSpelled, SpelledStringIsRead, StringFaultIsExact, NumberEnds, StringEnds, NumberFits, StringIsText, NumberLeavesBytes, StringLeavesBytes, NumberStays, StringStays, WrittenNumberIsSpelled, WrittenStringIsSpelled}
 
 pub record TextLaws : Type 0 where
   pub number_is_spelled : NumberIsSpelled
@@ -14,5 +14,7 @@ pub record TextLaws : Type 0 where
   pub string_is_text : StringIsText
   pub number_leaves_bytes : NumberLeavesBytes
   pub string_leaves_bytes : StringLeavesBytes
+  pub number_stays : NumberStays
+  pub string_stays : StringStays
   pub written_number_is_spelled : WrittenNumberIsSpelled
   pub written_string_is_spelled : WrittenStringIsSpelled

@@ -1,6 +1,7 @@
 //! The text of a database: reading one, with the first fault that is reached, and writing one.
 #![tactic(auto)]
 
+mod bodies;
 mod fault_texts;
 mod faults;
 mod header;
@@ -9,10 +10,13 @@ mod lines;
 mod lists;
 mod numbers;
 mod pieces;
+mod readers;
 mod reading;
+mod stops;
 mod text_laws;
 mod writing;
 
 pub use faults::{Field, FormatFault};
-pub use reading::{DATABASE_LIMIT, read_db};
+pub use readers::{DATABASE_LIMIT, DbReader};
+pub use reading::read_db;
 pub use writing::write_db;

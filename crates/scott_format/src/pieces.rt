@@ -1,11 +1,13 @@
 //! The entries of the lists, each read by the plan of its type.
 ghost use Rattle.std.specs.Prelude.{ℕ, List, ℤ};
+ghost use Rattle.scott_format.specs.Pieces.{IsDue, IsSteady};
 ghost use Rattle.scott_format.specs.Plan.{Plan};
 ghost use Rattle.scott_format.specs.Sections.{action, word, room, string, item};
 ghost use Rattle.scott_format.specs.Reading.{Follows};
 
 use crate::faults::FormatFault;
 use crate::numbers::{action_number, number, string};
+use crate::stops::Due;
 use adv_text::Scan;
 use scott_types::{Action, Item, Room, Text, Word};
 use std::alloc::Global;
@@ -18,9 +20,18 @@ pub trait Piece: Drop {
     /// Reads the entry with this number.
     fn read(alloc: Global, scan: &mut Scan, k: u16) -> Result<Self, FormatFault>
         ensures { Follows (plan k) scan.old result scan.new };
+
+    /// What an entry begins with.
+    fn first() -> Due
+        ensures { (k : ℕ) → IsDue result (plan k) };
+
+    // All that an entry consists of must be there.
+    ghost steady: { (k : ℕ) → IsSteady (plan k) };
 }
 
 impl Piece for Action {
+    ghost use Rattle.scott_format.specs.Steady.{action_steady};
+
     ghost plan = { action };
 
     #[tactic(auto, unfolding(crate::specs::Sections::action))]
@@ -39,9 +50,17 @@ impl Piece for Action {
             pairs: [first, second],
         })
     }
+
+    fn first() -> Due {
+        Due::Number
+    }
+
+    ghost steady = { action_steady };
 }
 
 impl Piece for Word {
+    ghost use Rattle.scott_format.specs.Steady.{word_steady};
+
     ghost plan = { λ _. word };
 
     #[tactic(auto, unfolding(crate::specs::Sections::word))]
@@ -50,9 +69,17 @@ impl Piece for Word {
         let noun = string(alloc, scan)?;
         Ok(Word { verb, noun })
     }
+
+    fn first() -> Due {
+        Due::Text
+    }
+
+    ghost steady = { word_steady };
 }
 
 impl Piece for Room {
+    ghost use Rattle.scott_format.specs.Steady.{room_steady};
+
     ghost plan = { λ _. room };
 
     #[tactic(auto, unfolding(crate::specs::Sections::room))]
@@ -69,17 +96,33 @@ impl Piece for Room {
             text,
         })
     }
+
+    fn first() -> Due {
+        Due::Number
+    }
+
+    ghost steady = { room_steady };
 }
 
 impl Piece for Text {
+    ghost use Rattle.scott_format.specs.Steady.{string_steady};
+
     ghost plan = { λ _. string };
 
     fn read(alloc: Global, scan: &mut Scan, _k: u16) -> Result<Text, FormatFault> {
         string(alloc, scan)
     }
+
+    fn first() -> Due {
+        Due::Text
+    }
+
+    ghost steady = { string_steady };
 }
 
 impl Piece for Item {
+    ghost use Rattle.scott_format.specs.Steady.{item_steady};
+
     ghost plan = { λ _. item };
 
     #[tactic(auto, unfolding(crate::specs::Sections::item))]
@@ -91,4 +134,10 @@ impl Piece for Item {
             place: place.rem_euclid(256) as u8,
         })
     }
+
+    fn first() -> Due {
+        Due::Text
+    }
+
+    ghost steady = { item_steady };
 }

@@ -19,6 +19,8 @@ pub fn text_laws()
     laws::string_is_text();
     laws::number_leaves_bytes();
     laws::string_leaves_bytes();
+    laws::number_stays();
+    laws::string_stays();
     laws::written_number_is_spelled();
     laws::written_string_is_spelled();
 }

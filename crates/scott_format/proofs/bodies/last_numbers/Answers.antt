@@ -2,7 +2,7 @@ use Rattle.std.proofs.Common.{◌≡◌, to_z, of_z, w32, rules}
 use Rattle.std.proofs.lemmas.Result.{err_from_is_err_and}
 use Rattle.scott_format.specs.Sections.{any_number, third_number, trailer}
 use Rattle.scott_format.proofs.InARow.{three_read, three_stop}
-use Rattle.scott_format.proofs.reading.last_numbers.Goals as goal
+use Rattle.scott_format.proofs.bodies.last_numbers.Goals as goal
 
 pub returns-in_err-third : goal.returns-in_err-third
 unfolding trailer
