@@ -14,8 +14,8 @@ pub struct Accepted {
 }
 
 impl Accepted {
-    /// A program whose names were tested.
-    pub(crate) fn of(program: Program, width: Width) -> Accepted
+    /// A program of which it is known that it has no fault, be it by a test or by a law.
+    pub fn of(program: Program, width: Width) -> Accepted
         requires { name_fault width (program_of program) ≡ None }
         ensures program { result.program ≡ program }
         ensures width { result.width ≡ width }
@@ -28,6 +28,14 @@ impl Accepted {
         ensures { result.now ≡ self.now.program }
     {
         &self.program
+    }
+
+    /// The program, handed back.
+    pub fn into_program(self) -> Program
+        ensures { result ≡ self.program }
+    {
+        let Accepted { program, width: _ } = self;
+        program
     }
 
     /// The width of its words.

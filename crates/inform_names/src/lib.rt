@@ -37,3 +37,4 @@ pub use faults::NameFault;
 pub use meanings::{Kind, Meaning, Value};
 pub use names::{Entries, Names};
 pub use tables::name_of;
+pub use words::word;

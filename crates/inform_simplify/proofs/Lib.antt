@@ -1,3 +1,6 @@
+mod Compared
+mod Kept
+mod Layers
 mod Fewer
 mod FewerTrees
 mod Plain

@@ -1,6 +1,6 @@
 -- Redexes, the places that can be simplified, and statements and programs that have none at any
 -- depth.
-use Rattle.std.specs.Prelude.{◌≡◌, Bool, true, false, ⊤, List, [], ◌∷◌, Some, None}
+use Rattle.std.specs.Prelude.{◌≡◌, Bool, true, false, not, ⊤, List, [], ◌∷◌, Option, Some, None}
 use Rattle.inform_tree.specs.declared.widths.Width.{Width}
 use Rattle.inform_tree.specs.Conditions.{Condition}
 use Rattle.inform_tree.specs.Statements as s
@@ -20,6 +20,15 @@ leaves s.Rtrue = true
 leaves s.Rfalse = true
 leaves (s.Return x) = true
 leaves x = false
+
+abbrev pub is_known_false : Option Bool → Bool
+is_known_false None = false
+is_known_false (Some a) = not a
+
+-- a `while` whose test is constant and false
+abbrev pub is_never_entered : Width → Statement → Bool
+is_never_entered width (s.While test body) = is_known_false (truth_of width test)
+is_never_entered width x = false
 
 -- an `if` whose test isn't constant, and whose two lists are different if its test is plain
 pub record IsOpenIf (width : Width) (test : Condition) (body other : Statements) : Type 0 where

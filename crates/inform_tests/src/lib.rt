@@ -15,6 +15,8 @@ mod printer;
 #[cfg(test)]
 mod runs;
 #[cfg(test)]
+mod simplifying;
+#[cfg(test)]
 mod texts;
 #[cfg(test)]
 mod tokens;
