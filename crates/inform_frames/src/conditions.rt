@@ -16,7 +16,7 @@ use crate::nexts::Next;
 use crate::signals::Signal;
 use crate::stacks::Stack;
 use crate::values::{evals, goes_with};
-use crate::words::compares;
+use inform_meaning::compares;
 use inform_tree::{Cond, Expr, Relation};
 use inform_worlds::World;
 

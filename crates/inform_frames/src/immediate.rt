@@ -6,8 +6,8 @@ ghost use Rattle.inform_moves.specs.Immediate.{immediate_value, immediate_sum, i
 ghost use Rattle.inform_worlds.specs.Scopes.{values_of};
 ghost use Rattle.inform_worlds.specs.Views.{world_of, program_seen};
 
-use crate::words::{compares, multiplied, number, summed};
-use inform_meaning::neg;
+use crate::words::{multiplied, number, summed};
+use inform_meaning::{compares, neg};
 use inform_tree::{Cond, Expr, ProdOp, SumOp, Width};
 use inform_worlds::{Arguments, World};
 

@@ -15,8 +15,8 @@ use crate::prints::{says_char, says_number};
 use crate::signals::Signal;
 use crate::stacks::Stack;
 use crate::values::{arguments_next, factor_next, goes_to, product_next, sum_next, trapped};
-use crate::words::{compares, multiplied, summed};
-use inform_meaning::{Trap, neg};
+use crate::words::{multiplied, summed};
+use inform_meaning::{Trap, compares, neg};
 use inform_worlds::World;
 
 // A number up to this one is drawn.

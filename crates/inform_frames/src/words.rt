@@ -1,19 +1,16 @@
 //! What is computed with words.
 ghost use Rattle.std.specs.Prelude.{◌≡◌};
-ghost use Rattle.inform_meaning.specs.Words.{number_word, summed, multiplied, low_byte, compares};
+ghost use Rattle.inform_meaning.specs.Words.{number_word, summed, multiplied, low_byte};
 
 use inform_meaning::{add, div, mul, rem, sub};
 use inform_names::Names;
-use inform_tree::{Const, ProdOp, Relation, SumOp, Width};
+use inform_tree::{ProdOp, SumOp, Width};
 
 /// The word that a number stands for.
 pub fn number(names: &Names, n: u32) -> i32
     ensures { result ≡ number_word names.now.accepted.now.width n }
 {
-    if n < 32_768 {
-        return n as i32;
-    }
-    names.word(&Const::Number(n))
+    inform_meaning::number(names.accepted().width(), n)
 }
 
 /// One more part of a sum.
@@ -42,18 +39,4 @@ pub fn low_byte(a: i32) -> u8
     ensures { result ≡ low_byte a }
 {
     a.rem_euclid(256) as u8
-}
-
-/// Whether two values are so related.
-pub fn compares(relation: Relation, a: i32, b: i32) -> bool
-    ensures { result ≡ compares relation a b }
-{
-    match relation {
-        Relation::Eq => a == b,
-        Relation::Ne => a != b,
-        Relation::Lt => a < b,
-        Relation::Gt => a > b,
-        Relation::Le => a <= b,
-        Relation::Ge => a >= b,
-    }
 }

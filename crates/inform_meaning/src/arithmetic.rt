@@ -1,9 +1,20 @@
-//! The arithmetic of words, at each width.
+//! The arithmetic of words, at each width, and how they are compared.
 ghost use Rattle.std.specs.Prelude.{◌≡◌, ℤ, Some, IsSome, IsNone, MatchOption, ◌≢◌, pos, option_map};
 ghost use Rattle.std.specs.Int.{int_wrap, w16, w32};
-ghost use Rattle.inform_meaning.specs.Words.{wrapped, word_sum, word_difference, word_product, word_negation, word_quotient, word_remainder};
+ghost use Rattle.inform_meaning.specs.Words.{wrapped, word_sum, word_difference, word_product, word_negation, word_quotient, word_remainder, number_word, compares};
 
-use inform_tree::Width;
+use inform_names::word;
+use inform_tree::{Relation, Width};
+
+/// The word that a number of a program stands for. A small one is itself at each width.
+pub fn number(width: Width, n: u32) -> i32
+    ensures { result ≡ number_word width n }
+{
+    if n < 32_768 {
+        return n as i32;
+    }
+    word(width, n)
+}
 
 fn word_of_16_bits(z: i64) -> i32
     ensures { result ≡ int_wrap w16 z }
@@ -74,4 +85,18 @@ pub fn neg(width: Width, a: i32) -> i32
     ensures { result ≡ word_negation width a }
 {
     wrap(width, -i64::from(a))
+}
+
+/// Whether two words are so related.
+pub fn compares(relation: Relation, a: i32, b: i32) -> bool
+    ensures { result ≡ compares relation a b }
+{
+    match relation {
+        Relation::Eq => a == b,
+        Relation::Ne => a != b,
+        Relation::Lt => a < b,
+        Relation::Gt => a > b,
+        Relation::Le => a <= b,
+        Relation::Ge => a >= b,
+    }
 }

@@ -10,5 +10,5 @@ pub mod laws;
 // Worked examples.
 pub mod worked;
 
-pub use arithmetic::{add, div, mul, neg, rem, sub, wrap};
+pub use arithmetic::{add, compares, div, mul, neg, number, rem, sub, wrap};
 pub use traps::Trap;

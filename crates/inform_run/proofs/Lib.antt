@@ -4,3 +4,4 @@ pub mod Stopping
 pub mod Beginning
 pub mod Found
 pub mod Quiet
+mod Opened

@@ -1,5 +1,5 @@
 //! A runner: a program that runs, from its beginning, and on from where it stopped.
-ghost use Rattle.std.specs.Prelude.{◌≡◌, ◌≤◌, ◌<◌, ◌+◌, ◌^◌, ◌↔◌, true, false, IfOk, IfSome, OnOk, IsOk, IsFalse};
+ghost use Rattle.std.specs.Prelude.{◌≡◌, ◌≤◌, ◌<◌, ◌+◌, ◌^◌, ◌↔◌, true, false, IfOk, IfSome, OnOk, IsOk, IsFalse, IfNone};
 ghost use Rattle.adv_io.specs.Faults.{HasCause};
 ghost use Rattle.inform_run.specs.Machines.{IsFit};
 ghost use Rattle.inform_run.specs.Fitness.{IsFit-prop};
@@ -35,6 +35,7 @@ impl<'a> Runner<'a> {
     ghost use Rattle.inform_meaning.specs.Runs.{main_begun};
     ghost use Rattle.inform_meaning.specs.Worlds.{entries_of};
     ghost use Rattle.inform_worlds.specs.Worlds.{program_of};
+    ghost use Rattle.inform_entered.specs.Entered.{open_routines};
     ghost use Rattle.inform_run.specs.Runners.{program_run, begun_in, world_in, resumed, Runs, GoesOn};
 
     /// A program at its beginning, in `main`. Once it is open it takes no memory.
@@ -89,6 +90,7 @@ impl<'a> Runner<'a> {
         ensures cause { HasCause (C.seen console.old).faults (C.seen console.new).faults result }
         ensures program { program_run self.new ≡ program_run self.old }
         ensures breaks { IsOk result ↔ IsFalse self.new.broken }
+        ensures few_used { self.new.used ≤ self.old.used + steps }
     {
         runs_go();
         runs_split();
@@ -117,6 +119,31 @@ impl<'a> Runner<'a> {
         ensures { result ≡ slice_get (entries_of name.now (world_in self.now)) index }
     {
         self.machine.world.entry_at(name, index)
+    }
+
+    /// The number of the directive that is the innermost open routine; `None` exactly where the run
+    /// is over, after `Quit` and `Trap`.
+    pub fn routine(&self) -> Option<usize>
+        ensures over { IfNone result (open_routines (begun_in self.now) ≡ 0) }
+        ensures innermost { IfSome result (λ at. at ≡ (world_in self.now).scope.directive) }
+        ensures begun { IfSome result (λ at. 0 < open_routines (begun_in self.now)) }
+    {
+        match self.machine.stack.top() {
+            None => None,
+            Some(Frame::Over(_)) => None,
+            Some(_) => Some(self.machine.world.scope().directive),
+        }
+    }
+
+    /// How many routines are open: `main` and each call; none where the run is over, after `Quit`
+    /// and `Trap`.
+    pub fn open_routines(&self) -> u32
+        ensures { result ≡ open_routines (begun_in self.now) }
+    {
+        match self.routine() {
+            None => 0,
+            Some(_) => self.machine.stack.calls() as u32 + 1,
+        }
     }
 
     /// How many steps were used.

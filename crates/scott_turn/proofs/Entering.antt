@@ -12,6 +12,7 @@ use Rattle.scott_types.specs.declared.endings.Halt.TheVariants.{Waits}
 use Rattle.scott_types.specs.Style.{Game}
 use Rattle.scott_types.specs.Action.{noun_of}
 use Rattle.scott_rules.specs.Groups.{Group, AutoOutcome}
+use Rattle.scott_turn.specs.Tried.{tallied}
 use Rattle.scott_turn.specs.Turns.{entered, auto_turn}
 
 -- the draws that are left change nothing but themselves
@@ -32,6 +33,9 @@ module _ (game : Game) (g : Group) (s : State) (draws rest : List ℕ) (draw : �
 
   pub turn_says : {old new : ConsoleView} {r : Result Halt ConsoleFault} → Speaks old new r (shown_of (entered (nat_le draw (noun_of g.vocab)) game g s []).events) → Speaks old new r (shown_of (auto_turn game g s draws).events)
   turn_says {old = old} {new = new} {r = r} says = subst (λ (t : Traced Step AutoOutcome). Speaks old new r (shown_of t.events)) (sym whole) says
+
+  pub turn_tries : {T E : Type 0} (r : Result T E) (old new : List ℕ) → OnOk r (new ≡ tallied (entered (nat_le draw (noun_of g.vocab)) game g s []).events old) → OnOk r (new ≡ tallied (auto_turn game g s draws).events old)
+  turn_tries r old new tried = subst (λ (t : Traced Step AutoOutcome). OnOk r (new ≡ tallied t.events old)) (sym whole) tried
 
   pub turn_state : (r : Result Halt ConsoleFault) (now : State) → OnOk r (now ≡ (entered (nat_le draw (noun_of g.vocab)) game g s []).value.state) → OnOk r (now ≡ (auto_turn game g s draws).value.state)
   turn_state r now leaves = subst (λ (t : Traced Step AutoOutcome). OnOk r (now ≡ t.value.state)) (sym whole) leaves

@@ -8,5 +8,6 @@ pub mod Items
 pub mod Walks
 pub mod Prompts
 pub mod Playing
+pub mod Tallying
 pub mod SessionViews
 pub mod Said

@@ -3,7 +3,6 @@ use Rattle.std.proofs.Common.{◌≡◌, ◌∙◌, ℕ, Bool, true, false, List
 use Rattle.std.proofs.lemmas.List.{append-nil}
 use Rattle.adv_io.specs.History.{grown, GrewByPrefix}
 use Rattle.adv_io.specs.Console.{ConsoleView, Speaks, TakesFrom}
-use Rattle.adv_io.specs.declared.events.Event.{Event}
 use Rattle.adv_io.specs.declared.events.Event.TheVariants.{Take}
 use Rattle.adv_io.specs.declared.faults.ConsoleFault.{ConsoleFault}
 use Rattle.adv_io.specs.declared.consoles.Taken.TheVariants.{Got, End}

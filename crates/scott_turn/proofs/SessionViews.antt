@@ -2,7 +2,6 @@
 use Rattle.std.proofs.Common.{◌≡◌, ◌∙◌, ℕ, ◌+◌, Bool, List, ◌++◌, length, Option, Some, None, Ok, Err, OnOk, IfSome, sym, ap, arith, length-append}
 use Rattle.adv_draws.specs.Supply.{Supply}
 use Rattle.adv_io.specs.History.{draws_taken}
-use Rattle.adv_io.specs.declared.events.Event.{Event}
 use Rattle.adv_io.specs.declared.faults.ConsoleFault.{ConsoleFault}
 use Rattle.adv_io.specs.Console.{ConsoleView}
 use Rattle.scott_types.specs.declared.states.State.{State}
@@ -32,11 +31,11 @@ pub IfSome_always : {A : Type 0} {P : Type 0} (o : Option A) → P → IfSome o 
 IfSome_always None p = tt
 IfSome_always (Some x) p = p
 
-module _ (old new : ConsoleView) (game : Game) (position : Position) (s : State) (before now : Supply) (last : State) where
+module _ (old new : ConsoleView) (game : Game) (position : Position) (s : State) (before now : Supply) (last : State) (tried counts : List ℕ) where
   -- what a play leaves
   pub leaves_ok : (lines : List (List ℕ)) (reached : Position) (why : Ending) (broken : Bool) → PlaySpends → now.taken + length now.left ≡ before.taken + length before.left → why ≡ ending_of reached
       → (go game position s lines before.left).value ≡ record { position = reached; state = last; lines = (go game position s lines before.left).value.lines; draws = now.left }
-      → Leaves (go game position s lines before.left) (record { game = game; position = reached; state = last; broken = broken }) before now why
+      → Leaves (go game position s lines before.left) (record { game = game; position = reached; state = last; broken = broken; tried = counts }) before now why
   leaves_ok lines reached why broken spends sum is leaves =
       let t = go game position s lines before.left in
       record {
@@ -50,7 +49,7 @@ module _ (old new : ConsoleView) (game : Game) (position : Position) (s : State)
   -- a play that succeeded
   pub plays_ok : (lines : Option (List (List ℕ))) (reached : Position) (why : Ending) (broken : Bool) → PlaySpends → now.taken + length now.left ≡ before.taken + length before.left → why ≡ ending_of reached
       → IfSome lines (λ ls. PlaysOut old new (Ok reached) (go game position s ls before.left) last now.left)
-      → IfSome lines (λ ls. Plays old new (Ok why) (go game position s ls before.left) (record { game = game; position = reached; state = last; broken = broken }) before now)
+      → IfSome lines (λ ls. Plays old new (Ok why) (go game position s ls before.left) (record { game = game; position = reached; state = last; broken = broken; tried = counts }) before now)
   plays_ok None reached why broken spends sum is as_rules = tt
   plays_ok (Some lines) reached why broken spends sum is as_rules = record {
     shows = as_rules.shows;
@@ -62,14 +61,14 @@ module _ (old new : ConsoleView) (game : Game) (position : Position) (s : State)
   -- a play that failed
   pub plays_err : (lines : Option (List (List ℕ))) (reached : Position) (broken : Bool) (d fault : ConsoleFault)
       → IfSome lines (λ ls. PlaysOut old new (Err d) (go game position s ls before.left) last now.left)
-      → IfSome lines (λ ls. Plays old new (Err fault) (go game position s ls before.left) (record { game = game; position = reached; state = last; broken = broken }) before now)
+      → IfSome lines (λ ls. Plays old new (Err fault) (go game position s ls before.left) (record { game = game; position = reached; state = last; broken = broken; tried = counts }) before now)
   plays_err None reached broken d fault as_rules = tt
   plays_err (Some lines) reached broken d fault as_rules = record { shows = tt; part = as_rules.part; lines = tt; leaves = tt }
 
   -- what succeeded goes on as if it had never stopped
   pub goes_on_ok : (lines : Option (List (List ℕ))) (reached : Position) (why : Ending) (broken whole : Bool) → PlaySplits
       → IfSome lines (λ ls. PlaysOut old new (Ok reached) (go game position s ls before.left) last now.left)
-      → IfSome lines (λ ls. OnOk {E = ConsoleFault} (Ok why) (GoesOn (record { game = game; position = position; state = s; broken = whole }) (record { game = game; position = reached; state = last; broken = broken }) ls before.left (go game position s ls before.left)))
+      → IfSome lines (λ ls. OnOk {E = ConsoleFault} (Ok why) (GoesOn (record { game = game; position = position; state = s; broken = whole; tried = tried }) (record { game = game; position = reached; state = last; broken = broken; tried = counts }) ls before.left (go game position s ls before.left)))
   goes_on_ok None reached why broken whole splits as_rules = tt
   goes_on_ok (Some lines) reached why broken whole splits as_rules = λ more further.
       splits game position s lines more before.left further

@@ -1,16 +1,14 @@
 -- What a console sees of steps, one part after another.
 use Rattle.std.proofs.Common.{◌≡◌, ◌∙◌, ℕ, List, [], ◌∷◌, ◌++◌, Bool, true, false, cond, Option, Some, None, refl, sym, ap}
 use Rattle.std.proofs.lemmas.List.{append-nil}
-use Rattle.std.proofs.lemmas.List.Elements.{filter_map-append}
 use Rattle.std.specs.Prelude.{is_some}
-use Rattle.std.specs.List.{filter_map}
-use Rattle.adv_io.specs.History.{says, shown_event}
+use Rattle.adv_io.specs.History.{says}
 use Rattle.scott_types.specs.declared.states.State.{State}
 use Rattle.scott_types.specs.Action.{is_zero_action}
 use Rattle.scott_types.specs.Style.{Game}
 use Rattle.scott_types.specs.Database.{action_at}
 use Rattle.adv_io.proofs.Showing.{shown_of-said}
-use Rattle.adv_io.specs.Steps.{Noted, Step, Traced, after, event_of, said_steps, shown_of}
+use Rattle.adv_io.specs.Steps.{Noted, Step, Traced, after, said_steps, shown_of}
 use Rattle.scott_rules.specs.Outcomes.{Outcome, and_then, then_if_on}
 use Rattle.scott_rules.specs.Actions.{action_result, try_action}
 

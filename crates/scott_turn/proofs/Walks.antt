@@ -1,10 +1,9 @@
 -- What a walk says, and what it leaves.
-use Rattle.std.proofs.Common.{◌≡◌, ◌∙◌, ℕ, ◌-◌, Bool, true, false, cond, List, [], ◌++◌, length, Option, Some, None, Result, refl, sym, ap}
+use Rattle.std.proofs.Common.{◌≡◌, ◌∙◌, ℕ, ◌-◌, Bool, true, false, cond, List, [], ◌++◌, length, Some, None, Result, refl, sym, ap}
 use Rattle.std.proofs.lemmas.List.{map-append}
 use Rattle.std.specs.Prelude.{◌==◌, ◌&&◌}
 use Rattle.adv_io.specs.History.{says}
 use Rattle.adv_io.specs.Console.{ConsoleView, Speaks}
-use Rattle.adv_io.specs.declared.events.Event.{Event}
 use Rattle.scott_types.specs.declared.states.State.{State}
 use Rattle.scott_types.specs.declared.styles.Style.{Style}
 use Rattle.scott_types.specs.declared.phrases.Phrase.TheVariants.{DarkMove, Moved, BrokenNeck, NoExitThere}

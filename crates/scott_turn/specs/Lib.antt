@@ -5,4 +5,5 @@ pub mod ItemTurns
 pub mod Ways
 pub mod Rounds
 pub mod Fed
+pub mod Tried
 pub mod Played

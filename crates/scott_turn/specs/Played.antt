@@ -1,8 +1,7 @@
 -- A game that is being played, and what a play of it does.
-use Rattle.std.specs.Prelude.{◌≡◌, ℕ, ◌+◌, Bool, List, ◌++◌, length, Option, Some, Result, OnOk, OnErr, IfOk}
+use Rattle.std.specs.Prelude.{◌≡◌, ℕ, ◌+◌, Bool, List, ◌++◌, length, Some, Result, OnOk, OnErr, IfOk}
 use Rattle.adv_draws.specs.Supply.{Supply}
 use Rattle.adv_io.specs.History.{grown, GrewByPrefix, shown, draws_taken}
-use Rattle.adv_io.specs.declared.events.Event.{Event}
 use Rattle.adv_io.specs.declared.faults.ConsoleFault.{ConsoleFault}
 use Rattle.adv_io.specs.Console.{ConsoleView}
 use Rattle.scott_types.specs.declared.states.State.{State}
@@ -14,12 +13,14 @@ use Rattle.adv_io.specs.Steps.{Step, Traced, after, trace_of}
 use Rattle.scott_rules.specs.Play.{PlayEnd, go, ending_of}
 use Rattle.scott_rules.specs.Laws.{IsEnding}
 
--- the game, where its play stands, and whether a failure of the console broke it
+-- the game, where its play stands, whether a failure of the console broke it, and how often each
+-- line was tried
 pub record SessionView : Type 0 where
   pub game : Game
   pub position : Position
   pub state : State
   pub broken : Bool
+  pub tried : List ℕ
 
 -- what a session does from where it stands, on these lines and draws
 abbrev pub goes : SessionView → List (List ℕ) → List ℕ → Traced Step PlayEnd

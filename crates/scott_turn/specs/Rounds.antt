@@ -1,7 +1,6 @@
 -- One round of a play, on a console whose lines are known.
 use Rattle.std.specs.Prelude.{◌≡◌, ℕ, Bool, true, false, List, [], ◌∷◌, Option, Some, None, Result, Ok, Err, OnOk, OnErr, IfOk}
 use Rattle.adv_io.specs.History.{grown, GrewByPrefix}
-use Rattle.adv_io.specs.declared.events.Event.{Event}
 use Rattle.adv_io.specs.declared.faults.ConsoleFault.{ConsoleFault}
 use Rattle.adv_io.specs.Console.{ConsoleView}
 use Rattle.scott_types.specs.declared.states.State.{State}

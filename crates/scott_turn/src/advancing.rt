@@ -9,10 +9,12 @@ ghost use Rattle.scott_rules.specs.Rounds.{look_due, unmarked, prompted, to_prom
 ghost use Rattle.scott_types.specs.declared.phrases.Phrase.TheVariants.{Prompt};
 ghost use Rattle.scott_types.specs.declared.endings.Position.TheVariants.{Fresh};
 ghost use Rattle.scott_types.specs.Phrase.{text_of};
+ghost use Rattle.scott_turn.specs.Tried.{tallied};
 
 use crate::automatic::automatic;
 use crate::games::Game;
 use crate::saying::say_text;
+use adv_counts::Tally;
 use adv_draws::Draws;
 use adv_io::{Console, ConsoleFault};
 use scott_light::look;
@@ -90,6 +92,7 @@ fn go_to_prompt<C: Console>(
 fn advance_from<C: Console>(
     game: &Game,
     state: &mut State,
+    tally: &mut Tally,
     from: u16,
     draws: &mut Draws,
     console: &mut C,
@@ -98,6 +101,10 @@ fn advance_from<C: Console>(
     ensures spoken { Speaks (C.seen console.old) (C.seen console.new) result
         (shown_of (to_prompt game.now
         (automatic game.now (groups_from game.now.db from) state.old draws.old.left)).events) }
+    ensures tried { OnOk result
+        (tally.new ≡ tallied (to_prompt game.now
+        (automatic game.now (groups_from game.now.db from) state.old draws.old.left)).events
+        tally.old) }
     ensures left { IfOk result
         (λ position. (to_prompt game.now
         (automatic game.now (groups_from game.now.db from) state.old draws.old.left)).value
@@ -105,7 +112,7 @@ fn advance_from<C: Console>(
     ensures taken { supplied draws.new ≡ supplied draws.old }
     ensures fits { Fits game.now.db state.new }
 {
-    let halt = automatic(game, state, from, draws, console)?;
+    let halt = automatic(game, state, tally, from, draws, console)?;
     go_to_prompt(game, state, halt, console)
 }
 
@@ -113,12 +120,16 @@ fn advance_from<C: Console>(
 fn begin<C: Console>(
     game: &Game,
     state: &mut State,
+    tally: &mut Tally,
     draws: &mut Draws,
     console: &mut C,
 ) -> Result<Position, ConsoleFault>
     requires { Fits game.now.db state.old }
     ensures spoken { Speaks (C.seen console.old) (C.seen console.new) result
         (shown_of (advance game.now Position.Fresh state.old draws.old.left).events) }
+    ensures tried { OnOk result
+        (tally.new ≡ tallied (advance game.now Position.Fresh state.old draws.old.left).events
+        tally.old) }
     ensures left { IfOk result (λ position.
         (advance game.now Position.Fresh state.old draws.old.left).value
         ≡ record { position = position; state = state.new; draws = draws.new.left }) }
@@ -126,7 +137,7 @@ fn begin<C: Console>(
     ensures fits { Fits game.now.db state.new }
 {
     look_if_due(game, state, console)?;
-    advance_from(game, state, 0, draws, console)
+    advance_from(game, state, tally, 0, draws, console)
 }
 
 /// Everything up to the prompt, from where a play stands.
@@ -136,6 +147,7 @@ fn begin<C: Console>(
 pub fn advance<C: Console>(
     game: &Game,
     state: &mut State,
+    tally: &mut Tally,
     position: Position,
     draws: &mut Draws,
     console: &mut C,
@@ -143,6 +155,9 @@ pub fn advance<C: Console>(
     requires { Fits game.now.db state.old }
     ensures spoken { Speaks (C.seen console.old) (C.seen console.new) result
         (shown_of (advance game.now position state.old draws.old.left).events) }
+    ensures tried { OnOk result
+        (tally.new ≡ tallied (advance game.now position state.old draws.old.left).events
+        tally.old) }
     ensures left { IfOk result (λ reached.
         (advance game.now position state.old draws.old.left).value
         ≡ record { position = reached; state = state.new; draws = draws.new.left }) }
@@ -150,8 +165,8 @@ pub fn advance<C: Console>(
     ensures fits { Fits game.now.db state.new }
 {
     match position {
-        Position::Fresh => begin(game, state, draws, console),
-        Position::Draw(head) => advance_from(game, state, head, draws, console),
+        Position::Fresh => begin(game, state, tally, draws, console),
+        Position::Draw(head) => advance_from(game, state, tally, head, draws, console),
         Position::Line => Ok(Position::Line),
         Position::Over(ending) => Ok(Position::Over(ending)),
     }

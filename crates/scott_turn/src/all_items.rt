@@ -1,14 +1,16 @@
 //! Getting and dropping all: a walk over the items.
-ghost use Rattle.std.specs.Prelude.{◌≡◌, ◌<◌, IfOk, [], true, false, if◌then◌else◌};
+ghost use Rattle.std.specs.Prelude.{◌≡◌, ◌<◌, IfOk, [], true, false, if◌then◌else◌, OnOk};
 ghost use Rattle.adv_io.specs.Console.{Speaks};
 ghost use Rattle.scott_types.specs.State.{Fits};
 ghost use Rattle.scott_rules.specs.Transfer.{none_taken, all_items, is_too_dark, all_from, all_transferred};
 ghost use Rattle.adv_io.specs.Steps.{shown_of};
 ghost use Rattle.scott_turn.specs.ItemTurns.{item_turn, ends_all, over_in, is_taken_by};
+ghost use Rattle.scott_turn.specs.Tried.{tallied};
 
 use crate::games::Game;
 use crate::item_turns::{ItemTurn, do_item_turn};
 use crate::saying::{say_only, say_text};
+use adv_counts::Tally;
 use adv_io::{Console, ConsoleFault};
 use scott_types::{Phrase, State, Transfer};
 
@@ -54,6 +56,7 @@ fn is_taken_by(item_turn: ItemTurn, before: bool) -> bool
 fn all_items<C: Console>(
     game: &Game,
     state: &mut State,
+    tally: &mut Tally,
     transfer: Transfer,
     typed: &[u8],
     console: &mut C,
@@ -61,6 +64,10 @@ fn all_items<C: Console>(
     requires { Fits game.now.db state.old }
     ensures spoken { Speaks (C.seen console.old) (C.seen console.new) result
         (shown_of (all_items transfer game.now typed.now 0 game.now.db.items state.old).events) }
+    ensures tried { OnOk result
+        (tally.new
+        ≡ tallied (all_items transfer game.now typed.now 0 game.now.db.items state.old).events
+        tally.old) }
     ensures left { IfOk result (λ all_result.
         (all_items transfer game.now typed.now 0 game.now.db.items state.old).value
         ≡ record { state = state.new; over = all_result.over; any_taken = all_result.any_taken }) }
@@ -68,7 +75,7 @@ fn all_items<C: Console>(
 {
     let mut any_taken = false;
     for i in 0..game.db().items().len() {
-        let item_turn = do_item_turn(game, state, transfer, i as u8, typed, console)?;
+        let item_turn = do_item_turn(game, state, tally, transfer, i as u8, typed, console)?;
         if ends_all(item_turn) {
             return Ok(AllResult {
                 over: over_in(item_turn),
@@ -118,6 +125,7 @@ fn text_after(all_result: AllResult, transfer: Transfer) -> &'static [u8]
 fn transfer_all_items<C: Console>(
     game: &Game,
     state: &mut State,
+    tally: &mut Tally,
     transfer: Transfer,
     typed: &[u8],
     console: &mut C,
@@ -125,11 +133,14 @@ fn transfer_all_items<C: Console>(
     requires { Fits game.now.db state.old }
     ensures spoken { Speaks (C.seen console.old) (C.seen console.new) result
         (shown_of (all_from false transfer game.now typed.now state.old).events) }
+    ensures tried { OnOk result
+        (tally.new ≡ tallied (all_from false transfer game.now typed.now state.old).events
+        tally.old) }
     ensures left { IfOk result (λ over. (all_from false transfer game.now typed.now state.old).value
         ≡ record { state = state.new; over = over }) }
     ensures fits { Fits game.now.db state.new }
 {
-    let all_result = all_items(game, state, transfer, typed, console)?;
+    let all_result = all_items(game, state, tally, transfer, typed, console)?;
     say_text(text_after(all_result, transfer), console)?;
     Ok(all_result.over)
 }
@@ -141,6 +152,7 @@ fn transfer_all_items<C: Console>(
 pub fn transfer_all<C: Console>(
     game: &Game,
     state: &mut State,
+    tally: &mut Tally,
     transfer: Transfer,
     typed: &[u8],
     console: &mut C,
@@ -148,6 +160,9 @@ pub fn transfer_all<C: Console>(
     requires { Fits game.now.db state.old }
     ensures spoken { Speaks (C.seen console.old) (C.seen console.new) result
         (shown_of (all_transferred transfer game.now typed.now state.old).events) }
+    ensures tried { OnOk result
+        (tally.new ≡ tallied (all_transferred transfer game.now typed.now state.old).events
+        tally.old) }
     ensures left { IfOk result
         (λ over. (all_transferred transfer game.now typed.now state.old).value
         ≡ record { state = state.new; over = over }) }
@@ -156,6 +171,6 @@ pub fn transfer_all<C: Console>(
     if is_too_dark(state, transfer) {
         say_only(Phrase::DarkGet.text(), console)
     } else {
-        transfer_all_items(game, state, transfer, typed, console)
+        transfer_all_items(game, state, tally, transfer, typed, console)
     }
 }

@@ -9,10 +9,12 @@ ghost use Rattle.scott_rules.specs.Commands.{heard};
 ghost use Rattle.scott_rules.specs.Rounds.{turn_ended, command_done, command_result, asked_again, unknown_word, by_heard};
 ghost use Rattle.scott_vocab.specs.Heard.{IsEntry};
 ghost use Rattle.adv_io.specs.Steps.{shown_of};
+ghost use Rattle.scott_turn.specs.Tried.{tallied};
 
 use crate::commands::do_command;
 use crate::games::Game;
 use crate::searching::Command;
+use adv_counts::Tally;
 use adv_io::{Console, ConsoleFault, Line, say_all};
 use scott_light::count_light;
 use scott_types::{Heard, Phrase, Position, State};
@@ -45,6 +47,7 @@ fn end_turn<C: Console>(
 fn do_turn<C: Console>(
     game: &Game,
     state: &mut State,
+    tally: &mut Tally,
     command: Command,
     typed: &[u8],
     console: &mut C,
@@ -54,13 +57,16 @@ fn do_turn<C: Console>(
     ensures spoken { Speaks (C.seen console.old) (C.seen console.new) result
         (shown_of (command_done game.now.style
         (command_result game.now typed.now command.verb command.noun state.old)).events) }
+    ensures tried { OnOk result
+        (tally.new ≡ tallied (command_done game.now.style
+        (command_result game.now typed.now command.verb command.noun state.old)).events tally.old) }
     ensures left { IfOk result
         (λ position. (command_done game.now.style
         (command_result game.now typed.now command.verb command.noun state.old)).value
         ≡ record { position = position; state = state.new }) }
     ensures fits { Fits game.now.db state.new }
 {
-    let over = do_command(game, state, command, typed, console)?;
+    let over = do_command(game, state, tally, command, typed, console)?;
     end_turn(game, state, over, console)
 }
 
@@ -95,12 +101,17 @@ fn refuse_word<'a, C: Console>(word: &'a [u8], console: &mut C) -> Result<Positi
 pub fn answer<C: Console>(
     game: &Game,
     state: &mut State,
+    tally: &mut Tally,
     line: &Line,
     console: &mut C,
 ) -> Result<Position, ConsoleFault>
     requires { Fits game.now.db state.old }
     ensures spoken { Speaks (C.seen console.old) (C.seen console.new) result
         (shown_of (by_heard (heard game.now.db line.now) game.now line.now state.old).events) }
+    ensures tried { OnOk result
+        (tally.new
+        ≡ tallied (by_heard (heard game.now.db line.now) game.now line.now state.old).events
+        tally.old) }
     ensures left { IfOk result
         (λ position. (by_heard (heard game.now.db line.now) game.now line.now state.old).value
         ≡ record { position = position; state = state.new }) }
@@ -113,6 +124,7 @@ pub fn answer<C: Console>(
             do_turn(
                 game,
                 state,
+                tally,
                 Command { verb, noun },
                 typed_noun(line),
                 console,

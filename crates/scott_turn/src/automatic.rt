@@ -9,9 +9,11 @@ ghost use Rattle.scott_rules.specs.Groups.{over_of, group_tried, groups_from, au
 ghost use Rattle.adv_io.specs.Steps.{shown_of};
 ghost use Rattle.scott_turn.specs.Heads.{group_at};
 ghost use Rattle.scott_turn.specs.Turns.{halt_of, entered, auto_turn, goes_through};
+ghost use Rattle.scott_turn.specs.Tried.{tallied};
 
 use crate::games::Game;
 use crate::trying::try_group;
+use adv_counts::Tally;
 use adv_draws::Draws;
 use adv_io::{Console, ConsoleFault};
 use scott_types::verbs::AUTOMATIC;
@@ -40,6 +42,7 @@ fn lets_in(db: &Db, head: u16, draw: u8) -> bool
 fn enter<C: Console>(
     game: &Game,
     state: &mut State,
+    tally: &mut Tally,
     head: u16,
     draw: u8,
     console: &mut C,
@@ -49,6 +52,10 @@ fn enter<C: Console>(
     ensures spoken { let b = nat_le draw (noun_of (action_at game.now.db head).vocab) in
         Speaks (C.seen console.old) (C.seen console.new) result
         (shown_of (entered b game.now (group_at game.now.db head) state.old []).events) }
+    ensures tried { let b = nat_le draw (noun_of (action_at game.now.db head).vocab) in
+        OnOk result
+        (tally.new ≡ tallied (entered b game.now (group_at game.now.db head) state.old []).events
+        tally.old) }
     ensures state { let b = nat_le draw (noun_of (action_at game.now.db head).vocab) in
         OnOk result (state.new
         ≡ (entered b game.now (group_at game.now.db head) state.old []).value.state) }
@@ -58,7 +65,7 @@ fn enter<C: Console>(
     ensures fits { Fits game.now.db state.new }
 {
     if lets_in(game.db(), head, draw) {
-        let ran = try_group(game, state, head, &[], console)?;
+        let ran = try_group(game, state, tally, head, &[], console)?;
         Ok(halt_of(ran))
     } else {
         Ok(Halt::Through)
@@ -69,6 +76,7 @@ fn enter<C: Console>(
 fn auto_turn<C: Console>(
     game: &Game,
     state: &mut State,
+    tally: &mut Tally,
     head: u16,
     draws: &mut Draws,
     console: &mut C,
@@ -78,6 +86,9 @@ fn auto_turn<C: Console>(
     ensures spoken { Speaks (C.seen console.old) (C.seen console.new) result
         (shown_of (auto_turn game.now
         (group_at game.now.db head) state.old draws.old.left).events) }
+    ensures tried { OnOk result
+        (tally.new ≡ tallied (auto_turn game.now
+        (group_at game.now.db head) state.old draws.old.left).events tally.old) }
     ensures state { OnOk result
         (state.new ≡ (auto_turn game.now
         (group_at game.now.db head) state.old draws.old.left).value.state) }
@@ -91,7 +102,7 @@ fn auto_turn<C: Console>(
 {
     match draws.next() {
         None => Ok(Halt::Waits(head)),
-        Some(draw) => enter(game, state, head, draw, console),
+        Some(draw) => enter(game, state, tally, head, draw, console),
     }
 }
 
@@ -114,6 +125,7 @@ fn goes_on(halt: Halt) -> bool
 pub fn automatic<C: Console>(
     game: &Game,
     state: &mut State,
+    tally: &mut Tally,
     from: u16,
     draws: &mut Draws,
     console: &mut C,
@@ -122,6 +134,9 @@ pub fn automatic<C: Console>(
     ensures spoken { Speaks (C.seen console.old) (C.seen console.new) result
         (shown_of (automatic game.now
         (groups_from game.now.db from) state.old draws.old.left).events) }
+    ensures tried { OnOk result
+        (tally.new ≡ tallied (automatic game.now
+        (groups_from game.now.db from) state.old draws.old.left).events tally.old) }
     ensures left { IfOk result
         (λ halt. (automatic game.now (groups_from game.now.db from) state.old draws.old.left).value
         ≡ record { state = state.new; draws = draws.new.left; halt = halt }) }
@@ -130,7 +145,7 @@ pub fn automatic<C: Console>(
 {
     let mut next = game.first_head(AUTOMATIC, from);
     while let Some(head) = next {
-        let halt = auto_turn(game, state, head, draws, console)?;
+        let halt = auto_turn(game, state, tally, head, draws, console)?;
         if !goes_on(halt) {
             return Ok(halt);
         }

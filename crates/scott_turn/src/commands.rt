@@ -1,11 +1,12 @@
 //! To do a command.
-ghost use Rattle.std.specs.Prelude.{◌≡◌, IfOk, codes, bytes_eq};
+ghost use Rattle.std.specs.Prelude.{◌≡◌, IfOk, codes, bytes_eq, OnOk};
 ghost use Rattle.adv_io.specs.Console.{Speaks};
 ghost use Rattle.scott_types.specs.State.{Fits};
 ghost use Rattle.scott_rules.specs.Transfer.{is_all, transfer as got_or_dropped};
 ghost use Rattle.scott_rules.specs.Rounds.{not_done, unmatched, by_found, by_actions, going, command_result};
 ghost use Rattle.scott_vocab.specs.Heard.{IsEntry};
 ghost use Rattle.adv_io.specs.Steps.{shown_of};
+ghost use Rattle.scott_turn.specs.Tried.{tallied};
 
 use crate::all_items::transfer_all;
 use crate::choosing::transfer_one;
@@ -13,6 +14,7 @@ use crate::games::Game;
 use crate::saying::say_only;
 use crate::searching::{Command, search};
 use crate::walking::walk;
+use adv_counts::Tally;
 use adv_io::{Console, ConsoleFault};
 use scott_types::verbs::{DROP, GET, GO};
 use scott_types::{Found, Phrase, State, Style, Transfer};
@@ -29,6 +31,7 @@ fn is_all(typed: &[u8]) -> bool
 fn transfer<C: Console>(
     game: &Game,
     state: &mut State,
+    tally: &mut Tally,
     transfer: Transfer,
     noun: Option<u16>,
     typed: &[u8],
@@ -38,13 +41,16 @@ fn transfer<C: Console>(
     requires there { IsEntry game.now.db noun }
     ensures spoken { Speaks (C.seen console.old) (C.seen console.new) result
         (shown_of (got_or_dropped transfer game.now typed.now noun state.old).events) }
+    ensures tried { OnOk result
+        (tally.new ≡ tallied (got_or_dropped transfer game.now typed.now noun state.old).events
+        tally.old) }
     ensures left { IfOk result
         (λ over. (got_or_dropped transfer game.now typed.now noun state.old).value
         ≡ record { state = state.new; over = over }) }
     ensures fits { Fits game.now.db state.new }
 {
     if is_all(typed) {
-        transfer_all(game, state, transfer, typed, console)
+        transfer_all(game, state, tally, transfer, typed, console)
     } else {
         transfer_one(game, state, transfer, noun, console)
     }
@@ -65,6 +71,7 @@ fn not_done(style: Style, found: Found) -> &'static [u8]
 fn do_unmatched<C: Console>(
     game: &Game,
     state: &mut State,
+    tally: &mut Tally,
     command: Command,
     typed: &[u8],
     found: Found,
@@ -74,15 +81,35 @@ fn do_unmatched<C: Console>(
     requires there { IsEntry game.now.db command.noun }
     ensures spoken { Speaks (C.seen console.old) (C.seen console.new) result
         (shown_of (unmatched game.now typed.now command.verb command.noun found state.old).events) }
+    ensures tried { OnOk result
+        (tally.new
+        ≡ tallied (unmatched game.now typed.now command.verb command.noun found state.old).events
+        tally.old) }
     ensures left { IfOk result
         (λ over. (unmatched game.now typed.now command.verb command.noun found state.old).value
         ≡ record { state = state.new; over = over }) }
     ensures fits { Fits game.now.db state.new }
 {
     if command.verb == GET {
-        transfer(game, state, Transfer::PickUp, command.noun, typed, console)
+        transfer(
+            game,
+            state,
+            tally,
+            Transfer::PickUp,
+            command.noun,
+            typed,
+            console,
+        )
     } else if command.verb == DROP {
-        transfer(game, state, Transfer::PutDown, command.noun, typed, console)
+        transfer(
+            game,
+            state,
+            tally,
+            Transfer::PutDown,
+            command.noun,
+            typed,
+            console,
+        )
     } else {
         say_only(not_done(game.style(), found), console)
     }
@@ -92,6 +119,7 @@ fn do_unmatched<C: Console>(
 fn finish_command<C: Console>(
     game: &Game,
     state: &mut State,
+    tally: &mut Tally,
     command: Command,
     typed: &[u8],
     found: Found,
@@ -101,6 +129,10 @@ fn finish_command<C: Console>(
     requires there { IsEntry game.now.db command.noun }
     ensures spoken { Speaks (C.seen console.old) (C.seen console.new) result
         (shown_of (by_found found game.now typed.now command.verb command.noun state.old).events) }
+    ensures tried { OnOk result
+        (tally.new
+        ≡ tallied (by_found found game.now typed.now command.verb command.noun state.old).events
+        tally.old) }
     ensures left { IfOk result
         (λ over. (by_found found game.now typed.now command.verb command.noun state.old).value
         ≡ record { state = state.new; over = over }) }
@@ -109,8 +141,8 @@ fn finish_command<C: Console>(
     match found {
         Found::Over(ending) => Ok(Some(ending)),
         Found::Done => Ok(None),
-        Found::Matched => do_unmatched(game, state, command, typed, Found::Matched, console),
-        Found::NoMatch => do_unmatched(game, state, command, typed, Found::NoMatch, console),
+        Found::Matched => do_unmatched(game, state, tally, command, typed, Found::Matched, console),
+        Found::NoMatch => do_unmatched(game, state, tally, command, typed, Found::NoMatch, console),
     }
 }
 
@@ -118,6 +150,7 @@ fn finish_command<C: Console>(
 fn do_by_actions<C: Console>(
     game: &Game,
     state: &mut State,
+    tally: &mut Tally,
     command: Command,
     typed: &[u8],
     console: &mut C,
@@ -126,19 +159,24 @@ fn do_by_actions<C: Console>(
     requires there { IsEntry game.now.db command.noun }
     ensures spoken { Speaks (C.seen console.old) (C.seen console.new) result
         (shown_of (by_actions game.now typed.now command.verb command.noun state.old).events) }
+    ensures tried { OnOk result
+        (tally.new
+        ≡ tallied (by_actions game.now typed.now command.verb command.noun state.old).events
+        tally.old) }
     ensures left { IfOk result
         (λ over. (by_actions game.now typed.now command.verb command.noun state.old).value
         ≡ record { state = state.new; over = over }) }
     ensures fits { Fits game.now.db state.new }
 {
-    let found = search(game, state, command, typed, console)?;
-    finish_command(game, state, command, typed, found, console)
+    let found = search(game, state, tally, command, typed, console)?;
+    finish_command(game, state, tally, command, typed, found, console)
 }
 
 // Going: it asks for a direction, and goes there. With another noun it is a verb like any.
 fn do_going<C: Console>(
     game: &Game,
     state: &mut State,
+    tally: &mut Tally,
     noun: Option<u16>,
     typed: &[u8],
     console: &mut C,
@@ -147,6 +185,8 @@ fn do_going<C: Console>(
     requires there { IsEntry game.now.db noun }
     ensures spoken { Speaks (C.seen console.old) (C.seen console.new) result
         (shown_of (going game.now typed.now noun state.old).events) }
+    ensures tried { OnOk result
+        (tally.new ≡ tallied (going game.now typed.now noun state.old).events tally.old) }
     ensures left { IfOk result (λ over. (going game.now typed.now noun state.old).value
         ≡ record { state = state.new; over = over }) }
     ensures fits { Fits game.now.db state.new }
@@ -161,7 +201,7 @@ fn do_going<C: Console>(
                     verb: GO,
                     noun: Some(noun),
                 };
-                do_by_actions(game, state, command, typed, console)
+                do_by_actions(game, state, tally, command, typed, console)
             }
         }
     }
@@ -174,6 +214,7 @@ fn do_going<C: Console>(
 pub fn do_command<C: Console>(
     game: &Game,
     state: &mut State,
+    tally: &mut Tally,
     command: Command,
     typed: &[u8],
     console: &mut C,
@@ -182,14 +223,18 @@ pub fn do_command<C: Console>(
     requires there { IsEntry game.now.db command.noun }
     ensures spoken { Speaks (C.seen console.old) (C.seen console.new) result
         (shown_of (command_result game.now typed.now command.verb command.noun state.old).events) }
+    ensures tried { OnOk result
+        (tally.new
+        ≡ tallied (command_result game.now typed.now command.verb command.noun state.old).events
+        tally.old) }
     ensures left { IfOk result
         (λ over. (command_result game.now typed.now command.verb command.noun state.old).value
         ≡ record { state = state.new; over = over }) }
     ensures fits { Fits game.now.db state.new }
 {
     if command.verb == GO {
-        do_going(game, state, command.noun, typed, console)
+        do_going(game, state, tally, command.noun, typed, console)
     } else {
-        do_by_actions(game, state, command, typed, console)
+        do_by_actions(game, state, tally, command, typed, console)
     }
 }

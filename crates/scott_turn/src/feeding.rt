@@ -1,5 +1,5 @@
 //! A play whose lines are fed, one by one.
-ghost use Rattle.std.specs.Prelude.{◌≡◌, ◌+◌, IfOk, length, true};
+ghost use Rattle.std.specs.Prelude.{◌≡◌, ◌+◌, IfOk, length, true, OnOk};
 ghost use Rattle.adv_draws.specs.Supply.{supplied};
 ghost use Rattle.adv_io.specs.Console.{Speaks};
 ghost use Rattle.scott_types.specs.State.{Fits};
@@ -7,11 +7,13 @@ ghost use Rattle.scott_rules.specs.Play.{go};
 ghost use Rattle.scott_turn.specs.Rounds.{is_prompt};
 ghost use Rattle.adv_io.specs.Steps.{shown_of};
 ghost use Rattle.scott_turn.specs.Fed.{given, said, after_line};
+ghost use Rattle.scott_turn.specs.Tried.{tallied};
 
 use crate::advancing::advance;
 use crate::answering::answer;
 use crate::games::Game;
 use crate::rounds::is_prompt;
+use adv_counts::Tally;
 use adv_draws::Draws;
 use adv_io::{Console, ConsoleFault, Line};
 use scott_rules::laws::play_spends;
@@ -21,6 +23,7 @@ use scott_types::{Position, State};
 fn answer_and_advance<C: Console>(
     game: &Game,
     state: &mut State,
+    tally: &mut Tally,
     draws: &mut Draws,
     line: &Line,
     console: &mut C,
@@ -29,6 +32,10 @@ fn answer_and_advance<C: Console>(
     ensures spoken { let t =
         after_line true game.now line.now Position.Line state.old draws.old.left in
         Speaks (C.seen console.old) (C.seen console.new) result (shown_of t.events) }
+    ensures tried { let t =
+        after_line true game.now line.now Position.Line state.old draws.old.left in
+        OnOk result
+        (tally.new ≡ tallied t.events tally.old) }
     ensures left { let t =
         after_line true game.now line.now Position.Line state.old draws.old.left in
         IfOk result (λ reached. t.value
@@ -36,14 +43,15 @@ fn answer_and_advance<C: Console>(
     ensures taken { supplied draws.new ≡ supplied draws.old }
     ensures fits { Fits game.now.db state.new }
 {
-    let position = answer(game, state, line, console)?;
-    advance(game, state, position, draws, console)
+    let position = answer(game, state, tally, line, console)?;
+    advance(game, state, tally, position, draws, console)
 }
 
 // The same where the play stands after a prompt; elsewhere the line is dropped.
 fn feed_line<C: Console>(
     game: &Game,
     state: &mut State,
+    tally: &mut Tally,
     position: Position,
     draws: &mut Draws,
     line: &Line,
@@ -53,6 +61,11 @@ fn feed_line<C: Console>(
     ensures spoken { let b = is_prompt position in
         Speaks (C.seen console.old) (C.seen console.new) result
         (shown_of (after_line b game.now line.now position state.old draws.old.left).events) }
+    ensures tried { let b = is_prompt position in
+        OnOk result
+        (tally.new
+        ≡ tallied (after_line b game.now line.now position state.old draws.old.left).events
+        tally.old) }
     ensures left { let b = is_prompt position in
         IfOk result
         (λ reached. (after_line b game.now line.now position state.old draws.old.left).value
@@ -61,7 +74,7 @@ fn feed_line<C: Console>(
     ensures fits { Fits game.now.db state.new }
 {
     if is_prompt(position) {
-        answer_and_advance(game, state, draws, line, console)
+        answer_and_advance(game, state, tally, draws, line, console)
     } else {
         Ok(position)
     }
@@ -76,6 +89,7 @@ fn feed_line<C: Console>(
 pub fn feed<C: Console>(
     game: &Game,
     state: &mut State,
+    tally: &mut Tally,
     position: Position,
     draws: &mut Draws,
     line: Option<&Line>,
@@ -84,6 +98,10 @@ pub fn feed<C: Console>(
     requires { Fits game.now.db state.old }
     ensures spoken { Speaks (C.seen console.old) (C.seen console.new) result
         (said (go game.now position state.old (given line.entry) draws.old.left).events) }
+    ensures tried { OnOk result
+        (tally.new
+        ≡ tallied (go game.now position state.old (given line.entry) draws.old.left).events
+        tally.old) }
     ensures left { let t = go game.now position state.old (given line.entry) draws.old.left in
         IfOk result (λ reached. t.value ≡ record {
           position = reached;
@@ -95,9 +113,9 @@ pub fn feed<C: Console>(
     ensures fits { Fits game.now.db state.new }
 {
     play_spends();
-    let reached = advance(game, state, position, draws, console)?;
+    let reached = advance(game, state, tally, position, draws, console)?;
     match line {
         None => Ok(reached),
-        Some(line) => feed_line(game, state, reached, draws, line, console),
+        Some(line) => feed_line(game, state, tally, reached, draws, line, console),
     }
 }

@@ -1,5 +1,5 @@
 //! Getting and dropping all: the turn of one item.
-ghost use Rattle.std.specs.Prelude.{◌≡◌, ◌<◌, ◌++◌, IfOk, length, true, if◌then◌else◌};
+ghost use Rattle.std.specs.Prelude.{◌≡◌, ◌<◌, ◌++◌, IfOk, length, true, if◌then◌else◌, OnOk};
 ghost use Rattle.scott_types.specs.Database.{item_at};
 ghost use Rattle.adv_io.specs.History.{says};
 ghost use Rattle.adv_io.specs.Console.{Speaks};
@@ -11,10 +11,12 @@ ghost use Rattle.scott_rules.specs.Words.{which};
 ghost use Rattle.scott_rules.specs.Transfer.{verb_for, is_taken, is_refused};
 ghost use Rattle.adv_io.specs.Steps.{shown_of};
 ghost use Rattle.scott_turn.specs.ItemTurns.{moved_or_not, ending_in, item_actions, after_actions, item_turn};
+ghost use Rattle.scott_turn.specs.Tried.{tallied};
 
 use crate::games::Game;
 use crate::searching::{Command, search};
 use crate::transferring::{is_at_hand, is_refused, transfer_item};
+use adv_counts::Tally;
 use adv_io::{Console, ConsoleFault, say_both};
 use scott_types::verbs::{DROP, GET};
 use scott_types::{Column, Found, Item, Phrase, State, Style, Transfer, get_word, shown};
@@ -77,6 +79,7 @@ fn ending_in(found: Found) -> Option<u8>
 fn try_item_actions<C: Console>(
     game: &Game,
     state: &mut State,
+    tally: &mut Tally,
     transfer: Transfer,
     i: u8,
     typed: &[u8],
@@ -87,13 +90,16 @@ fn try_item_actions<C: Console>(
     ensures spoken { Speaks (C.seen console.old) (C.seen console.new) result
         (shown_of (item_actions transfer game.now typed.now
         (item_at game.now.db i) state.old).events) }
+    ensures tried { OnOk result
+        (tally.new ≡ tallied (item_actions transfer game.now typed.now
+        (item_at game.now.db i) state.old).events tally.old) }
     ensures left { IfOk result
         (λ over. (item_actions transfer game.now typed.now (item_at game.now.db i) state.old).value
         ≡ record { state = state.new; over = over }) }
     ensures fits { Fits game.now.db state.new }
 {
     let command = command_for(game, transfer, i);
-    let found = search(game, state, command, typed, console)?;
+    let found = search(game, state, tally, command, typed, console)?;
     Ok(ending_in(found))
 }
 
@@ -175,6 +181,7 @@ fn finish_item<C: Console>(
 fn take_item<C: Console>(
     game: &Game,
     state: &mut State,
+    tally: &mut Tally,
     transfer: Transfer,
     i: u8,
     typed: &[u8],
@@ -185,13 +192,16 @@ fn take_item<C: Console>(
     ensures spoken { Speaks (C.seen console.old) (C.seen console.new) result
         (shown_of (item_turn true transfer game.now typed.now i
         (item_at game.now.db i) state.old).events) }
+    ensures tried { OnOk result
+        (tally.new ≡ tallied (item_turn true transfer game.now typed.now i
+        (item_at game.now.db i) state.old).events tally.old) }
     ensures left { IfOk result
         (λ found. (item_turn true transfer game.now typed.now i
         (item_at game.now.db i) state.old).value
         ≡ record { state = state.new; item_turn = found }) }
     ensures fits { Fits game.now.db state.new }
 {
-    let over = try_item_actions(game, state, transfer, i, typed, console)?;
+    let over = try_item_actions(game, state, tally, transfer, i, typed, console)?;
     finish_item(game, state, transfer, i, over, console)
 }
 
@@ -201,6 +211,7 @@ fn take_item<C: Console>(
 pub fn do_item_turn<C: Console>(
     game: &Game,
     state: &mut State,
+    tally: &mut Tally,
     transfer: Transfer,
     i: u8,
     typed: &[u8],
@@ -212,6 +223,10 @@ pub fn do_item_turn<C: Console>(
         Speaks (C.seen console.old) (C.seen console.new) result
         (shown_of (item_turn any_taken transfer game.now typed.now i
         (item_at game.now.db i) state.old).events) }
+    ensures tried { let any_taken = is_taken transfer i (item_at game.now.db i) state.old in
+        OnOk result
+        (tally.new ≡ tallied (item_turn any_taken transfer game.now typed.now i
+        (item_at game.now.db i) state.old).events tally.old) }
     ensures left { let any_taken = is_taken transfer i (item_at game.now.db i) state.old in
         IfOk result (λ found.
         (item_turn any_taken transfer game.now typed.now i (item_at game.now.db i) state.old).value
@@ -220,7 +235,7 @@ pub fn do_item_turn<C: Console>(
 {
     let item = &game.db().items()[i as usize];
     if is_taken(state, transfer, i, item) {
-        take_item(game, state, transfer, i, typed, console)
+        take_item(game, state, tally, transfer, i, typed, console)
     } else {
         Ok(ItemTurn::Passed)
     }

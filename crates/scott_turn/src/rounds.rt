@@ -5,12 +5,14 @@ ghost use Rattle.adv_io.specs.Faults.{HasCause};
 ghost use Rattle.scott_types.specs.State.{Fits};
 ghost use Rattle.scott_rules.specs.Play.{go};
 ghost use Rattle.scott_turn.specs.Positions.{CanStand};
-ghost use Rattle.scott_turn.specs.Rounds.{is_prompt, AnswersNext, GoesRound, PlaysOut};
+ghost use Rattle.scott_turn.specs.Rounds.{is_prompt, next_answer, from_there, AnswersNext, GoesRound, PlaysOut};
+ghost use Rattle.scott_turn.specs.Tried.{tallied, TalliesOn};
 
 use crate::advancing::advance;
 use crate::answering::answer;
 use crate::games::Game;
 use crate::laws::{advance_stands, answer_stands};
+use adv_counts::Tally;
 use adv_draws::Draws;
 use adv_io::{Console, ConsoleFault, Line, Taken};
 use scott_types::{Position, State};
@@ -37,6 +39,7 @@ pub fn is_prompt(position: Position) -> bool
 fn answer_next<C: Console>(
     game: &Game,
     state: &mut State,
+    tally: &mut Tally,
     line: &mut Line,
     console: &mut C,
 ) -> Result<Option<Position>, ConsoleFault>
@@ -48,13 +51,15 @@ fn answer_next<C: Console>(
         IfSome answered (λ _. (C.seen console.new).bound < (C.seen console.old).bound)) }
     ensures bounded { (C.seen console.new).bound ≤ (C.seen console.old).bound }
     ensures cause { HasCause (C.seen console.old).faults (C.seen console.new).faults result }
+    ensures tried { IfSome (C.seen console.old).left (λ lines.
+        OnOk result (tally.new ≡ tallied (next_answer game.now lines state.old) tally.old)) }
     ensures fits { Fits game.now.db state.new }
     ensures ends { IfOk result (λ answered. IfSome answered (CanStand game.now.db)) }
 {
     answer_stands();
     match console.take(line) {
         Ok(Taken::End) => Ok(None),
-        Ok(Taken::Got) => match answer(game, state, line, console) {
+        Ok(Taken::Got) => match answer(game, state, tally, line, console) {
             Ok(position) => Ok(Some(position)),
             Err(fault) => Err(fault),
         },
@@ -66,6 +71,7 @@ fn answer_next<C: Console>(
 fn go_round<C: Console>(
     game: &Game,
     state: &mut State,
+    tally: &mut Tally,
     position: Position,
     draws: &mut Draws,
     line: &mut Line,
@@ -82,18 +88,23 @@ fn go_round<C: Console>(
     ensures bounded { (C.seen console.new).bound ≤ (C.seen console.old).bound }
     ensures cause { HasCause (C.seen console.old).faults (C.seen console.new).faults result }
     ensures taken { supplied draws.new ≡ supplied draws.old }
+    ensures tried { IfSome (C.seen console.old).left (λ lines. IfOk result (λ round.
+        IfSome (C.seen console.new).left (λ left. TalliesOn
+        (go game.now position state.old lines draws.old.left) tally.old
+        (from_there round.stopped game.now round.position state.new left draws.new.left)
+        tally.new))) }
     ensures fits { Fits game.now.db state.new }
     ensures ends { IfOk result (λ round. CanStand game.now.db round.position) }
 {
     advance_stands();
-    let reached = advance(game, state, position, draws, console)?;
+    let reached = advance(game, state, tally, position, draws, console)?;
     if !is_prompt(reached) {
         return Ok(Round {
             position: reached,
             stopped: true,
         });
     }
-    match answer_next(game, state, line, console) {
+    match answer_next(game, state, tally, line, console) {
         Ok(None) => Ok(Round {
             position: reached,
             stopped: true,
@@ -114,6 +125,7 @@ fn go_round<C: Console>(
 pub fn play_on<C: Console>(
     game: &Game,
     state: &mut State,
+    tally: &mut Tally,
     position: Position,
     draws: &mut Draws,
     console: &mut C,
@@ -127,13 +139,16 @@ pub fn play_on<C: Console>(
     ensures bounded { (C.seen console.new).bound ≤ (C.seen console.old).bound }
     ensures cause { HasCause (C.seen console.old).faults (C.seen console.new).faults result }
     ensures taken { supplied draws.new ≡ supplied draws.old }
+    ensures tried { IfSome (C.seen console.old).left (λ lines. OnOk result
+        (tally.new
+        ≡ tallied (go game.now position state.old lines draws.old.left).events tally.old)) }
     ensures fits { Fits game.now.db state.new }
     ensures ends { IfOk result (CanStand game.now.db) }
 {
     let mut line = Line::of(&[]);
     let mut position = position;
     loop {
-        let round = go_round(game, state, position, draws, &mut line, console)?;
+        let round = go_round(game, state, tally, position, draws, &mut line, console)?;
         if round.stopped {
             return Ok(round.position);
         }

@@ -9,9 +9,11 @@ ghost use Rattle.scott_rules.specs.Search.{is_for_noun, search_result};
 ghost use Rattle.adv_io.specs.Steps.{shown_of};
 ghost use Rattle.scott_turn.specs.Heads.{group_at};
 ghost use Rattle.scott_turn.specs.Turns.{found_of, search_turn, ends_search, at_least};
+ghost use Rattle.scott_turn.specs.Tried.{tallied};
 
 use crate::games::Game;
 use crate::trying::try_group;
+use adv_counts::Tally;
 use adv_io::{Console, ConsoleFault};
 use scott_types::{Db, Found, Ran, State};
 
@@ -57,6 +59,7 @@ fn found_of(ran: Ran) -> Found
 fn search_turn<C: Console>(
     game: &Game,
     state: &mut State,
+    tally: &mut Tally,
     head: u16,
     noun: Option<u16>,
     typed: &[u8],
@@ -67,6 +70,11 @@ fn search_turn<C: Console>(
     ensures spoken { let b = is_for_noun (noun_of (action_at game.now.db head).vocab) noun in
         Speaks (C.seen console.old) (C.seen console.new) result
         (shown_of (search_turn b game.now typed.now (group_at game.now.db head) state.old).events) }
+    ensures tried { let b = is_for_noun (noun_of (action_at game.now.db head).vocab) noun in
+        OnOk result
+        (tally.new
+        ≡ tallied (search_turn b game.now typed.now (group_at game.now.db head) state.old).events
+        tally.old) }
     ensures state { let b = is_for_noun (noun_of (action_at game.now.db head).vocab) noun in
         OnOk result (state.new
         ≡ (search_turn b game.now typed.now (group_at game.now.db head) state.old).value.state) }
@@ -77,7 +85,7 @@ fn search_turn<C: Console>(
     ensures fits { Fits game.now.db state.new }
 {
     if is_meant(game.db(), head, noun) {
-        let ran = try_group(game, state, head, typed, console)?;
+        let ran = try_group(game, state, tally, head, typed, console)?;
         Ok(found_of(ran))
     } else {
         Ok(Found::NoMatch)
@@ -113,6 +121,7 @@ fn at_least(found: Found, before: Found) -> Found
 pub fn search<C: Console>(
     game: &Game,
     state: &mut State,
+    tally: &mut Tally,
     command: Command,
     typed: &[u8],
     console: &mut C,
@@ -121,6 +130,9 @@ pub fn search<C: Console>(
     ensures spoken { Speaks (C.seen console.old) (C.seen console.new) result
         (shown_of (search_result game.now typed.now command.verb command.noun
         (groups game.now.db) state.old).events) }
+    ensures tried { OnOk result
+        (tally.new ≡ tallied (search_result game.now typed.now command.verb command.noun
+        (groups game.now.db) state.old).events tally.old) }
     ensures left { IfOk result
         (λ found. (search_result game.now typed.now command.verb command.noun
         (groups game.now.db) state.old).value
@@ -130,7 +142,7 @@ pub fn search<C: Console>(
     let mut before = Found::NoMatch;
     let mut next = game.first_head(command.verb, 0);
     while let Some(head) = next {
-        let found = search_turn(game, state, head, command.noun, typed, console)?;
+        let found = search_turn(game, state, tally, head, command.noun, typed, console)?;
         if ends_search(found) {
             return Ok(found);
         }

@@ -1,5 +1,5 @@
 //! A session: a game that is being played, from its beginning, and on from where it stopped.
-ghost use Rattle.std.specs.Prelude.{◌≡◌, ◌≤◌, ◌↔◌, true, false, IfOk, IfSome, OnOk, IsOk, IsFalse};
+ghost use Rattle.std.specs.Prelude.{◌≡◌, ◌<◌, ◌≤◌, ◌↔◌, length, true, false, IfOk, IfSome, OnOk, IsOk, IsFalse};
 ghost use Rattle.adv_draws.specs.Supply.{supplied};
 ghost use Rattle.adv_io.specs.Console.{Speaks};
 ghost use Rattle.adv_io.specs.Faults.{HasCause};
@@ -10,12 +10,15 @@ ghost use Rattle.scott_turn.specs.Positions.{CanStand};
 ghost use Rattle.scott_types.specs.declared.endings.Position.TheVariants.{Fresh};
 ghost use Rattle.scott_rules.specs.Play.{ending_of};
 ghost use Rattle.scott_turn.specs.Fed.{given, said};
+ghost use Rattle.adv_counts.specs.Counts.{count_of};
+ghost use Rattle.scott_turn.specs.Tried.{tallied, untried};
 ghost use Rattle.scott_turn.specs.Played.{goes, Leaves, Plays, GoesOn, EndingIsKnown};
 
 use crate::feeding::feed;
 use crate::games::Game;
 use crate::laws::play_stands;
 use crate::rounds::play_on;
+use adv_counts::Tally;
 use adv_draws::Draws;
 use adv_io::{Console, ConsoleFault, Line, Memory};
 use scott_rules::laws::{play_spends, play_splits};
@@ -25,14 +28,16 @@ use std::marker::Model;
 
 /// A game that is being played.
 ///
-/// A clause sees the game with its style, where its play stands, its state, and whether a failure
-/// of the console broke the session.
+/// A clause sees the game with its style, where its play stands, its state, whether a failure of
+/// the console broke the session, and how often each line was tried.
 #[derive(Drop)]
 pub struct Session<'a> {
     game: Game<'a>,
     position: Position,
     state: State,
     broken: bool,
+    // How often each action line was tried.
+    tally: Tally,
 }
 
 impl<'a> Model for Session<'a> {
@@ -42,8 +47,13 @@ impl<'a> Model for Session<'a> {
 
     ghost Value = { SessionView };
 
-    ghost view = { λ s.
-        record { game = s.game; position = s.position; state = s.state; broken = s.broken } };
+    ghost view = { λ s. record {
+      game = s.game;
+      position = s.position;
+      state = s.state;
+      broken = s.broken;
+      tried = s.tally;
+    } };
 
     ghost invariant = { λ s. Fits s.game.db s.state × CanStand s.game.db s.position };
 }
@@ -68,6 +78,7 @@ impl<'a> Session<'a> {
         ensures position { IfOk result (λ session. session.position ≡ Position.Fresh) }
         ensures state { IfOk result (λ session. session.state ≡ start db.now) }
         ensures whole { IfOk result (λ session. session.broken ≡ false) }
+        ensures tried { IfOk result (λ session. session.tried ≡ untried db.now) }
     {
         Session::at(alloc, db, style, State::start(db), Position::Fresh)
     }
@@ -90,13 +101,16 @@ impl<'a> Session<'a> {
         ensures position { IfOk result (λ session. session.position ≡ position) }
         ensures state { IfOk result (λ session. session.state ≡ state) }
         ensures whole { IfOk result (λ session. session.broken ≡ false) }
+        ensures tried { IfOk result (λ session. session.tried ≡ untried db.now) }
     {
         let game = Game::of(alloc, db, style)?;
+        let tally = Tally::of(alloc, db.actions().len())?;
         Ok(Session {
             game,
             position,
             state,
             broken: false,
+            tally,
         })
     }
 
@@ -116,6 +130,9 @@ impl<'a> Session<'a> {
             (goes self.old lines draws.old.left) self.new draws.old draws.new) }
         ensures goes_on { IfSome (C.seen console.old).left (λ lines. OnOk result
             (GoesOn self.old self.new lines draws.old.left (goes self.old lines draws.old.left))) }
+        ensures tried { IfSome (C.seen console.old).left (λ lines. OnOk result
+            (self.new.tried
+            ≡ tallied (goes self.old lines draws.old.left).events self.old.tried)) }
         ensures bounded { (C.seen console.new).bound ≤ (C.seen console.old).bound }
         ensures cause { HasCause (C.seen console.old).faults (C.seen console.new).faults result }
         ensures supplied { supplied draws.new ≡ supplied draws.old }
@@ -125,7 +142,15 @@ impl<'a> Session<'a> {
     {
         play_spends();
         play_splits();
-        match play_on(&self.game, &mut self.state, self.position, draws, console) {
+        let from = self.position;
+        match play_on(
+            &self.game,
+            &mut self.state,
+            &mut self.tally,
+            from,
+            draws,
+            console,
+        ) {
             Ok(position) => {
                 self.position = position;
                 Ok(ending_of(position))
@@ -155,6 +180,8 @@ impl<'a> Session<'a> {
         ensures leaves { IfOk result (λ ending.
             Leaves (goes self.old (given line.entry) draws.old.left)
             self.new draws.old draws.new ending) }
+        ensures tried { OnOk result (self.new.tried
+            ≡ tallied (goes self.old (given line.entry) draws.old.left).events self.old.tried) }
         ensures supplied { supplied draws.new ≡ supplied draws.old }
         ensures game { self.new.game ≡ self.old.game }
         ensures breaks { IsOk result ↔ IsFalse self.new.broken }
@@ -165,6 +192,7 @@ impl<'a> Session<'a> {
         match feed(
             &self.game,
             &mut self.state,
+            &mut self.tally,
             self.position,
             draws,
             line,
@@ -196,6 +224,16 @@ impl<'a> Session<'a> {
         ensures three { EndsWell self.now.position }
     {
         self.position
+    }
+
+    /// How often an action line was tried since the session was opened: each time that it was the
+    /// turn of the line, whether or not it passed. 18446744073709551615 stands for that and more. A
+    /// line that is all zeros does nothing, and isn't counted.
+    pub fn tried(&self, line: u16) -> u64
+        requires there { line < length self.now.game.db.actions }
+        ensures { result ≡ count_of self.now.tried line }
+    {
+        self.tally.get(usize::from(line))
     }
 
     /// Whether a failure of the console broke the session.

@@ -2,22 +2,51 @@
 ghost use Rattle.std.specs.Prelude.{◌≡◌, ◌+◌, ◌<◌, IfOk, OnOk, length};
 ghost use Rattle.adv_io.specs.Console.{Speaks};
 ghost use Rattle.scott_types.specs.State.{Fits};
-ghost use Rattle.scott_rules.specs.Actions.{try_action};
+ghost use Rattle.std.specs.List.{list_all};
+ghost use Rattle.scott_types.specs.Action.{is_zero, is_zero_action};
+ghost use Rattle.scott_types.specs.Database.{action_at};
+ghost use Rattle.scott_rules.specs.Actions.{note_of, try_action};
 ghost use Rattle.scott_rules.specs.Groups.{over_of, tail_action, tail_tried, passed_or_over, group_tried};
 ghost use Rattle.adv_io.specs.Steps.{shown_of};
 ghost use Rattle.scott_turn.specs.Heads.{tail_from, group_at};
+ghost use Rattle.scott_turn.specs.Tried.{tallied};
 
 use crate::games::Game;
 use crate::heads::tail_goes_on;
+use adv_counts::Tally;
 use adv_io::{Console, ConsoleFault};
 use scott_actions::perform;
-use scott_types::{Ran, State};
+use scott_types::{Action, Ran, State};
+
+fn are_zeros(numbers: &[u32]) -> bool
+    ensures { result ≡ list_all is_zero numbers.now }
+{
+    numbers.iter().all(|number| *number == 0)
+}
+
+// Whether the eight numbers of a line are zeros.
+fn is_zero_action(action: &Action) -> bool
+    ensures { result ≡ is_zero_action action.now }
+{
+    action.vocab == 0 && are_zeros(&action.conds) && are_zeros(&action.pairs)
+}
+
+// Counts a line that is tried, unless it is all zeros.
+fn note(game: &Game, tally: &mut Tally, line: u16)
+    requires { line < length game.now.db.actions }
+    ensures { tally.new ≡ tallied (note_of (action_at game.now.db line) line) tally.old }
+{
+    if !is_zero_action(&game.db().actions()[line as usize]) {
+        tally.count(line as usize);
+    }
+}
 
 // Tries an action line.
 #[tactic(auto, using(crate::proofs::Showing::shown_action))]
 fn try_action<C: Console>(
     game: &Game,
     state: &mut State,
+    tally: &mut Tally,
     line: u16,
     noun: &[u8],
     console: &mut C,
@@ -26,12 +55,15 @@ fn try_action<C: Console>(
     requires there { line < length game.now.db.actions }
     ensures spoken { Speaks (C.seen console.old) (C.seen console.new) result
         (shown_of (try_action game.now noun.now line state.old).events) }
+    ensures tried { OnOk result
+        (tally.new ≡ tallied (try_action game.now noun.now line state.old).events tally.old) }
     ensures state { OnOk result (state.new
         ≡ (try_action game.now noun.now line state.old).value.state) }
     ensures ran { IfOk result
         (λ ran. ran ≡ (try_action game.now noun.now line state.old).value.ran) }
     ensures fits { Fits game.now.db state.new }
 {
+    note(game, tally, line);
     perform(game.db(), game.style(), state, line, noun, console)
 }
 
@@ -49,6 +81,7 @@ fn over_of(ran: Ran) -> Option<u8>
 fn try_tail_action<C: Console>(
     game: &Game,
     state: &mut State,
+    tally: &mut Tally,
     line: u16,
     noun: &[u8],
     console: &mut C,
@@ -57,13 +90,15 @@ fn try_tail_action<C: Console>(
     requires there { line < length game.now.db.actions }
     ensures spoken { Speaks (C.seen console.old) (C.seen console.new) result
         (shown_of (tail_action game.now noun.now line state.old).events) }
+    ensures tried { OnOk result
+        (tally.new ≡ tallied (tail_action game.now noun.now line state.old).events tally.old) }
     ensures state { OnOk result (state.new
         ≡ (tail_action game.now noun.now line state.old).value.state) }
     ensures over { IfOk result
         (λ over. over ≡ (tail_action game.now noun.now line state.old).value.over) }
     ensures fits { Fits game.now.db state.new }
 {
-    let ran = try_action(game, state, line, noun, console)?;
+    let ran = try_action(game, state, tally, line, noun, console)?;
     Ok(over_of(ran))
 }
 
@@ -71,6 +106,7 @@ fn try_tail_action<C: Console>(
 fn try_tail<C: Console>(
     game: &Game,
     state: &mut State,
+    tally: &mut Tally,
     from: u16,
     noun: &[u8],
     console: &mut C,
@@ -78,6 +114,10 @@ fn try_tail<C: Console>(
     requires { Fits game.now.db state.old }
     ensures spoken { Speaks (C.seen console.old) (C.seen console.new) result
         (shown_of (tail_tried game.now noun.now (tail_from game.now.db from) state.old).events) }
+    ensures tried { OnOk result
+        (tally.new
+        ≡ tallied (tail_tried game.now noun.now (tail_from game.now.db from) state.old).events
+        tally.old) }
     ensures state { OnOk result
         (state.new
         ≡ (tail_tried game.now noun.now (tail_from game.now.db from) state.old).value.state) }
@@ -89,7 +129,7 @@ fn try_tail<C: Console>(
     let _lines = game.db().actions();
     let mut line = from;
     while tail_goes_on(game.db(), line) {
-        let over = try_tail_action(game, state, line, noun, console)?;
+        let over = try_tail_action(game, state, tally, line, noun, console)?;
         if over.is_some() {
             return Ok(over);
         }
@@ -116,6 +156,7 @@ fn with_tail(over: Option<u8>) -> Ran
 pub fn try_group<C: Console>(
     game: &Game,
     state: &mut State,
+    tally: &mut Tally,
     head: u16,
     noun: &[u8],
     console: &mut C,
@@ -124,6 +165,10 @@ pub fn try_group<C: Console>(
     requires there { head < length game.now.db.actions }
     ensures spoken { Speaks (C.seen console.old) (C.seen console.new) result
         (shown_of (group_tried game.now noun.now (group_at game.now.db head) state.old).events) }
+    ensures tried { OnOk result
+        (tally.new
+        ≡ tallied (group_tried game.now noun.now (group_at game.now.db head) state.old).events
+        tally.old) }
     ensures state { OnOk result (state.new
         ≡ (group_tried game.now noun.now (group_at game.now.db head) state.old).value.state) }
     ensures ran { IfOk result
@@ -132,8 +177,8 @@ pub fn try_group<C: Console>(
     ensures fits { Fits game.now.db state.new }
 {
     let _lines = game.db().actions();
-    match try_action(game, state, head, noun, console) {
-        Ok(Ran::Passed(true)) => match try_tail(game, state, head + 1, noun, console) {
+    match try_action(game, state, tally, head, noun, console) {
+        Ok(Ran::Passed(true)) => match try_tail(game, state, tally, head + 1, noun, console) {
             Ok(over) => Ok(with_tail(over)),
             Err(fault) => Err(fault),
         },

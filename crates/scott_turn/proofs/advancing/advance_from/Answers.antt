@@ -3,6 +3,7 @@ use Rattle.scott_rules.specs.Groups.{groups_from, automatic}
 use Rattle.scott_rules.specs.Rounds.{prompted}
 use Rattle.adv_io.proofs.Along.{steps_then, steps_stop}
 use Rattle.scott_turn.proofs.Prompts.{prompted-as_rules, prompted-left}
+use Rattle.scott_turn.proofs.Tallying.{tallied-only, prompted-none}
 use Rattle.scott_turn.proofs.advancing.advance_from.Goals as goal
 
 pub automatic-requires : goal.automatic-requires
@@ -18,6 +19,7 @@ returns g c =
     record {
       spoken = steps_then t.events (prompted t.value.halt game t.value.state t.value.draws).events c.in_ok-halt.ensures.spoken
           (rw (prompted-as_rules game t.value c.automatic.new.state c.automatic.new.draws.left c.in_ok-halt.halt c.in_ok-halt.ensures.left) c.go_to_prompt.ensures.spoken);
+      tried = tallied-only c.go_to_prompt.result t.events (prompted t.value.halt game t.value.state t.value.draws).events c.args.tally.now (prompted-none t.value.halt game t.value.state t.value.draws) c.in_ok-halt.ensures.tried;
       left = IfOk-weaker c.go_to_prompt.result _ _ (λ position left. prompted-left game t.value c.automatic.new.state c.automatic.new.draws.left c.in_ok-halt.halt c.in_ok-halt.ensures.left position c.go_to_prompt.new.state left) c.go_to_prompt.ensures.left;
       taken = c.automatic.ensures.taken;
       fits = c.go_to_prompt.ensures.fits;
@@ -32,5 +34,6 @@ returns-in_err-halt g c =
       spoken = rw (p.1) (steps_stop p.0 t.events (prompted t.value.halt game t.value.state t.value.draws).events c.in_err-halt.ensures.spoken);
       left = rw (p.1) tt;
       taken = c.automatic.ensures.taken;
+      tried = rw (p.1) tt;
       fits = c.automatic.ensures.fits;
     }

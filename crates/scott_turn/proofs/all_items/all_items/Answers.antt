@@ -1,9 +1,10 @@
-use Rattle.std.proofs.Common.{◌∙◌, ◌+◌, ◌<◌, ◌≤◌, length, drop, refl, sym, ap}
+use Rattle.std.proofs.Common.{◌∙◌, ◌+◌, ◌<◌, ◌≤◌, [], length, drop, refl, sym, ap}
 use Rattle.std.proofs.lemmas.Result.{err_from_is_err_and}
 use Rattle.scott_rules.specs.Transfer.{all_items}
 use Rattle.scott_turn.specs.ItemTurns.{taken_before, is_taken_by}
 use Rattle.adv_io.proofs.Along.{as_ok, along_step, along_done, along_end, along_stop, along_value}
 use Rattle.scott_turn.proofs.Items.{turn_of, after_item_turn, all_items-on, all_items-end, all_items-none, all_items-prefix}
+use Rattle.scott_turn.proofs.Tallying.{tallied_on, tallied_end}
 use Rattle.scott_turn.proofs.all_items.all_items.Goals as goal
 
 pub do_item_turn-requires : goal.do_item_turn-requires
@@ -25,6 +26,7 @@ returns-in_err-item_turn g c =
           (all_items-prefix c.args.transfer game c.args.typed.now i c.loop-i.state there c.loop-i.any_taken)
           c.in_err-item_turn.ensures.spoken);
       left = rw (p.1) tt;
+      tried = rw (p.1) tt;
       fits = c.do_item_turn.ensures.fits;
     }
 
@@ -36,6 +38,8 @@ returns-then-ends_all g c =
     let last = all_items-end c.args.transfer game c.args.typed.now i c.loop-i.state there c.in_ok-item_turn.item_turn c.loop-i.any_taken c.do_item_turn.new.state c.in_ok-item_turn.ensures.left (sym c.if-ends_all.ensures) in
     record {
       spoken = along_end (turn_of c.args.transfer game c.args.typed.now i c.loop-i.state).events c.loop-i.invariant.along (ap (λ w. w.events) last) (as_ok _ c.in_ok-item_turn.ensures.spoken);
+      tried = tallied_end (turn_of c.args.transfer game c.args.typed.now i c.loop-i.state).events (taken_before c.loop-i.any_taken (all_items c.args.transfer game c.args.typed.now i (drop i game.db.items) c.loop-i.state)).events c.loop-i.tally
+          c.loop-i.invariant.tried (ap (λ w. w.events) last) c.in_ok-item_turn.ensures.tried;
       left = along_value c.loop-i.invariant.along ∙ ap (λ w. w.value) last ∙ rw c.over_in.ensures refl;
       fits = c.do_item_turn.ensures.fits;
     }
@@ -47,6 +51,13 @@ loop-i-preserved g c =
     let there : i < length game.db.items = rw (c.items-i-end.ensures.value, c.db.ensures) at c.loop-i-test.true in
     record {
       few = c.loop-i.invariant.few;
+      tried = rw c.is_taken_by-any_taken.ensures
+          (tallied_on (turn_of c.args.transfer game c.args.typed.now i c.loop-i.state).events
+          (taken_before (is_taken_by c.in_ok-item_turn.item_turn c.loop-i.any_taken) (all_items c.args.transfer game c.args.typed.now (i + 1) (drop (i + 1) game.db.items) c.do_item_turn.new.state)).events
+          (taken_before c.loop-i.any_taken (all_items c.args.transfer game c.args.typed.now i (drop i game.db.items) c.loop-i.state)).events c.loop-i.tally
+          c.loop-i.invariant.tried
+          (ap (λ w. w.events) (all_items-on c.args.transfer game c.args.typed.now i c.loop-i.state there c.in_ok-item_turn.item_turn c.loop-i.any_taken c.do_item_turn.new.state c.in_ok-item_turn.ensures.left (sym c.if-ends_all.ensures)))
+          c.in_ok-item_turn.ensures.tried);
       fits = c.do_item_turn.ensures.fits;
       along = rw c.is_taken_by-any_taken.ensures
           (along_step (turn_of c.args.transfer game c.args.typed.now i c.loop-i.state).events
@@ -63,6 +74,8 @@ returns g c =
     let none = all_items-none c.args.transfer game c.args.typed.now i c.loop-i.state past c.loop-i.any_taken in
     record {
       spoken = along_done _ c.loop-i.invariant.along (ap (λ w. w.events) none);
+      tried = tallied_end [] (taken_before c.loop-i.any_taken (all_items c.args.transfer game c.args.typed.now i (drop i game.db.items) c.loop-i.state)).events c.loop-i.tally
+          c.loop-i.invariant.tried (ap (λ w. w.events) none) refl;
       left = along_value c.loop-i.invariant.along ∙ ap (λ w. w.value) none;
       fits = c.loop-i.invariant.fits;
     }

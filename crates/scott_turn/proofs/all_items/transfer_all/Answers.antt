@@ -1,6 +1,10 @@
 use Rattle.std.proofs.Common.{◌≡◌, ◌∙◌, true, false, refl, sym}
 use Rattle.std.proofs.lemmas.Result.{IfOk-weaker}
 use Rattle.scott_rules.specs.Transfer.{is_too_dark}
+use Rattle.scott_turn.proofs.Tallying.{tallied-none, noted-said}
+use Rattle.scott_types.specs.declared.phrases.Phrase.TheVariants.{DarkGet}
+use Rattle.scott_types.specs.Phrase.{text_of}
+use Rattle.adv_io.specs.Steps.{said_steps}
 use Rattle.scott_turn.proofs.all_items.transfer_all.Goals as goal
 
 pub returns-then-is_too_dark : goal.returns-then-is_too_dark
@@ -8,6 +12,7 @@ returns-then-is_too_dark g c =
     let dark : is_too_dark c.args.transfer c.args.state.now ≡ true = sym c.is_too_dark.ensures ∙ c.if-is_too_dark.true in
     record {
       spoken = rw dark (rw c.text.ensures at c.say_only.ensures.spoken);
+      tried = rw dark (tallied-none c.say_only.result (said_steps (text_of DarkGet)) c.args.tally.now (noted-said (text_of DarkGet)));
       left = rw dark (IfOk-weaker c.say_only.result _ _ (λ over is. rw is refl) c.say_only.ensures.over);
       fits = c.requires;
     }
@@ -17,6 +22,7 @@ returns-else-is_too_dark g c =
     let light : is_too_dark c.args.transfer c.args.state.now ≡ false = sym c.is_too_dark.ensures ∙ c.if-is_too_dark.false in
     record {
       spoken = rw light c.transfer_all_items.ensures.spoken;
+      tried = rw light c.transfer_all_items.ensures.tried;
       left = rw light c.transfer_all_items.ensures.left;
       fits = c.transfer_all_items.ensures.fits;
     }

@@ -4,6 +4,7 @@ use Rattle.std.specs.Prelude.{if◌then◌else◌}
 use Rattle.adv_io.specs.Steps.{said_steps}
 use Rattle.scott_rules.specs.Transfer.{none_taken, all_items}
 use Rattle.adv_io.proofs.Along.{as_ok, as_err, steps_then, steps_stop}
+use Rattle.scott_turn.proofs.Tallying.{tallied-quiet, noted-said}
 use Rattle.scott_turn.proofs.all_items.transfer_all_items.Goals as goal
 
 pub returns : goal.returns
@@ -13,6 +14,7 @@ returns g c =
     record {
       spoken = steps_then t.events (said_steps (if t.value.any_taken then [] else none_taken c.args.transfer)) c.in_ok-all_result.ensures.spoken
           (as_ok _ (rw (c.text_after.ensures, any_taken) at c.in_ok-say_text.ensures));
+      tried = tallied-quiet t.events (said_steps (if t.value.any_taken then [] else none_taken c.args.transfer)) c.args.tally.now (noted-said (if t.value.any_taken then [] else none_taken c.args.transfer)) c.in_ok-all_result.ensures.tried;
       left = rw c.in_ok-all_result.ensures.left refl;
       fits = c.all_items.ensures.fits;
     }
@@ -26,6 +28,7 @@ returns-in_err-say_text g c =
       spoken = rw (p.1) (steps_then t.events (said_steps (if t.value.any_taken then [] else none_taken c.args.transfer)) c.in_ok-all_result.ensures.spoken
           (as_err p.0 (rw (c.text_after.ensures, any_taken) at c.in_err-say_text.ensures)));
       left = rw (p.1) tt;
+      tried = rw (p.1) tt;
       fits = c.all_items.ensures.fits;
     }
 
@@ -36,5 +39,6 @@ returns-in_err-all_result g c =
     record {
       spoken = rw (p.1) (steps_stop p.0 t.events (said_steps (if t.value.any_taken then [] else none_taken c.args.transfer)) c.in_err-all_result.ensures.spoken);
       left = rw (p.1) tt;
+      tried = rw (p.1) tt;
       fits = c.all_items.ensures.fits;
     }

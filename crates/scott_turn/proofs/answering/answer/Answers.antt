@@ -6,6 +6,8 @@ use Rattle.scott_types.specs.Phrase.{text_of}
 use Rattle.scott_rules.specs.Commands.{heard, word_at}
 use Rattle.scott_rules.specs.Rounds.{unknown_word}
 use Rattle.scott_turn.proofs.Showing.{shown_said}
+use Rattle.scott_turn.proofs.Tallying.{tallied-none, noted-said}
+use Rattle.adv_io.specs.Steps.{said_steps}
 use Rattle.scott_turn.proofs.answering.answer.Goals as goal
 
 pub returns-in-Blank : goal.returns-in-Blank
@@ -13,6 +15,7 @@ returns-in-Blank g c =
     let blank : heard c.args.game.now.db c.args.line.now ≡ Blank = sym c.command.ensures.value ∙ c.in-Blank.is in
     record {
       spoken = rw (blank, shown_said (text_of Prompt)) c.ask_again.ensures.spoken;
+      tried = rw blank (tallied-none c.ask_again.result (said_steps (text_of Prompt)) c.args.tally.now (noted-said (text_of Prompt)));
       left = rw blank (IfOk-weaker c.ask_again.result _ _ (λ position at. rw at refl) c.ask_again.ensures.position);
       fits = c.requires;
     }
@@ -24,6 +27,7 @@ returns-in-Unknown g c =
     let unknown : heard c.args.game.now.db c.args.line.now ≡ Unknown start size = sym c.command.ensures.value ∙ c.in-Unknown.is in
     record {
       spoken = rw (unknown, shown_said (unknown_word (word_at c.args.line.now (start, size)) ++ text_of Prompt)) (rw c.word_at.ensures at c.refuse_word.ensures.spoken);
+      tried = rw unknown (tallied-none c.refuse_word.result (said_steps (unknown_word (word_at c.args.line.now (start, size)) ++ text_of Prompt)) c.args.tally.now (noted-said (unknown_word (word_at c.args.line.now (start, size)) ++ text_of Prompt)));
       left = rw unknown (IfOk-weaker c.refuse_word.result _ _ (λ position at. rw at refl) c.refuse_word.ensures.position);
       fits = c.requires;
     }

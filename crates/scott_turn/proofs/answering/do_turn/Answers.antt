@@ -2,6 +2,7 @@ use Rattle.std.proofs.lemmas.Result.{err_from_is_err_and}
 use Rattle.std.proofs.Common.{◌≡◌, sym, ap}
 use Rattle.scott_rules.specs.Rounds.{turn_ended, command_result}
 use Rattle.adv_io.proofs.Along.{steps_then, steps_stop}
+use Rattle.scott_turn.proofs.Tallying.{tallied-only, ended-none}
 use Rattle.scott_turn.proofs.answering.do_turn.Goals as goal
 
 pub returns : goal.returns
@@ -12,6 +13,7 @@ returns g c =
     record {
       spoken = steps_then t.events (turn_ended c.args.game.now.style t.value.over t.value.state).events c.in_ok-over.ensures.spoken
           (rw (state, over) at c.end_turn.ensures.spoken);
+      tried = tallied-only c.end_turn.result t.events (turn_ended c.args.game.now.style t.value.over t.value.state).events c.args.tally.now (ended-none c.args.game.now.style t.value.over t.value.state) c.in_ok-over.ensures.tried;
       left = rw (state, over) at c.end_turn.ensures.left;
       fits = c.end_turn.ensures.fits;
     }
@@ -23,5 +25,6 @@ returns-in_err-over g c =
     record {
       spoken = rw (p.1) (steps_stop p.0 t.events (turn_ended c.args.game.now.style t.value.over t.value.state).events c.in_err-over.ensures.spoken);
       left = rw (p.1) tt;
+      tried = rw (p.1) tt;
       fits = c.do_command.ensures.fits;
     }

@@ -1,7 +1,8 @@
 use Rattle.std.proofs.Common.{◌∙◌, refl, sym, ap}
 use Rattle.adv_draws.specs.Supply.{supplied}
 use Rattle.scott_turn.specs.Heads.{group_at}
-use Rattle.scott_turn.proofs.Entering.{turn_says, turn_state, turn_halt, turn_draws, turn_waits, waiting_says, one_taken}
+use Rattle.scott_turn.proofs.Entering.{turn_says, turn_tries, turn_state, turn_halt, turn_draws, turn_waits, waiting_says, one_taken}
+use Rattle.scott_turn.specs.Tried.{tallied}
 use Rattle.scott_turn.proofs.automatic.auto_turn.Goals as goal
 
 pub returns-in-Some : goal.returns-in-Some
@@ -15,6 +16,7 @@ returns-in-Some g c =
     let given = c.in-Some.ensures.given in
     record {
       spoken = turn_says game group s before.left now.left draw given c.enter.ensures.spoken;
+      tried = turn_tries game group s before.left now.left draw given c.enter.result c.args.tally.now c.enter.new.tally c.enter.ensures.tried;
       state = turn_state game group s before.left now.left draw given c.enter.result c.enter.new.state c.enter.ensures.state;
       halt = turn_halt game group s before.left now.left draw given c.enter.result c.enter.ensures.halt;
       draws = turn_draws game group s before.left now.left draw given;
@@ -32,6 +34,7 @@ returns-in-None g c =
     let waits = sym (turn_waits game group s draws none) in
     record {
       spoken = waiting_says game group s draws none (g.C.Console.seen c.args.console.now);
+      tried = ap (λ t. tallied t.events c.args.tally.now) waits;
       state = ap (λ t. t.value.state) waits;
       halt = ap (λ t. t.value.halt) waits;
       draws = ap (λ d. d.left) c.in-None.ensures.unchanged ∙ none ∙ ap (λ t. t.value.draws) waits;

@@ -1,4 +1,4 @@
-use Rattle.std.proofs.Common.{◌∙◌, ◌+◌, refl, sym, ap}
+use Rattle.std.proofs.Common.{◌∙◌, ◌+◌, [], length, refl, sym, ap}
 use Rattle.scott_types.specs.Action.{verb_of}
 use Rattle.scott_types.specs.Database.{action_at}
 use Rattle.std.proofs.lemmas.Result.{err_from_is_err_and}
@@ -9,6 +9,7 @@ use Rattle.scott_turn.specs.Turns.{auto_turn}
 use Rattle.adv_io.proofs.Along.{along_start, along_step, along_done, along_end, along_stop, along_value}
 use Rattle.scott_turn.proofs.Groups.{verb_of_head, vocab_of_head, comes_here, head_found, groups_for-found, groups_for-none, fewer_lines}
 use Rattle.scott_turn.proofs.Turning.{automatic-for, automatic-on, automatic-stop, automatic-prefix, after_halt}
+use Rattle.scott_turn.proofs.Tallying.{tallied_on, tallied_end}
 use Rattle.scott_turn.proofs.automatic.automatic.Goals as goal
 
 pub loop-next-init : goal.loop-next-init
@@ -18,6 +19,7 @@ loop-next-init g c =
       at_head = head_found game.db 0 c.args.from c.first_head-next.result c.first_head-next.ensures;
       fits = c.requires;
       taken = refl;
+      tried = rw (automatic-for game c.args.from c.args.state.now c.args.draws.now.left, groups_for-found game.db 0 c.args.from c.first_head-next.result c.first_head-next.ensures) refl;
       along = rw (automatic-for game c.args.from c.args.state.now c.args.draws.now.left, groups_for-found game.db 0 c.args.from c.first_head-next.result c.first_head-next.ensures) (along_start _ _);
     }
 
@@ -41,6 +43,7 @@ returns-in_err-halt g c =
           c.in_err-halt.ensures.spoken);
       left = rw (p.1) tt;
       taken = c.auto_turn.ensures.taken ∙ c.loop-next.invariant.taken;
+      tried = rw (p.1) tt;
       fits = c.auto_turn.ensures.fits;
     }
 
@@ -53,6 +56,8 @@ returns-then-not-goes_on g c =
     record {
       spoken = along_end (auto_turn game (group_at game.db head) c.loop-next.state c.loop-next.draws.left).events (rw c.in-Some.is at c.loop-next.invariant.along)
           (ap (λ w. w.events) stop) c.in_ok-halt.ensures.spoken;
+      tried = tallied_end (auto_turn game (group_at game.db head) c.loop-next.state c.loop-next.draws.left).events (automatic game (groups_for game.db 0 head) c.loop-next.state c.loop-next.draws.left).events c.loop-next.tally
+          (rw c.in-Some.is at c.loop-next.invariant.tried) (ap (λ w. w.events) stop) c.in_ok-halt.ensures.tried;
       left = along_value (rw c.in-Some.is at c.loop-next.invariant.along) ∙ ap (λ w. w.value) stop
           ∙ rw (c.in_ok-halt.ensures.state, c.in_ok-halt.ensures.draws, c.in_ok-halt.ensures.halt) refl;
       taken = c.auto_turn.ensures.taken ∙ c.loop-next.invariant.taken;
@@ -80,6 +85,13 @@ loop-next-preserved g c =
     let rest : IsFirst game.db 0 (head + 1) c.head_after-next.result = rw (verb_of_head 0 (action_at game.db head) comes.is_head) at c.head_after-next.ensures in
     record {
       at_head = head_found game.db 0 (head + 1) c.head_after-next.result rest;
+      tried = tallied_on t.events (automatic game (groups_for game.db 0 (line_of game.db c.head_after-next.result)) c.auto_turn.new.state c.auto_turn.new.draws.left).events
+          (automatic game (groups_for game.db 0 head) c.loop-next.state c.loop-next.draws.left).events c.loop-next.tally
+          (rw c.in-Some.is at c.loop-next.invariant.tried)
+          (ap (λ w. w.events) (automatic-on game head head c.loop-next.state c.loop-next.draws.left comes c.in_ok-halt.halt c.in_ok-halt.ensures.halt (sym c.if-not-goes_on.ensures)
+          c.auto_turn.new.state c.in_ok-halt.ensures.state c.auto_turn.new.draws.left c.in_ok-halt.ensures.draws
+          ∙ ap (λ gs. after t.events (automatic game gs c.auto_turn.new.state c.auto_turn.new.draws.left)) (groups_for-found game.db 0 (head + 1) c.head_after-next.result rest)))
+          c.in_ok-halt.ensures.tried;
       fits = c.auto_turn.ensures.fits;
       taken = c.auto_turn.ensures.taken ∙ c.loop-next.invariant.taken;
       along = along_step t.events (automatic game (groups_for game.db 0 (line_of game.db c.head_after-next.result)) c.auto_turn.new.state c.auto_turn.new.draws.left) (rw c.in-Some.is at c.loop-next.invariant.along)
@@ -97,6 +109,8 @@ returns g c =
     let none = ap (λ gs. automatic game gs c.loop-next.state c.loop-next.draws.left) (groups_for-none db 0) in
     record {
       spoken = along_done _ along (ap (λ w. w.events) none);
+      tried = tallied_end [] (automatic game (groups_for db 0 (length db.actions)) c.loop-next.state c.loop-next.draws.left).events c.loop-next.tally
+          (rw c.in_default.is at c.loop-next.invariant.tried) (ap (λ w. w.events) none) refl;
       left = along_value along ∙ ap (λ w. w.value) none;
       taken = c.loop-next.invariant.taken;
       fits = c.loop-next.invariant.fits;

@@ -4,6 +4,7 @@ use Rattle.scott_rules.specs.Groups.{groups}
 use Rattle.scott_rules.specs.Search.{search_result}
 use Rattle.scott_rules.specs.Rounds.{by_found}
 use Rattle.adv_io.proofs.Along.{steps_then, steps_stop}
+use Rattle.scott_turn.proofs.Tallying.{tallied_then}
 use Rattle.scott_turn.proofs.commands.do_by_actions.Goals as goal
 
 pub returns : goal.returns
@@ -17,6 +18,7 @@ returns g c =
     record {
       spoken = steps_then t.events (by_found t.value.found game c.args.typed.now verb noun t.value.state).events c.in_ok-found.ensures.spoken
           (rw (state, found) at c.finish_command.ensures.spoken);
+      tried = tallied_then c.finish_command.result t.events (by_found t.value.found game c.args.typed.now verb noun t.value.state).events c.args.tally.now c.finish_command.new.tally c.in_ok-found.ensures.tried (rw (state, found) at c.finish_command.ensures.tried);
       left = rw (state, found) at c.finish_command.ensures.left;
       fits = c.finish_command.ensures.fits;
     }
@@ -31,5 +33,6 @@ returns-in_err-found g c =
     record {
       spoken = rw (p.1) (steps_stop p.0 t.events (by_found t.value.found game c.args.typed.now verb noun t.value.state).events c.in_err-found.ensures.spoken);
       left = rw (p.1) tt;
+      tried = rw (p.1) tt;
       fits = c.search.ensures.fits;
     }

@@ -11,6 +11,7 @@ do_unmatched-requires-in-NoMatch g c = record { fits = c.requires.fits; there = 
 pub returns-in-Over : goal.returns-in-Over
 returns-in-Over g c = record {
   spoken = rw c.in-Over.is (nothing_said _ _);
+  tried = rw c.in-Over.is refl;
   left = rw c.in-Over.is refl;
   fits = c.requires.fits;
 }
@@ -18,6 +19,7 @@ returns-in-Over g c = record {
 pub returns-in-Done : goal.returns-in-Done
 returns-in-Done g c = record {
   spoken = rw c.in-Done.is (nothing_said _ _);
+  tried = rw c.in-Done.is refl;
   left = rw c.in-Done.is refl;
   fits = c.requires.fits;
 }
@@ -25,6 +27,7 @@ returns-in-Done g c = record {
 pub returns-in-Matched : goal.returns-in-Matched
 returns-in-Matched g c = record {
   spoken = rw c.in-Matched.is c.do_unmatched.ensures.spoken;
+  tried = rw c.in-Matched.is c.do_unmatched.ensures.tried;
   left = rw c.in-Matched.is c.do_unmatched.ensures.left;
   fits = c.do_unmatched.ensures.fits;
 }
@@ -32,6 +35,7 @@ returns-in-Matched g c = record {
 pub returns-in-NoMatch : goal.returns-in-NoMatch
 returns-in-NoMatch g c = record {
   spoken = rw c.in-NoMatch.is c.do_unmatched-in-NoMatch.ensures.spoken;
+  tried = rw c.in-NoMatch.is c.do_unmatched-in-NoMatch.ensures.tried;
   left = rw c.in-NoMatch.is c.do_unmatched-in-NoMatch.ensures.left;
   fits = c.do_unmatched-in-NoMatch.ensures.fits;
 }

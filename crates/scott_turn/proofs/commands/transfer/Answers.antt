@@ -1,5 +1,6 @@
 use Rattle.std.proofs.Common.{◌≡◌, ◌∙◌, true, false, sym}
-use Rattle.scott_rules.specs.Transfer.{is_all}
+use Rattle.scott_rules.specs.Transfer.{is_all, one_transferred}
+use Rattle.scott_turn.proofs.Tallying.{tallied-none, one-none}
 use Rattle.scott_turn.proofs.commands.transfer.Goals as goal
 
 pub returns-then-is_all : goal.returns-then-is_all
@@ -7,6 +8,7 @@ returns-then-is_all g c =
     let all : is_all c.args.typed.now ≡ true = sym c.is_all.ensures ∙ c.if-is_all.true in
     record {
       spoken = rw all c.transfer_all.ensures.spoken;
+      tried = rw all c.transfer_all.ensures.tried;
       left = rw all c.transfer_all.ensures.left;
       fits = c.transfer_all.ensures.fits;
     }
@@ -16,6 +18,7 @@ returns-else-is_all g c =
     let one : is_all c.args.typed.now ≡ false = sym c.is_all.ensures ∙ c.if-is_all.false in
     record {
       spoken = rw one c.transfer_one.ensures.spoken;
+      tried = rw one (tallied-none c.transfer_one.result (one_transferred c.args.transfer c.args.game.now c.args.noun c.args.state.now).events c.args.tally.now (one-none c.args.transfer c.args.game.now c.args.noun c.args.state.now));
       left = rw one c.transfer_one.ensures.left;
       fits = c.transfer_one.ensures.fits;
     }

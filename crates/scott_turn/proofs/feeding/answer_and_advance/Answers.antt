@@ -3,6 +3,7 @@ use Rattle.std.proofs.Common.{◌≡◌, refl, sym, ap}
 use Rattle.scott_rules.specs.Commands.{heard}
 use Rattle.scott_rules.specs.Rounds.{advance, by_heard}
 use Rattle.adv_io.proofs.Along.{steps_then, steps_stop}
+use Rattle.scott_turn.proofs.Tallying.{tallied_then}
 use Rattle.scott_turn.proofs.feeding.answer_and_advance.Goals as goal
 
 pub returns : goal.returns
@@ -14,6 +15,7 @@ returns g c =
     record {
       spoken = steps_then a.events (advance game a.value.position a.value.state c.args.draws.now.left).events c.in_ok-position.ensures.spoken
           (rw (state, position) at c.advance.ensures.spoken);
+      tried = tallied_then c.advance.result a.events (advance game a.value.position a.value.state c.args.draws.now.left).events c.args.tally.now c.advance.new.tally c.in_ok-position.ensures.tried (rw (state, position) at c.advance.ensures.tried);
       left = rw (state, position) at c.advance.ensures.left;
       fits = c.advance.ensures.fits;
       taken = c.advance.ensures.taken;
@@ -27,6 +29,7 @@ returns-in_err-position g c =
     record {
       spoken = rw (p.1) (steps_stop p.0 a.events (advance game a.value.position a.value.state c.args.draws.now.left).events c.in_err-position.ensures.spoken);
       left = rw (p.1) tt;
+      tried = rw (p.1) tt;
       fits = c.answer.ensures.fits;
       taken = refl;
     }

@@ -5,6 +5,9 @@ use Rattle.scott_turn.specs.Rounds.{is_prompt}
 use Rattle.scott_turn.specs.Fed.{after_line}
 use Rattle.adv_io.proofs.Along.{as_ok, steps_then, steps_stop}
 use Rattle.scott_turn.proofs.Said.{said-none, said-some, said-prefix, left-none, left-some}
+use Rattle.scott_turn.proofs.Tallying.{on_ok, tallied_then, tries-fed}
+use Rattle.scott_turn.proofs.Playing.{go-ends}
+use Rattle.scott_turn.specs.Tried.{tallied}
 use Rattle.scott_turn.proofs.feeding.feed.Goals as goal
 
 pub returns-in_err-reached-clause-spoken : goal.returns-in_err-reached-clause-spoken
@@ -18,6 +21,11 @@ pub returns-in-None-clause-spoken : goal.returns-in-None-clause-spoken
 returns-in-None-clause-spoken g c =
     rw (c.in-None.is, ← said-none c.play_spends.ensures c.args.game.now c.args.position c.args.state.now c.args.draws.now.left)
     (as_ok _ c.in_ok-reached.ensures.spoken)
+
+pub returns-in-None-clause-tried : goal.returns-in-None-clause-tried
+returns-in-None-clause-tried g c =
+    rw c.in-None.is (c.in_ok-reached.ensures.tried
+    ∙ ap (λ w. tallied w.events c.args.tally.now) (sym (go-ends c.args.game.now c.args.position c.args.state.now c.args.draws.now.left)))
 
 pub returns-in-None-clause-left : goal.returns-in-None-clause-left
 returns-in-None-clause-left g c =
@@ -35,6 +43,9 @@ returns-in-Some g c =
     record {
       spoken = rw (c.in-Some.is, ← said-some c.play_spends.ensures game c.args.position c.args.state.now c.args.draws.now.left line)
           (steps_then t.events fed.events c.in_ok-reached.ensures.spoken (rw (reached, state, draws) at c.feed_line.ensures.spoken));
+      tried = rw c.in-Some.is
+          (on_ok c.feed_line.result (λ t. t ∙ tries-fed game c.args.position c.args.state.now c.args.draws.now.left line c.args.tally.now)
+          (tallied_then c.feed_line.result t.events fed.events c.args.tally.now c.feed_line.new.tally c.in_ok-reached.ensures.tried (rw (reached, state, draws) at c.feed_line.ensures.tried)));
       left = rw c.in-Some.is
           (IfOk-weaker c.feed_line.result _ _
           (λ q e. left-some game c.args.position q c.args.state.now c.feed_line.new.state c.args.draws.now.left c.feed_line.new.draws.left line e)

@@ -8,6 +8,7 @@ returns-else-is_prompt g c =
     let dropped : is_prompt c.args.position ≡ false = sym c.is_prompt.ensures ∙ c.if-is_prompt.false in
     record {
       spoken = rw dropped (nothing_said _ _);
+      tried = rw dropped refl;
       left = rw dropped refl;
       taken = refl;
       fits = c.requires;

@@ -1,4 +1,4 @@
-use Rattle.std.proofs.Common.{◌≡◌, ◌∙◌, ◌<◌, length, refl, sym}
+use Rattle.std.proofs.Common.{◌∙◌, ◌<◌, length, refl, sym}
 use Rattle.scott_types.specs.Database.{action_at}
 use Rattle.scott_turn.proofs.Groups.{comes_first, groups_for-skip, groups_for-end}
 use Rattle.scott_turn.proofs.heads.next_head.Goals as goal

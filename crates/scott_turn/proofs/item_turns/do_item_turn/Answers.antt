@@ -17,6 +17,7 @@ returns-then-is_taken g c =
     let taken : is_taken c.args.transfer i (item_at game.db i) c.args.state.now ≡ true = sym (rw item at c.is_taken.ensures) ∙ c.if-is_taken.true in
     record {
       spoken = rw taken c.take_item.ensures.spoken;
+      tried = rw taken c.take_item.ensures.tried;
       left = rw taken c.take_item.ensures.left;
       fits = c.take_item.ensures.fits;
     }
@@ -30,6 +31,7 @@ returns-else-is_taken g c =
     let passed : is_taken c.args.transfer i (item_at game.db i) c.args.state.now ≡ false = sym (rw item at c.is_taken.ensures) ∙ c.if-is_taken.false in
     record {
       spoken = rw passed (nothing_said _ _);
+      tried = rw passed refl;
       left = rw passed refl;
       fits = c.requires.fits;
     }

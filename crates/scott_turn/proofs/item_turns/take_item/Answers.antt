@@ -3,6 +3,7 @@ use Rattle.scott_types.specs.Database.{item_at}
 use Rattle.std.proofs.Common.{◌≡◌, sym, ap}
 use Rattle.scott_turn.specs.ItemTurns.{item_actions, after_actions}
 use Rattle.adv_io.proofs.Along.{steps_then, steps_stop}
+use Rattle.scott_turn.proofs.Tallying.{tallied-only, after_actions-none}
 use Rattle.scott_turn.proofs.item_turns.take_item.Goals as goal
 
 pub returns : goal.returns
@@ -16,6 +17,7 @@ returns g c =
     record {
       spoken = steps_then lines.events (after_actions lines.value.over c.args.transfer game i item lines.value.state).events
           c.in_ok-over.ensures.spoken (rw (state, over) at c.finish_item.ensures.spoken);
+      tried = tallied-only c.finish_item.result lines.events (after_actions lines.value.over c.args.transfer game i item lines.value.state).events c.args.tally.now (after_actions-none lines.value.over c.args.transfer game i item lines.value.state) c.in_ok-over.ensures.tried;
       left = rw (state, over) at c.finish_item.ensures.left;
       fits = c.finish_item.ensures.fits;
     }

@@ -1,6 +1,8 @@
 use Rattle.std.proofs.Common.{◌≡◌, ◌<◌, arith}
 use Rattle.adv_io.proofs.Sayings.{cause_again, cause_fails, cause_then}
 use Rattle.scott_turn.proofs.Playing.{next_ends, next_answered, next_part, next_fails}
+use Rattle.scott_turn.proofs.Tallying.{next_tries_none, next_tries}
+use Rattle.scott_turn.proofs.SessionViews.{IfSome_always}
 use Rattle.scott_turn.proofs.rounds.answer_next.Goals as goal
 
 pub returns-in-Ok-End : goal.returns-in-Ok-End
@@ -10,6 +12,7 @@ returns-in-Ok-End g c =
     record {
       as_rules = next_ends (seen c.args.console.now) (seen c.take.new.self) ((seen c.args.console.now).left) c.args.game.now c.args.state.now c.take.new.line
           (rw c.in-Ok-End.field-0-is at c.in-Ok-End.ensures.lines) (rw c.in-Ok-End.field-0-is at c.in-Ok-End.ensures.taken);
+      tried = next_tries_none ((seen c.args.console.now).left) ((seen c.take.new.self).left) c.args.game.now c.args.state.now c.take.new.line c.args.tally.now (rw c.in-Ok-End.field-0-is at c.in-Ok-End.ensures.lines);
       falls = tt;
       bounded = omega arith;
       cause = cause_again _ c.in-Ok-End.ensures.cause;
@@ -24,6 +27,7 @@ returns-in-Ok g c =
     record {
       as_rules = next_answered (seen c.args.console.now) (seen c.take.new.self) (seen c.answer.new.console) ((seen c.args.console.now).left) c.args.game.now c.args.state.now c.answer.new.state c.take.new.line c.in-Ok.position
           (rw c.in-Ok-Got.field-0-is at c.in-Ok-Got.ensures.lines) (rw c.in-Ok-Got.field-0-is at c.in-Ok-Got.ensures.taken) c.in-Ok.ensures.spoken c.in-Ok.ensures.left;
+      tried = next_tries ((seen c.args.console.now).left) ((seen c.take.new.self).left) c.args.game.now c.args.state.now c.take.new.line c.args.tally.now c.answer.new.tally (rw c.in-Ok-Got.field-0-is at c.in-Ok-Got.ensures.lines) c.in-Ok.ensures.tried;
       falls = omega (arith, c.in-Ok.ensures.spoken.bounded);
       bounded = omega (arith, c.in-Ok.ensures.spoken.bounded);
       cause = cause_then c.in-Ok-Got.ensures.cause (cause_again _ c.in-Ok.ensures.spoken.cause);
@@ -39,6 +43,7 @@ returns-in-Err-answer g c =
     record {
       as_rules = next_part (seen c.args.console.now) (seen c.take.new.self) (seen c.answer.new.console) ((seen c.args.console.now).left) c.args.game.now c.args.state.now c.answer.new.state c.take.new.line c.in-Err-answer.fault
           (rw c.in-Ok-Got.field-0-is at c.in-Ok-Got.ensures.lines) (rw c.in-Ok-Got.field-0-is at c.in-Ok-Got.ensures.taken) c.in-Err-answer.ensures.spoken;
+      tried = IfSome_always ((seen c.args.console.now).left) tt;
       falls = tt;
       bounded = omega (arith, c.in-Err-answer.ensures.spoken.bounded);
       cause = cause_then c.in-Ok-Got.ensures.cause (cause_fails _ c.in-Err-answer.ensures.spoken.cause);
@@ -51,6 +56,7 @@ returns-in-Err g c =
     let seen = g.C.Console.seen in
     record {
       as_rules = next_fails (seen c.args.console.now) (seen c.take.new.self) ((seen c.args.console.now).left) c.args.game.now c.args.state.now c.in-Err.fault c.in-Err.ensures.taken;
+      tried = IfSome_always ((seen c.args.console.now).left) tt;
       falls = tt;
       bounded = c.in-Err.ensures.bounded;
       cause = cause_fails _ c.in-Err.ensures.cause;

@@ -3,6 +3,8 @@ use Rattle.std.proofs.lemmas.Result.{err_from_is_err_and}
 use Rattle.adv_io.proofs.Sayings.{cause_again, cause_fails}
 use Rattle.scott_rules.specs.Play.{go}
 use Rattle.scott_turn.proofs.Playing.{ahead_start, ahead_step, ahead_end, ahead_fail}
+use Rattle.scott_turn.proofs.Tallying.{tries_start, tries_step, tries_last}
+use Rattle.scott_turn.proofs.SessionViews.{IfSome_always}
 use Rattle.scott_turn.proofs.rounds.play_on.Goals as goal
 
 pub returns-in_err-round : goal.returns-in_err-round
@@ -14,6 +16,7 @@ returns-in_err-round g c =
           (ahead_fail (seen c.args.console.now) (seen c.loop-round.console) (seen c.go_round.new.console)
           (λ lines. go c.args.game.now c.args.position c.args.state.now lines c.args.draws.now.left) c.args.game.now c.loop-round.position c.loop-round.state c.loop-round.draws.left
           ((seen c.args.console.now).left) c.in_err-round.field-0.0 p.0 c.go_round.new.state c.go_round.new.draws.left c.loop-round.invariant.ahead c.in_err-round.ensures.as_rules);
+      tried = rw (p.1) (IfSome_always ((seen c.args.console.now).left) tt);
       bounded = omega (arith, c.loop-round.invariant.bounded, c.go_round.ensures.bounded);
       cause = rw (p.1) (cause_fails p.0 (rw c.loop-round.invariant.steady at c.in_err-round.ensures.cause));
       taken = c.go_round.ensures.taken ∙ c.loop-round.invariant.taken;
@@ -28,6 +31,9 @@ returns-then-round g c =
       as_rules = ahead_end (seen c.args.console.now) (seen c.loop-round.console) (seen c.go_round.new.console)
           (λ lines. go c.args.game.now c.args.position c.args.state.now lines c.args.draws.now.left) c.args.game.now c.loop-round.position c.loop-round.state c.loop-round.draws.left
           ((seen c.args.console.now).left) c.in_ok-round.round c.go_round.new.state c.go_round.new.draws.left c.if-round.true c.loop-round.invariant.ahead c.in_ok-round.ensures.as_rules;
+      tried = tries_last (seen c.args.console.now) (seen c.loop-round.console) (seen c.go_round.new.console)
+          (λ lines. go c.args.game.now c.args.position c.args.state.now lines c.args.draws.now.left) c.args.game.now c.loop-round.position c.loop-round.state c.loop-round.draws.left
+          c.args.tally.now c.loop-round.tally c.go_round.new.tally c.in_ok-round.round c.go_round.new.state c.go_round.new.draws.left ((seen c.args.console.now).left) c.if-round.true c.loop-round.invariant.ahead c.loop-round.invariant.tried c.in_ok-round.ensures.tried c.in_ok-round.ensures.as_rules;
       bounded = omega (arith, c.loop-round.invariant.bounded, c.go_round.ensures.bounded);
       cause = cause_again _ (rw c.loop-round.invariant.steady at c.in_ok-round.ensures.cause);
       taken = c.go_round.ensures.taken ∙ c.loop-round.invariant.taken;
@@ -42,6 +48,9 @@ loop-round-preserved g c =
       fits = c.go_round.ensures.fits;
       ends = c.in_ok-round.ensures.ends;
       taken = c.go_round.ensures.taken ∙ c.loop-round.invariant.taken;
+      tried = tries_step (seen c.args.console.now) (seen c.loop-round.console) (seen c.go_round.new.console)
+          (λ lines. go c.args.game.now c.args.position c.args.state.now lines c.args.draws.now.left) c.args.game.now c.loop-round.position c.loop-round.state c.loop-round.draws.left
+          c.args.tally.now c.loop-round.tally c.go_round.new.tally c.in_ok-round.round c.go_round.new.state c.go_round.new.draws.left ((seen c.args.console.now).left) c.if-round.false c.loop-round.invariant.ahead c.loop-round.invariant.tried c.in_ok-round.ensures.tried;
       bounded = omega (arith, c.loop-round.invariant.bounded, c.go_round.ensures.bounded);
       steady = c.in_ok-round.ensures.cause.steady ∙ c.loop-round.invariant.steady;
       ahead = ahead_step (seen c.args.console.now) (seen c.loop-round.console) (seen c.go_round.new.console)
@@ -56,6 +65,7 @@ loop-round-init g c =
       fits = c.requires.fits;
       ends = c.requires.ends;
       taken = refl;
+      tried = tries_start ((seen c.args.console.now).left) (λ lines. go c.args.game.now c.args.position c.args.state.now lines c.args.draws.now.left) c.args.tally.now;
       bounded = omega arith;
       steady = refl;
       ahead = ahead_start (seen c.args.console.now) ((seen c.args.console.now).left) c.args.game.now c.args.position c.args.state.now c.args.draws.now.left refl;

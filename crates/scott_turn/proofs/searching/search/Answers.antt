@@ -1,4 +1,4 @@
-use Rattle.std.proofs.Common.{◌∙◌, ◌+◌, length, refl, sym, ap}
+use Rattle.std.proofs.Common.{◌∙◌, ◌+◌, [], length, refl, sym, ap}
 use Rattle.scott_types.specs.Action.{verb_of}
 use Rattle.scott_types.specs.Database.{action_at}
 use Rattle.std.proofs.lemmas.Result.{err_from_is_err_and}
@@ -9,6 +9,7 @@ use Rattle.scott_turn.specs.Turns.{search_turn, at_least, with_before}
 use Rattle.adv_io.proofs.Along.{along_start, along_step, along_done, along_end, along_stop, along_value}
 use Rattle.scott_turn.proofs.Groups.{verb_of_head, vocab_of_head, comes_here, head_found, groups_for-found, groups_for-none, fewer_lines}
 use Rattle.scott_turn.proofs.Turning.{search_result-for, search_result-on, search_result-end, search_result-none, search_result-prefix, at_least-begun, after_turn, noun_at}
+use Rattle.scott_turn.proofs.Tallying.{tallied_on, tallied_end}
 use Rattle.scott_turn.proofs.searching.search.Goals as goal
 
 pub loop-next-init : goal.loop-next-init
@@ -19,6 +20,7 @@ loop-next-init g c =
       at_head = head_found game.db verb 0 c.first_head-next.result c.first_head-next.ensures;
       fits = c.requires;
       begun = refl;
+      tried = rw (search_result-for game c.args.typed.now verb c.args.command.noun c.args.state.now, groups_for-found game.db verb 0 c.first_head-next.result c.first_head-next.ensures) refl;
       along = rw (search_result-for game c.args.typed.now verb c.args.command.noun c.args.state.now, groups_for-found game.db verb 0 c.first_head-next.result c.first_head-next.ensures) (along_start _ _);
     }
 
@@ -47,6 +49,19 @@ returns-then-ends_search-clause-spoken g c =
     along_end (search_turn (is_for_noun (noun_at game head) noun) game c.args.typed.now (group_at game.db head) c.loop-next.state).events (rw c.in-Some.is at c.loop-next.invariant.along)
     (ap (λ w. w.events) (search_result-end game c.args.typed.now verb noun head head c.loop-next.state comes c.in_ok-found.found c.loop-next.before c.in_ok-found.ensures.found (sym c.if-ends_search.ensures)))
     c.in_ok-found.ensures.spoken
+
+pub returns-then-ends_search-clause-tried : goal.returns-then-ends_search-clause-tried
+returns-then-ends_search-clause-tried g c =
+    let game = c.args.game.now in
+    let verb = c.args.command.verb in
+    let noun = c.args.command.noun in
+    let head = c.in-Some.head in
+    let comes = comes_here game.db verb head (rw c.in-Some.is at c.loop-next.invariant.at_head) in
+    tallied_end (search_turn (is_for_noun (noun_at game head) noun) game c.args.typed.now (group_at game.db head) c.loop-next.state).events
+    (with_before c.loop-next.before (search_result game c.args.typed.now verb noun (groups_for game.db verb head) c.loop-next.state)).events c.loop-next.tally
+    (rw c.in-Some.is at c.loop-next.invariant.tried)
+    (ap (λ w. w.events) (search_result-end game c.args.typed.now verb noun head head c.loop-next.state comes c.in_ok-found.found c.loop-next.before c.in_ok-found.ensures.found (sym c.if-ends_search.ensures)))
+    c.in_ok-found.ensures.tried
 
 pub returns-then-ends_search-clause-left : goal.returns-then-ends_search-clause-left
 returns-then-ends_search-clause-left g c =
@@ -92,6 +107,14 @@ loop-next-preserved g c =
     record {
       at_head = head_found game.db verb (head + 1) c.head_after-next.result rest;
       fits = c.search_turn.ensures.fits;
+      tried = rw c.at_least-before.ensures
+          (tallied_on t.events (with_before (at_least found before) (search_result game typed verb noun (groups_for game.db verb (line_of game.db c.head_after-next.result)) c.search_turn.new.state)).events
+          (with_before before (search_result game typed verb noun (groups_for game.db verb head) c.loop-next.state)).events c.loop-next.tally
+          (rw c.in-Some.is at c.loop-next.invariant.tried)
+          (ap (λ w. w.events) (search_result-on game typed verb noun head head c.loop-next.state comes found before c.in_ok-found.ensures.found (sym c.if-ends_search.ensures) c.loop-next.invariant.begun
+          c.search_turn.new.state c.in_ok-found.ensures.state
+          ∙ ap (λ gs. after t.events (with_before (at_least found before) (search_result game typed verb noun gs c.search_turn.new.state))) (groups_for-found game.db verb (head + 1) c.head_after-next.result rest)))
+          c.in_ok-found.ensures.tried);
       begun = rw c.at_least-before.ensures (at_least-begun found before (sym c.if-ends_search.ensures) c.loop-next.invariant.begun);
       along = rw c.at_least-before.ensures
           (along_step t.events (with_before (at_least found before) (search_result game typed verb noun (groups_for game.db verb (line_of game.db c.head_after-next.result)) c.search_turn.new.state)) (rw c.in-Some.is at c.loop-next.invariant.along)
@@ -109,6 +132,8 @@ returns g c =
     let none = search_result-none game c.args.typed.now verb c.args.command.noun (length game.db.actions) c.loop-next.state c.loop-next.before (groups_for-none game.db verb) c.loop-next.invariant.begun in
     record {
       spoken = along_done _ along (ap (λ w. w.events) none);
+      tried = tallied_end [] (with_before c.loop-next.before (search_result game c.args.typed.now verb c.args.command.noun (groups_for game.db verb (length game.db.actions)) c.loop-next.state)).events c.loop-next.tally
+          (rw c.in_default.is at c.loop-next.invariant.tried) (ap (λ w. w.events) none) refl;
       left = along_value along ∙ ap (λ w. w.value) none;
       fits = c.loop-next.invariant.fits;
     }

@@ -13,6 +13,7 @@ returns-in_ok-ran g c =
     let meant : is_for_noun (noun_of (action_at c.args.game.now.db c.args.head).vocab) c.args.noun ≡ true = sym (rw c.db.ensures at c.is_meant.ensures) ∙ c.if-is_meant.true in
     record {
       spoken = rw meant (as_ok _ c.in_ok-ran.ensures.spoken);
+      tried = rw meant c.in_ok-ran.ensures.tried;
       state = rw meant c.in_ok-ran.ensures.state;
       found = rw meant (c.found_of.ensures ∙ ap found_of c.in_ok-ran.ensures.ran);
       fits = c.try_group.ensures.fits;
@@ -26,6 +27,7 @@ returns-in_err-ran g c =
       spoken = rw (p.1, meant) (as_err p.0 c.in_err-ran.ensures.spoken);
       state = rw (p.1) tt;
       found = rw (p.1) tt;
+      tried = rw (p.1) tt;
       fits = c.try_group.ensures.fits;
     }
 
@@ -34,6 +36,7 @@ returns-else-is_meant g c =
     let other : is_for_noun (noun_of (action_at c.args.game.now.db c.args.head).vocab) c.args.noun ≡ false = sym (rw c.db.ensures at c.is_meant.ensures) ∙ c.if-is_meant.false in
     record {
       spoken = rw other (nothing_said _ _);
+      tried = rw other refl;
       state = rw other refl;
       found = rw other refl;
       fits = c.requires.fits;

@@ -7,6 +7,7 @@ use Rattle.scott_turn.proofs.trying.try_tail_action.Goals as goal
 pub returns : goal.returns
 returns g c = record {
   spoken = as_ok _ c.in_ok-ran.ensures.spoken;
+  tried = c.in_ok-ran.ensures.tried;
   state = c.in_ok-ran.ensures.state;
   over = c.over_of.ensures ∙ ap over_of c.in_ok-ran.ensures.ran;
   fits = c.try_action.ensures.fits;
@@ -19,5 +20,6 @@ returns-in_err-ran g c =
       spoken = rw (p.1) (as_err p.0 c.in_err-ran.ensures.spoken);
       state = rw (p.1) tt;
       over = rw (p.1) tt;
+      tried = rw (p.1) tt;
       fits = c.try_action.ensures.fits;
     }

@@ -13,8 +13,9 @@ returns-in-Ok g c =
     record {
       spoken = rw (← c.self.view_is) (as_ok _ c.in-Ok.ensures.spoken);
       leaves = rw (← c.self.view_is)
-          (leaves_ok (seen c.args.console.now) (seen c.feed.new.console) s.game s.position s.state c.args.draws.now c.feed.new.draws c.feed.new.state
+          (leaves_ok (seen c.args.console.now) (seen c.feed.new.console) s.game s.position s.state c.args.draws.now c.feed.new.draws c.feed.new.state s.tally c.feed.new.tally
           lines c.in-Ok.position c.ending_of.result s.broken c.play_spends.ensures c.feed.ensures.taken c.ending_of.ensures c.in-Ok.ensures.left);
+      tried = rw (← c.self.view_is) c.in-Ok.ensures.tried;
       supplied = c.feed.ensures.taken;
       game = rw (← c.self.view_is) refl;
       breaks = (λ _. rw (← c.self.view_is) at c.requires, λ _. refl);
@@ -29,6 +30,7 @@ pub returns-in-Err : goal.returns-in-Err
 returns-in-Err g c = record {
   spoken = rw (← c.self.view_is) (as_err _ c.in-Err.ensures.spoken);
   leaves = tt;
+  tried = tt;
   supplied = c.feed.ensures.taken;
   game = rw (← c.self.view_is) refl;
   breaks = search rules;

@@ -13,13 +13,14 @@ returns-in-Ok g c =
     let as_rules : IfSome (seen c.args.console.now).left (λ lines. PlaysOut (seen c.args.console.now) (seen c.play_on.new.console) (Ok c.in-Ok.position) (go s.game s.position s.state lines c.args.draws.now.left) c.play_on.new.state c.play_on.new.draws.left) = c.in-Ok.ensures.as_rules in
     record {
       plays = rw (← c.self.view_is)
-          (plays_ok (seen c.args.console.now) (seen c.play_on.new.console) s.game s.position s.state c.args.draws.now c.play_on.new.draws c.play_on.new.state
+          (plays_ok (seen c.args.console.now) (seen c.play_on.new.console) s.game s.position s.state c.args.draws.now c.play_on.new.draws c.play_on.new.state s.tally c.play_on.new.tally
           ((seen c.args.console.now).left) c.in-Ok.position c.ending_of.result s.broken c.play_spends.ensures c.in-Ok.ensures.taken c.ending_of.ensures as_rules);
       goes_on = rw (← c.self.view_is)
-          (goes_on_ok (seen c.args.console.now) (seen c.play_on.new.console) s.game s.position s.state c.args.draws.now c.play_on.new.draws c.play_on.new.state
+          (goes_on_ok (seen c.args.console.now) (seen c.play_on.new.console) s.game s.position s.state c.args.draws.now c.play_on.new.draws c.play_on.new.state s.tally c.play_on.new.tally
           ((seen c.args.console.now).left) c.in-Ok.position c.ending_of.result s.broken s.broken c.play_splits.ensures as_rules);
       bounded = c.play_on.ensures.bounded;
       cause = cause_again _ c.in-Ok.ensures.cause;
+      tried = rw (← c.self.view_is) c.in-Ok.ensures.tried;
       supplied = c.play_on.ensures.taken;
       game = rw (← c.self.view_is) refl;
       breaks = (λ _. rw (← c.self.view_is) at c.requires, λ _. refl);
@@ -34,11 +35,12 @@ returns-in-Err g c =
     let s = c.self.inside in
     record {
       plays = rw (← c.self.view_is)
-          (plays_err (seen c.args.console.now) (seen c.play_on.new.console) s.game s.position s.state c.args.draws.now c.play_on.new.draws c.play_on.new.state
+          (plays_err (seen c.args.console.now) (seen c.play_on.new.console) s.game s.position s.state c.args.draws.now c.play_on.new.draws c.play_on.new.state s.tally c.play_on.new.tally
           ((seen c.args.console.now).left) s.position true c.in-Err.fault c.in-Err.fault c.in-Err.ensures.as_rules);
       goes_on = IfSome_always ((seen c.args.console.now).left) tt;
       bounded = c.play_on.ensures.bounded;
       cause = cause_fails _ c.in-Err.ensures.cause;
+      tried = IfSome_always ((seen c.args.console.now).left) tt;
       supplied = c.play_on.ensures.taken;
       game = rw (← c.self.view_is) refl;
       breaks = search rules;

@@ -1,0 +1,3 @@
+-- Counts, and their laws.
+pub mod Counts
+pub mod Laws

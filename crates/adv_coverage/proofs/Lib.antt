@@ -1,0 +1,4 @@
+mod Pieces
+pub mod Known
+pub mod LineByLine
+mod Opening

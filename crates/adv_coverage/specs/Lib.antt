@@ -1,0 +1,4 @@
+-- What was reached.
+pub mod Report
+pub mod Calls
+pub mod Lines

@@ -1,0 +1,6 @@
+pub mod Settling
+pub mod ByMoves
+pub mod Aside
+pub mod Waiting
+pub mod Joining
+pub mod Entering
