@@ -3,3 +3,4 @@ pub mod Seating
 pub mod Playing
 pub mod GoingOn
 pub mod Addresses
+pub mod Numbers

@@ -4,7 +4,9 @@ use Rattle.std.proofs.lemmas.List.{append-nil}
 use Rattle.std.proofs.lemmas.List.Elements.{filter_map-append}
 use Rattle.adv_draws.specs.Seeded.{seeded_draws}
 use Rattle.adv_io.specs.History.{transcript, byte_said, draws_taken, draw_taken}
-use Rattle.adv_io.specs.Steps.{Step, Took, Traced, after, trace_of, event_of}
+use Rattle.adv_counts.specs.Counts.{counted}
+use Rattle.adv_counts.proofs.Counting.{counts_add}
+use Rattle.adv_io.specs.Steps.{Step, Took, Traced, after, trace_of, event_of, noted_of, noted}
 use Rattle.scott_types.specs.declared.states.State.{State}
 use Rattle.scott_types.specs.declared.endings.Position.{Position}
 use Rattle.scott_types.specs.declared.endings.Position.TheVariants.{Fresh, Draw, Line, Over}
@@ -15,6 +17,7 @@ use Rattle.scott_rules.specs.Rounds.{RoundEnd, advance, answer, by_heard}
 use Rattle.scott_rules.specs.Commands.{heard}
 use Rattle.scott_rules.specs.Play.{PlayEnd, with_line, go, play}
 use Rattle.scott_rules.specs.Laws.{PlaySplits}
+use Rattle.scott_turn.specs.Tried.{tallied, untried}
 use Rattle.adv_hall.specs.declared.halls.Seat.{Seat}
 use Rattle.adv_hall.specs.Laws.{EachHearsAlone}
 
@@ -174,26 +177,38 @@ drawn-append es fs =
     ∙ length-append (draws_taken (trace_of es)) (draws_taken (trace_of fs))
 
 -- a seat in the plain style that isn't broken
-abbrev seat_at : Database → Position → State → List ℕ → ℕ → Seat
-seat_at db position s left taken = record {
-  session = record { game = plain db; position = position; state = s; broken = false };
+abbrev seat_at : Database → Position → State → List ℕ → ℕ → List ℕ → Seat
+seat_at db position s left taken tried = record {
+  session = record {
+    game = plain db;
+    position = position;
+    state = s;
+    broken = false;
+    tried = tried;
+  };
   draws = record { left = left; taken = taken };
 }
 
-same-seat : (db : Database) (p q : Position) (r s : State) (ds es : List ℕ) (m n : ℕ) → p ≡ q → r
-    ≡ s → ds ≡ es → m ≡ n
-    → seat_at db p r ds m ≡ seat_at db q s es n
-same-seat db p q r s ds es m n e1 e2 e3 e4 =
-    ap (λ a. seat_at db a r ds m) e1 ∙ ap (λ a. seat_at db q a ds m) e2
-    ∙ ap (λ a. seat_at db q s a m) e3 ∙ ap (seat_at db q s es) e4
+same-seat : (db : Database) (p q : Position) (r s : State) (ds es : List ℕ) (m n : ℕ)
+    (ts us : List ℕ) → p ≡ q → r ≡ s → ds ≡ es → m ≡ n → ts ≡ us
+    → seat_at db p r ds m ts ≡ seat_at db q s es n us
+same-seat db p q r s ds es m n ts us e1 e2 e3 e4 e5 =
+    ap (λ a. seat_at db a r ds m ts) e1 ∙ ap (λ a. seat_at db q a ds m ts) e2
+    ∙ ap (λ a. seat_at db q s a m ts) e3 ∙ ap (λ a. seat_at db q s es a ts) e4
+    ∙ ap (seat_at db q s es n) e5
+
+tallied-append : (es fs : List Step) (counts : List ℕ)
+    → tallied (es ++ fs) counts ≡ tallied fs (tallied es counts)
+tallied-append es fs counts = ap (λ ns. counted ns counts) (filter_map-append noted_of es fs)
+    ∙ counts_add (noted es) (noted fs) counts
 
 pub each_hears_alone : PlaySplits → EachHearsAlone
 each_hears_alone splits db k [] line =
     let t = play (plain db) (line ∷ []) (seeded_draws k) in
     record {
       says = refl;
-      stands = ap (seat_at db t.value.position t.value.state t.value.draws)
-          (omega arith);
+      stands = ap (λ n. seat_at db t.value.position t.value.state t.value.draws n
+          (tallied t.events (untried db))) (omega arith);
     }
 each_hears_alone splits db k (first ∷ lines) line =
     let game = plain db in
@@ -210,9 +225,12 @@ each_hears_alone splits db k (first ∷ lines) line =
     ≡ length (draws_taken (trace_of t.events)) + length (draws_taken (trace_of u.events)) =
     ap (λ es. length (draws_taken (trace_of es))) adds.events
     ∙ drawn-append t.events u.events in
+    let tried : tallied whole.events (untried db)
+    ≡ tallied u.events (tallied t.events (untried db)) =
+    ap (λ es. tallied es (untried db)) adds.events ∙ tallied-append t.events u.events (untried db) in
     record {
       says = sym (ap (drop (length (transcript (trace_of t.events)))) text
           ∙ drop-first (transcript (trace_of t.events)) (transcript (trace_of u.events)));
-      stands = same-seat db _ _ _ _ _ _ _ _ (sym adds.position_is) (sym adds.state_is)
-          (sym adds.draws_are) (sym drawn);
+      stands = same-seat db _ _ _ _ _ _ _ _ _ _ (sym adds.position_is) (sym adds.state_is)
+          (sym adds.draws_are) (sym drawn) (sym tried);
     }

@@ -6,6 +6,7 @@ use Rattle.adv_io.specs.Steps.{trace_of}
 use Rattle.scott_types.specs.Database.{Database}
 use Rattle.scott_types.specs.Style.{plain}
 use Rattle.scott_rules.specs.Play.{play}
+use Rattle.scott_turn.specs.Tried.{tallied, untried}
 use Rattle.adv_hall.specs.declared.halls.Seat.{Seat}
 use Rattle.adv_hall.specs.declared.addressing.Address.{Address}
 use Rattle.adv_hall.specs.Address.{address_of}
@@ -23,6 +24,7 @@ seat_alone db k (line ∷ lines) =
         position = t.value.position;
         state = t.value.state;
         broken = false;
+        tried = tallied t.events (untried db);
       };
       draws = record {
         left = t.value.draws;

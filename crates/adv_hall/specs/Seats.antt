@@ -11,6 +11,7 @@ use Rattle.scott_types.specs.Database.{Database}
 use Rattle.scott_types.specs.State.{start}
 use Rattle.scott_types.specs.Style.{plain}
 use Rattle.scott_rules.specs.Play.{PlayEnd}
+use Rattle.scott_turn.specs.Tried.{tallied, untried}
 use Rattle.scott_turn.specs.Played.{goes}
 use Rattle.adv_hall.specs.declared.halls.Seat.{Seat}
 
@@ -30,7 +31,13 @@ is_whole seat = not seat.session.broken
 -- session k before its first line
 abbrev pub seat_opened : Database → ℕ → Seat
 seat_opened db k = record {
-  session = record { game = plain db; position = Fresh; state = start db; broken = false };
+  session = record {
+    game = plain db;
+    position = Fresh;
+    state = start db;
+    broken = false;
+    tried = untried db;
+  };
   draws = untouched (seeded_draws k);
 }
 
@@ -52,7 +59,11 @@ abbrev pub seat_after : Seat → List ℕ → Seat
 seat_after seat line =
     let t = hears seat line in
     record {
-      session = record seat.session { position = t.value.position; state = t.value.state };
+      session = record seat.session {
+        position = t.value.position;
+        state = t.value.state;
+        tried = tallied t.events seat.session.tried;
+      };
       draws = record {
         left = t.value.draws;
         taken = seat.draws.taken + length (draws_taken (trace_of t.events));

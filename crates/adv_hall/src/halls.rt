@@ -6,7 +6,8 @@ ghost use Rattle.scott_rules.specs.Play.{ending_of};
 ghost use Rattle.adv_hall.specs.Seats.{seat_of, seat_opened, seats_opened, said_by, seat_after, heading, text_by};
 
 use adv_draws::Draws;
-use adv_io::{Console, ConsoleFault, Line, Memory, say_all};
+use adv_io::{Console, ConsoleFault, Line, Memory};
+use arrayvec::ArrayVec;
 use itoa::Buffer;
 use scott_turn::Session;
 use scott_types::{Db, Ending, State, Style};
@@ -49,7 +50,14 @@ impl<'a> Model for Hall<'a> {
 fn say_number<C: Console>(k: u8, console: &mut C) -> Result<(), ConsoleFault>
     ensures { Speaks (C.seen console.old) (C.seen console.new) result (says (heading k)) }
 {
-    say_all(console, &[b"[", Buffer::new().format(k).as_bytes(), b"]\n"])
+    let mut text = ArrayVec::<u8, 8>::new();
+    text.push(b'[');
+    for byte in Buffer::new().format(k).as_bytes() {
+        text.push(*byte);
+    }
+    text.push(b']');
+    text.push(b'\n');
+    console.say(text.as_slice())
 }
 
 impl<'a> Seat<'a> {
