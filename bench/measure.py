@@ -4,6 +4,8 @@ The program is build/scott, which ./scott builds; SCOTT_TOOL names another.
 Instructions are callgrind's own count for the whole process, the C library included.
 """
 
+import importlib.machinery
+import importlib.util
 import os
 import re
 import subprocess
@@ -118,3 +120,12 @@ def store(folder, name, data):
 
 def verdict(value, goal):
     return "%s the goal of %s" % ("within" if value <= goal else "OVER", "{:,}".format(goal))
+
+
+def of_compare():
+    """bench/compare as a module: its sides run a case."""
+    loader = importlib.machinery.SourceFileLoader("compare_script", os.path.join(ROOT, "bench", "compare"))
+    spec = importlib.util.spec_from_loader("compare_script", loader)
+    module = importlib.util.module_from_spec(spec)
+    loader.exec_module(module)
+    return module

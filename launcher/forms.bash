@@ -5,8 +5,9 @@ say_forms() {
     cat >&2 <<'END'
 scott: the forms, with examples for the folder that ./scott stands in; docs/GUIDE.md has the rest
 
-  play F [draws=FILE | seed=N] [style=S]            plays the database F
-      ./scott play games/lighthouse.dat seed=7
+  play F [draws=FILE | seed=N] [style=S] [from=P] [save=P]
+                                                    plays the database F
+      ./scott play games/lighthouse.dat seed=7 save=mine.pos
   check F                                           says what is in it, and what is suspicious
       ./scott check games/bequest.dat
   decompile F SOURCE                                writes a database as a text for people
@@ -19,10 +20,21 @@ scott: the forms, with examples for the folder that ./scott stands in; docs/GUID
       ./scott run games/inform/dice.inf seed=3 steps=5000 words=32
   hall F N                                          plays N games of F at once, 1 to 64
       ./scott hall games/hill.dat 2
+  transfer F P PROGRAM [style=S] [words=W]          writes a database as an Inform program that begins
+                                                    at the position P, which play has kept with save=
+      ./scott transfer games/lighthouse.dat mine.pos rest.inf
+  cover F [draws=FILE | seed=N] [style=S]           plays F, and then says which of its lines were tried
+      ./scott cover games/lighthouse.dat <games/lighthouse.walk
+  simplify PROGRAM SIMPLER [words=W]                writes a program as a simpler one that runs alike
+      ./scott simplify games/inform/dice.inf dice.inf
+  calls PROGRAM [draws=FILE | seed=N] [steps=N] [words=W]
+                                                    runs a game's program, and then says which of its
+                                                    lines were tried
+      ./scott calls rest.inf seed=7 <games/lighthouse.walk
 
 END
     local name
-    for name in draws seed style steps words; do
+    for name in draws seed style from save steps words; do
         printf '  %-6s  %s\n' "$name=" "$(values_of "$name")" >&2
     done
     echo >&2
@@ -43,6 +55,8 @@ values_of() {
         draws) echo 'the name of a file of draws, numbers from 1 to 100' ;;
         seed) echo 'a number from 0 to 18446744073709551615; without it, and without draws=, it is 1' ;;
         style) echo 'y (You), c (a count of the light), v (a spent lamp vanishes), yc, yv, cv or ycv' ;;
+        from) echo 'the name of a file that has a position, from which the play goes on' ;;
+        save) echo 'the name of a file, in which the position is kept where the play stops' ;;
         steps) echo 'a number from 1 to 1000000000000000000; without it 1000000000' ;;
         words) echo '16 or 32, the bits of a word; without it 16' ;;
     esac
@@ -61,7 +75,7 @@ is_between() {
 # Whether a setting of this name may have this value.
 may_be() {
     case $1 in
-        draws) [ -n "$2" ] ;;
+        draws | from | save) [ -n "$2" ] ;;
         seed) is_between "$2" 0 18446744073709551615 ;;
         style) [[ $2 =~ ^(y|c|v|yc|yv|cv|ycv)$ ]] ;;
         steps) is_between "$2" 1 1000000000000000000 ;;
@@ -73,11 +87,14 @@ may_be() {
 form_of() {
     case $1 in
         check) echo 1 ;;
-        play) echo 1 draws seed style ;;
-        run) echo 1 draws seed steps words ;;
+        play) echo 1 draws seed style from save ;;
+        run | calls) echo 1 draws seed steps words ;;
         compile | decompile) echo 2 ;;
         translate) echo 2 style words ;;
         hall) echo 2 ;;
+        transfer) echo 3 style words ;;
+        cover) echo 1 draws seed style ;;
+        simplify) echo 2 words ;;
         *) return 1 ;;
     esac
 }

@@ -6,17 +6,39 @@ is_source() {
         LC_ALL=C grep -a -q -E '^[[:space:]]*header([^A-Za-z0-9_]|$)'
 }
 
+# The file that a command writes, and those that it reads; the position that a play goes on from is no loss, since the
+# one that is kept takes its place.
+find_files() {
+    local word
+    written= read_files=()
+    case $1 in
+        transfer) written=${4:-} read_files=("${2:-}" "${3:-}") ;;
+        play)
+            read_files=("${2:-}")
+            for word in "${@:3}"; do
+                case $word in
+                    save=*) written=${word#save=} ;;
+                    draws=*) read_files+=("${word#draws=}") ;;
+                esac
+            done
+            ;;
+        *) written=${3:-} read_files=("${2:-}") ;;
+    esac
+}
+
 # Says what would be lost by a command, and asks on a terminal whether it is to be done all the same.
 ask_first() {
-    local loss answer=
-    [ "$#" -ge 3 ] || return 0
-    if [ "$2" -ef "$3" ]; then
-        loss="$3 is the file that is read, and what is written replaces it"
-    elif is_source "$3"; then
-        loss="$3 is a source, and what is written replaces it"
-    else
-        return 0
+    local loss= answer= written name
+    local -a read_files
+    find_files "$@"
+    [ -n "$written" ] || return 0
+    for name in "${read_files[@]}"; do
+        [[ ! $name -ef $written ]] || loss="$written is a file that is read, and what is written replaces it"
+    done
+    if [ -z "$loss" ] && is_source "$written"; then
+        loss="$written is a source, and what is written replaces it"
     fi
+    [ -n "$loss" ] || return 0
     say "$loss"
     [ -t 0 ] && [ -t 2 ] || return 0
     read -r -p 'scott: go on? [y/N] ' answer

@@ -1,5 +1,7 @@
 -- What the words of a request give it.
-use Rattle.std.proofs.Common.{◌≡◌, ◌∙◌, ℕ, List, [], ◌∷◌, length, get_or, map, sym, ap, arith, String, string_bytes}
+use Rattle.std.proofs.Common.{◌≡◌, ◌∙◌, ℕ, List, [], ◌∷◌, length, get_or, map, Bool, true, false, refl, sym, ap, arith, String, string_bytes}
+use Rattle.std.specs.Prelude.{bytes_eq}
+use Rattle.std.proofs.lemmas.Slice.Eq.{bytes_eq-Decides}
 use Rattle.scott_requests.specs.Request.{request_in, asked_by}
 
 -- a list of one element
@@ -16,3 +18,11 @@ pub asked_as : {Z : Type 0} (words : List (String Z)) (command : String Z) (rest
     → request_in (name ∷ map string_bytes rest) ≡ asked_by words
 asked_as words command rest text split bytes is =
     ap (λ w. request_in (w ∷ map string_bytes rest)) (sym is ∙ bytes) ∙ ap asked_by (sym split)
+
+-- a word that isn't this command
+pub no_command : (word name : List ℕ) → (word ≡ name → ⊥) → bytes_eq word name ≡ false
+no_command word name differs = by (bytes_eq word name) refl
+  where
+    by : (b : Bool) → bytes_eq word name ≡ b → b ≡ false
+    by true e = absurd (differs ((bytes_eq-Decides word name).0 e))
+    by false e = refl

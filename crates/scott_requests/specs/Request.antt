@@ -11,11 +11,15 @@ use Rattle.scott_types.specs.Style.{plain_style}
 use Rattle.scott_requests.specs.Parts.{file_name, number_of}
 use Rattle.scott_requests.specs.Settings.{DrawSource, seeded, Settings, no_kinds, no_settings, settings_from}
 
--- what is to be played: the database of this name, with these draws, in this style
+-- what is to be played: the database of this name, with these draws, in this style; from its
+-- beginning, or from the position in a file; and the file in which the position is kept where the
+-- play stops, if there is one
 pub record PlayRequest : Type 0 where
   pub game : List ℕ
   pub source : DrawSource
   pub style : Style
+  pub opened_from : Option (List ℕ)
+  pub saved_as : Option (List ℕ)
 
 -- what is to be translated: the database of the first name, into an Inform program under the
 -- second, in this style and for words of this width
@@ -33,10 +37,31 @@ pub record RunRequest : Type 0 where
   pub steps : ℕ
   pub width : Width
 
+-- what is to be played, and then told which lines were tried: the database of this name, with
+-- these draws, in this style
+pub record CoverRequest : Type 0 where
+  pub game : List ℕ
+  pub source : DrawSource
+  pub style : Style
+
+-- what is to be translated so that it opens at the position in a file
+pub record TransferRequest : Type 0 where
+  pub opened_from : List ℕ
+  pub translation : TranslationRequest
+
+-- what is to be simplified: the Inform program of the first name, where words have this width; the
+-- simpler one is stored under the second
+pub record SimplifyRequest : Type 0 where
+  pub program : List ℕ
+  pub simpler : List ℕ
+  pub width : Width
+
 -- the database of this name is to be checked; a source is to be compiled to a database, or a
 -- database decompiled to a source, from the file of the first name to that of the second; a
 -- database is to be played or translated, or a program run; so many sessions of a database are to
--- be played from one list of lines
+-- be played from one list of lines; a database is to be translated as it stands at a position; or
+-- played, and then told which of its lines were tried; a program is to be simplified; or run, and
+-- then told which of a game's lines it entered
 pub data Request : Type 0 where
   check : List ℕ → Request
   compile : List ℕ → List ℕ → Request
@@ -45,6 +70,10 @@ pub data Request : Type 0 where
   translate : TranslationRequest → Request
   run : RunRequest → Request
   hall : List ℕ → ℕ → Request
+  transfer : TransferRequest → Request
+  cover : CoverRequest → Request
+  simplify : SimplifyRequest → Request
+  calls : RunRequest → Request
 
 -- ---- the forms of the commands: what the words after a command ask for
 
@@ -90,16 +119,34 @@ width_in settings = unwrap_or settings.width W16
 abbrev pub steps_in : Settings → ℕ
 steps_in settings = unwrap_or settings.steps USUAL_STEPS
 
--- a play is given draws and a style
+-- a play is given draws, a style, and the files of positions
 abbrev pub play_kinds : Kinds
-play_kinds = record no_kinds { draws = true; style = true }
+play_kinds = record no_kinds { draws = true; style = true; opening = true; saving = true }
 
 abbrev pub play_of : List ℕ → Settings → PlayRequest
 play_of name settings =
-    record { game = name; source = source_in settings; style = style_in settings }
+    record {
+      game = name;
+      source = source_in settings;
+      style = style_in settings;
+      opened_from = settings.opened_from;
+      saved_as = settings.saved_as;
+    }
 
 abbrev pub play_form : List (List ℕ) → Option Request
 play_form words = option_map (λ p. play (play_of p.0 p.1)) (file_and_settings play_kinds words)
+
+-- a play of which it is told what was tried is given draws and a style
+abbrev pub cover_kinds : Kinds
+cover_kinds = record no_kinds { draws = true; style = true }
+
+abbrev pub cover_of : List ℕ → Settings → CoverRequest
+cover_of name settings =
+    record { game = name; source = source_in settings; style = style_in settings }
+
+abbrev pub cover_form : List (List ℕ) → Option Request
+cover_form words =
+    option_map (λ p. cover (cover_of p.0 p.1)) (file_and_settings cover_kinds words)
 
 -- two files, and the settings after them
 abbrev pub files_and_settings : Kinds → List (List ℕ) → Option (List ℕ × List ℕ × Settings)
@@ -127,6 +174,24 @@ translate_form words =
     option_map (λ p. translate (translation_of p.0 p.1 p.2))
     (files_and_settings translation_kinds words)
 
+-- three files, of which the second has the position, and the settings of a translation
+abbrev pub transfer_of : List ℕ → List ℕ → List ℕ → Settings → TransferRequest
+transfer_of game position program settings =
+    record { opened_from = position; translation = translation_of game program settings }
+
+abbrev pub three_and_settings : Kinds → List (List ℕ)
+    → Option (List ℕ × List ℕ × List ℕ × Settings)
+three_and_settings kinds [] = None
+three_and_settings kinds (file ∷ words) =
+    option_and_then
+    (λ first. option_map (λ p. (first, p.0, p.1, p.2)) (files_and_settings kinds words))
+    (file_name file)
+
+abbrev pub transfer_form : List (List ℕ) → Option Request
+transfer_form words =
+    option_map (λ p. transfer (transfer_of p.0 p.1 p.2 p.3))
+    (three_and_settings translation_kinds words)
+
 -- a run is given draws, a number of steps and a width
 abbrev pub run_kinds : Kinds
 run_kinds = record no_kinds { draws = true; steps = true; words = true }
@@ -142,6 +207,23 @@ run_of name settings =
 
 abbrev pub run_form : List (List ℕ) → Option Request
 run_form words = option_map (λ p. run (run_of p.0 p.1)) (file_and_settings run_kinds words)
+
+-- a run that counts what it enters is given the same
+abbrev pub calls_form : List (List ℕ) → Option Request
+calls_form words = option_map (λ p. calls (run_of p.0 p.1)) (file_and_settings run_kinds words)
+
+-- two files, from the first of which the second is made where words have this width
+abbrev pub simplify_kinds : Kinds
+simplify_kinds = record no_kinds { words = true }
+
+abbrev pub simplification_of : List ℕ → List ℕ → Settings → SimplifyRequest
+simplification_of program simpler settings =
+    record { program = program; simpler = simpler; width = width_in settings }
+
+abbrev pub simplify_form : List (List ℕ) → Option Request
+simplify_form words =
+    option_map (λ p. simplify (simplification_of p.0 p.1 p.2))
+    (files_and_settings simplify_kinds words)
 
 -- how many sessions: 1 at least, and no more than a hall has
 abbrev pub sessions_of : List ℕ → Option ℕ
@@ -162,6 +244,15 @@ abbrev pub IsSized : Request → Type 0
 IsSized (hall game count) = (1 ≤ count) × (count ≤ MOST_SESSIONS)
 IsSized _ = Unit {0}
 
+-- the commands beside those that read, write and play one file: their forms
+abbrev pub further_form : List ℕ → List (List ℕ) → Option Request
+further_form command words =
+    if bytes_eq command (codes "hall") then hall_form words else
+    if bytes_eq command (codes "transfer") then transfer_form words else
+    if bytes_eq command (codes "cover") then cover_form words else
+    if bytes_eq command (codes "simplify") then simplify_form words else
+    if bytes_eq command (codes "calls") then calls_form words else None
+
 -- what words ask for: a command, and its form
 abbrev pub request_in : List (List ℕ) → Option Request
 request_in [] = None
@@ -171,8 +262,7 @@ request_in (command ∷ words) =
     if bytes_eq command (codes "decompile") then decompile_form words else
     if bytes_eq command (codes "play") then play_form words else
     if bytes_eq command (codes "translate") then translate_form words else
-    if bytes_eq command (codes "run") then run_form words else
-    if bytes_eq command (codes "hall") then hall_form words else None
+    if bytes_eq command (codes "run") then run_form words else further_form command words
 
 -- the same of the program's words
 abbrev pub asked_by : {Z : Type 0} → List (String Z) → Option Request

@@ -48,6 +48,8 @@ width_of text =
 pub data Setting : Type 0 where
   draws : DrawSource → Setting
   style : Style → Setting
+  opening : List ℕ → Setting
+  saving : List ℕ → Setting
   most_steps : ℕ → Setting
   word_width : Width → Setting
 
@@ -57,6 +59,12 @@ play_setting (Some name) digits letters = option_map (λ n. draws (listed n)) (f
 play_setting None (Some digits) letters = option_map (λ n. draws (seeded n)) (number_of digits)
 play_setting None None (Some letters) = option_map style (style_named letters)
 play_setting None None None = None
+
+-- a setting that names the file of a position, by what follows `from=` and what follows `save=`
+abbrev pub position_setting : Option (List ℕ) → Option (List ℕ) → Option Setting
+position_setting (Some name) other = option_map opening (file_name name)
+position_setting None (Some name) = option_map saving (file_name name)
+position_setting None None = None
 
 -- a setting of a run alone, by what follows `steps=` and what follows `words=`
 abbrev pub run_setting : Option (List ℕ) → Option (List ℕ) → Option Setting
@@ -69,22 +77,37 @@ play_setting_in word =
     play_setting (after_prefix (codes "draws=") word) (after_prefix (codes "seed=") word)
     (after_prefix (codes "style=") word)
 
+abbrev pub position_setting_in : List ℕ → Option Setting
+position_setting_in word =
+    position_setting (after_prefix (codes "from=") word) (after_prefix (codes "save=") word)
+
 abbrev pub run_setting_in : List ℕ → Option Setting
 run_setting_in word =
     run_setting (after_prefix (codes "steps=") word) (after_prefix (codes "words=") word)
 
 -- the setting that a word is
 abbrev pub setting_in : List ℕ → Option Setting
-setting_in word = option_or (play_setting_in word) (run_setting_in word)
+setting_in word =
+    option_or (play_setting_in word) (option_or (position_setting_in word) (run_setting_in word))
 
 -- ---- which kinds of settings a form allows; what it doesn't name it refuses
 
 abbrev pub no_kinds : Kinds
-no_kinds = record { draws = false; style = false; steps = false; words = false }
+no_kinds =
+    record {
+      draws = false;
+      style = false;
+      opening = false;
+      saving = false;
+      steps = false;
+      words = false;
+    }
 
 abbrev pub allows : Kinds → Setting → Bool
 allows kinds (draws source) = kinds.draws
 allows kinds (style value) = kinds.style
+allows kinds (opening name) = kinds.opening
+allows kinds (saving name) = kinds.saving
 allows kinds (most_steps n) = kinds.steps
 allows kinds (word_width value) = kinds.words
 
@@ -100,11 +123,21 @@ allowed_in kinds word =
 pub record Settings : Type 0 where
   pub source : Option DrawSource
   pub play_style : Option Style
+  pub opened_from : Option (List ℕ)
+  pub saved_as : Option (List ℕ)
   pub steps : Option ℕ
   pub width : Option Width
 
 abbrev pub no_settings : Settings
-no_settings = record { source = None; play_style = None; steps = None; width = None }
+no_settings =
+    record {
+      source = None;
+      play_style = None;
+      opened_from = None;
+      saved_as = None;
+      steps = None;
+      width = None;
+    }
 
 -- a free place is filled; one that is taken refuses
 abbrev pub filled : {X : Type 0} → Option X → X → Option (Option X)
@@ -117,6 +150,10 @@ with_setting settings (draws source) =
     option_map (λ place. record settings { source = place }) (filled settings.source source)
 with_setting settings (style value) =
     option_map (λ place. record settings { play_style = place }) (filled settings.play_style value)
+with_setting settings (opening name) =
+    option_map (λ place. record settings { opened_from = place }) (filled settings.opened_from name)
+with_setting settings (saving name) =
+    option_map (λ place. record settings { saved_as = place }) (filled settings.saved_as name)
 with_setting settings (most_steps n) =
     option_map (λ place. record settings { steps = place }) (filled settings.steps n)
 with_setting settings (word_width value) =

@@ -8,5 +8,8 @@ mod settings;
 // The requests.
 mod requests;
 
-pub use requests::{PlayRequest, Request, RunRequest, TranslationRequest, request_in};
+pub use requests::{
+    CoverRequest, PlayRequest, Request, RunRequest, SimplifyRequest, TransferRequest,
+    TranslationRequest, request_in,
+};
 pub use settings::{DrawSource, FIRST_SEED, MOST_STEPS, USUAL_STEPS};

@@ -1,7 +1,7 @@
 //! Requests: a command, the names of its files, and its settings.
 ghost use Rattle.std.specs.Prelude.{◌≡◌, ◌≤◌, map, string_bytes, option_map, IfSome};
-ghost use Rattle.scott_requests.specs.Request.{check_form, two_names, compile_form, decompile_form, file_and_settings, source_in, style_in, width_in, steps_in, play_form, files_and_settings, translate_form, run_form, sessions_of, hall_form, IsSized, asked_by};
-ghost use Rattle.scott_requests.specs.Views.{source_of, settings_of, request_of};
+ghost use Rattle.scott_requests.specs.Request.{check_form, two_names, compile_form, decompile_form, file_and_settings, source_in, style_in, width_in, steps_in, play_form, cover_form, files_and_settings, three_and_settings, translation_kinds, translation_of, translate_form, transfer_form, run_kinds, run_of, run_form, calls_form, sessions_of, hall_form, further_form, IsSized, asked_by, simplify_form};
+ghost use Rattle.scott_requests.specs.Views.{source_of, settings_of, asked_translation, asked_run, request_of};
 
 use crate::parts::{file_name, number_of};
 use crate::settings::{
@@ -13,12 +13,16 @@ use scott_types::Style;
 /// The most sessions that a hall may be asked for.
 pub const MOST_SESSIONS: u64 = 64;
 
-/// What is to be played: the database of this name, with these draws, in this style.
+/// What is to be played: the database of this name, with these draws, in this style; from its
+/// beginning or from the position in the file `from`; and the position where the play stops is kept
+/// in the file `save`, if there is one.
 #[derive(Clone, Copy, PartialEq, Eq)]
 pub struct PlayRequest<'a> {
     pub game: &'a str,
     pub source: DrawSource<'a>,
     pub style: Style,
+    pub from: Option<&'a str>,
+    pub save: Option<&'a str>,
 }
 
 /// What is to be translated: the database of the first name, into an Inform program that is stored
@@ -31,6 +35,22 @@ pub struct TranslationRequest<'a> {
     pub width: Width,
 }
 
+/// What is to be translated so that it opens at the position in the file `from`.
+#[derive(Clone, Copy, PartialEq, Eq)]
+pub struct TransferRequest<'a> {
+    pub from: &'a str,
+    pub translation: TranslationRequest<'a>,
+}
+
+/// What is to be played, and then told which of its lines were tried: the database of this name,
+/// with these draws, in this style.
+#[derive(Clone, Copy, PartialEq, Eq)]
+pub struct CoverRequest<'a> {
+    pub game: &'a str,
+    pub source: DrawSource<'a>,
+    pub style: Style,
+}
+
 /// What is to be run: the Inform program of this name, with these draws, for so many steps at most
 /// (1 to `MOST_STEPS`), with words of this width.
 #[derive(Clone, Copy, PartialEq, Eq)]
@@ -38,6 +58,15 @@ pub struct RunRequest<'a> {
     pub program: &'a str,
     pub source: DrawSource<'a>,
     pub steps: u64,
+    pub width: Width,
+}
+
+/// What is to be simplified: the Inform program of the first name, for words of this width. The
+/// simpler one is stored under the second name.
+#[derive(Clone, Copy, PartialEq, Eq)]
+pub struct SimplifyRequest<'a> {
+    pub program: &'a str,
+    pub simpler: &'a str,
     pub width: Width,
 }
 
@@ -49,6 +78,10 @@ pub struct RunRequest<'a> {
 /// - `Play`, `Translate`, `Run`: a database is to be played or translated, a program to be run.
 /// - `Hall`: so many sessions of the database of this name are to be played from one list of lines,
 ///   1 to `MOST_SESSIONS`.
+/// - `Transfer`: a database is to be translated as it stands at a position.
+/// - `Cover`: a database is to be played, and then told which of its lines were tried.
+/// - `Simplify`: a program is to be simplified.
+/// - `Calls`: a program is to be run, and then told which of a game's lines it entered.
 #[derive(Clone, Copy, PartialEq, Eq)]
 pub enum Request<'a> {
     Check(&'a str),
@@ -58,6 +91,10 @@ pub enum Request<'a> {
     Translate(TranslationRequest<'a>),
     Run(RunRequest<'a>),
     Hall(&'a str, u8),
+    Transfer(TransferRequest<'a>),
+    Cover(CoverRequest<'a>),
+    Simplify(SimplifyRequest<'a>),
+    Calls(RunRequest<'a>),
 }
 
 // `check` with the words after it.
@@ -149,10 +186,32 @@ fn play_form(words: &[String]) -> Option<Request<'_>>
     let kinds = Kinds {
         draws: true,
         style: true,
+        opening: true,
+        saving: true,
         ..no_kinds()
     };
     let (game, settings) = file_and_settings(words, kinds)?;
     Some(Request::Play(PlayRequest {
+        game,
+        source: source_in(settings),
+        style: style_in(settings),
+        from: settings.from,
+        save: settings.save,
+    }))
+}
+
+// `cover` with the words after it.
+fn cover_form(words: &[String]) -> Option<Request<'_>>
+    ensures value { option_map request_of result ≡ cover_form (map string_bytes words.now) }
+    ensures sized { IfSome result (λ r. IsSized (request_of r)) }
+{
+    let kinds = Kinds {
+        draws: true,
+        style: true,
+        ..no_kinds()
+    };
+    let (game, settings) = file_and_settings(words, kinds)?;
+    Some(Request::Cover(CoverRequest {
         game,
         source: source_in(settings),
         style: style_in(settings),
@@ -168,23 +227,89 @@ fn files_and_settings(words: &[String], kinds: Kinds) -> Option<(&str, (&str, Se
     file_name(file.as_str()).zip(file_and_settings(rest, kinds))
 }
 
+// The kinds of settings that a translation is given.
+fn translation_kinds() -> Kinds
+    ensures { result ≡ translation_kinds }
+{
+    Kinds {
+        style: true,
+        words: true,
+        ..no_kinds()
+    }
+}
+
+// What is to be translated, with these settings.
+fn translation_of<'a>(
+    game: &'a str,
+    program: &'a str,
+    settings: Settings<'a>,
+) -> TranslationRequest<'a>
+    ensures { asked_translation result ≡ translation_of game.now program.now
+        (settings_of settings.entry) }
+{
+    TranslationRequest {
+        game,
+        program,
+        style: style_in(settings),
+        width: width_in(settings),
+    }
+}
+
 // `translate` with the words after it.
 fn translate_form(words: &[String]) -> Option<Request<'_>>
     ensures value { option_map request_of result ≡ translate_form (map string_bytes words.now) }
     ensures sized { IfSome result (λ r. IsSized (request_of r)) }
 {
-    let kinds = Kinds {
-        style: true,
+    let (game, (program, settings)) = files_and_settings(words, translation_kinds())?;
+    Some(Request::Translate(translation_of(game, program, settings)))
+}
+
+// The names of three files, and the settings after them, if all are of these kinds.
+fn three_and_settings(
+    words: &[String],
+    kinds: Kinds,
+) -> Option<(&str, (&str, (&str, Settings<'_>)))>
+    ensures { option_map (λ p. (p.0.now, p.1.0.now, p.1.1.0.now, settings_of p.1.1.1)) result
+        ≡ three_and_settings kinds (map string_bytes words.now) }
+{
+    let (file, rest) = words.split_first()?;
+    file_name(file.as_str()).zip(files_and_settings(rest, kinds))
+}
+
+// `transfer` with the words after it.
+fn transfer_form(words: &[String]) -> Option<Request<'_>>
+    ensures value { option_map request_of result ≡ transfer_form (map string_bytes words.now) }
+    ensures sized { IfSome result (λ r. IsSized (request_of r)) }
+{
+    let (game, (from, (program, settings))) = three_and_settings(words, translation_kinds())?;
+    Some(Request::Transfer(TransferRequest {
+        from,
+        translation: translation_of(game, program, settings),
+    }))
+}
+
+// The kinds of settings that a run is given.
+fn run_kinds() -> Kinds
+    ensures { result ≡ run_kinds }
+{
+    Kinds {
+        draws: true,
+        steps: true,
         words: true,
         ..no_kinds()
-    };
-    let (game, (program, settings)) = files_and_settings(words, kinds)?;
-    Some(Request::Translate(TranslationRequest {
-        game,
+    }
+}
+
+// What is to be run, with these settings.
+fn run_of<'a>(program: &'a str, settings: Settings<'a>) -> RunRequest<'a>
+    ensures { asked_run result ≡ run_of program.now (settings_of settings.entry) }
+{
+    RunRequest {
         program,
-        style: style_in(settings),
+        source: source_in(settings),
+        steps: steps_in(settings),
         width: width_in(settings),
-    }))
+    }
 }
 
 // `run` with the words after it.
@@ -192,17 +317,32 @@ fn run_form(words: &[String]) -> Option<Request<'_>>
     ensures value { option_map request_of result ≡ run_form (map string_bytes words.now) }
     ensures sized { IfSome result (λ r. IsSized (request_of r)) }
 {
+    let (program, settings) = file_and_settings(words, run_kinds())?;
+    Some(Request::Run(run_of(program, settings)))
+}
+
+// `calls` with the words after it.
+fn calls_form(words: &[String]) -> Option<Request<'_>>
+    ensures value { option_map request_of result ≡ calls_form (map string_bytes words.now) }
+    ensures sized { IfSome result (λ r. IsSized (request_of r)) }
+{
+    let (program, settings) = file_and_settings(words, run_kinds())?;
+    Some(Request::Calls(run_of(program, settings)))
+}
+
+// `simplify` with the words after it.
+fn simplify_form(words: &[String]) -> Option<Request<'_>>
+    ensures value { option_map request_of result ≡ simplify_form (map string_bytes words.now) }
+    ensures sized { IfSome result (λ r. IsSized (request_of r)) }
+{
     let kinds = Kinds {
-        draws: true,
-        steps: true,
         words: true,
         ..no_kinds()
     };
-    let (program, settings) = file_and_settings(words, kinds)?;
-    Some(Request::Run(RunRequest {
+    let (program, (simpler, settings)) = files_and_settings(words, kinds)?;
+    Some(Request::Simplify(SimplifyRequest {
         program,
-        source: source_in(settings),
-        steps: steps_in(settings),
+        simpler,
         width: width_in(settings),
     }))
 }
@@ -231,6 +371,22 @@ fn hall_form(words: &[String]) -> Option<Request<'_>>
     Some(Request::Hall(game, count))
 }
 
+// The further commands with the words after them.
+fn further_form<'a>(command: &str, rest: &'a [String]) -> Option<Request<'a>>
+    ensures value { option_map request_of result
+        ≡ further_form command.now (map string_bytes rest.now) }
+    ensures sized { IfSome result (λ r. IsSized (request_of r)) }
+{
+    match command {
+        "hall" => hall_form(rest),
+        "transfer" => transfer_form(rest),
+        "cover" => cover_form(rest),
+        "simplify" => simplify_form(rest),
+        "calls" => calls_form(rest),
+        _ => None,
+    }
+}
+
 /// What the words ask for, if they are a request. docs/GUIDE.md has the words of each.
 pub fn request_in(words: &[String]) -> Option<Request<'_>>
     ensures value { option_map request_of result ≡ asked_by words.now }
@@ -244,7 +400,6 @@ pub fn request_in(words: &[String]) -> Option<Request<'_>>
         "play" => play_form(rest),
         "translate" => translate_form(rest),
         "run" => run_form(rest),
-        "hall" => hall_form(rest),
-        _ => None,
+        command => further_form(command, rest),
     }
 }

@@ -2,7 +2,7 @@
 ghost use Rattle.std.specs.Prelude.{◌≡◌, Some, map, string_bytes, option_map};
 ghost use Rattle.std.specs.Option.{option_and_then};
 ghost use Rattle.scott_requests.specs.Parts.{file_name, number_of};
-ghost use Rattle.scott_requests.specs.Settings.{draws, listed, seeded, style, some_style, style_named, most_steps, word_width, steps_of, width_of, play_setting_in, run_setting_in, setting_in, no_kinds, allows, allowed_in, no_settings, with_setting, settings_from};
+ghost use Rattle.scott_requests.specs.Settings.{draws, listed, seeded, style, some_style, style_named, most_steps, word_width, steps_of, width_of, opening, saving, play_setting_in, position_setting_in, run_setting_in, setting_in, no_kinds, allows, allowed_in, no_settings, with_setting, settings_from};
 ghost use Rattle.scott_requests.specs.Views.{source_of, setting_of, settings_of};
 
 use crate::parts::{file_name, number_of};
@@ -30,6 +30,8 @@ pub enum DrawSource<'a> {
 pub enum Setting<'a> {
     Draws(DrawSource<'a>),
     Style(Style),
+    From(&'a str),
+    Save(&'a str),
     Steps(u64),
     Words(Width),
 }
@@ -39,6 +41,8 @@ pub enum Setting<'a> {
 pub struct Settings<'a> {
     pub draws: Option<DrawSource<'a>>,
     pub style: Option<Style>,
+    pub from: Option<&'a str>,
+    pub save: Option<&'a str>,
     pub steps: Option<u64>,
     pub width: Option<Width>,
 }
@@ -101,6 +105,26 @@ fn styled(letters: &str) -> Option<Setting<'_>>
     }
 }
 
+// The setting that names the file of the position from which a play goes on.
+fn opened(name: &str) -> Option<Setting<'_>>
+    ensures { option_map setting_of result ≡ option_map opening (file_name name.now) }
+{
+    match file_name(name) {
+        Some(name) => Some(Setting::From(name)),
+        None => None,
+    }
+}
+
+// The setting that names the file in which a position is kept.
+fn saved(name: &str) -> Option<Setting<'_>>
+    ensures { option_map setting_of result ≡ option_map saving (file_name name.now) }
+{
+    match file_name(name) {
+        Some(name) => Some(Setting::Save(name)),
+        None => None,
+    }
+}
+
 // The setting that gives the most steps.
 fn steps<'a>(digits: &str) -> Option<Setting<'a>>
     ensures { option_map setting_of result ≡ option_map most_steps (steps_of digits.now) }
@@ -151,13 +175,29 @@ fn play_setting_in(word: &str) -> Option<Setting<'_>>
     None
 }
 
+// The setting of a position's file that a word is.
+fn position_setting_in(word: &str) -> Option<Setting<'_>>
+    ensures { option_map setting_of result ≡ position_setting_in word.now }
+{
+    if let Some(name) = word.strip_prefix("from=") {
+        return opened(name);
+    }
+    if let Some(name) = word.strip_prefix("save=") {
+        return saved(name);
+    }
+    None
+}
+
 // The setting that a word is.
 fn setting_in(word: &str) -> Option<Setting<'_>>
     ensures { option_map setting_of result ≡ setting_in word.now }
 {
     match play_setting_in(word) {
         Some(setting) => Some(setting),
-        None => run_setting_in(word),
+        None => match position_setting_in(word) {
+            Some(setting) => Some(setting),
+            None => run_setting_in(word),
+        },
     }
 }
 
@@ -166,6 +206,8 @@ fn setting_in(word: &str) -> Option<Setting<'_>>
 pub struct Kinds {
     pub draws: bool,
     pub style: bool,
+    pub opening: bool,
+    pub saving: bool,
     pub steps: bool,
     pub words: bool,
 }
@@ -177,6 +219,8 @@ pub fn no_kinds() -> Kinds
     Kinds {
         draws: false,
         style: false,
+        opening: false,
+        saving: false,
         steps: false,
         words: false,
     }
@@ -189,6 +233,8 @@ fn allows(kinds: Kinds, setting: Setting<'_>) -> bool
     match setting {
         Setting::Draws(_) => kinds.draws,
         Setting::Style(_) => kinds.style,
+        Setting::From(_) => kinds.opening,
+        Setting::Save(_) => kinds.saving,
         Setting::Steps(_) => kinds.steps,
         Setting::Words(_) => kinds.words,
     }
@@ -233,6 +279,34 @@ impl<'a> Settings<'a> {
         }
     }
 
+    // The file of the position to go on from, where none is there.
+    fn with_from(self, name: &'a str) -> Option<Settings<'a>>
+        ensures { option_map settings_of result ≡ with_setting (settings_of self.entry)
+            (opening name.now) }
+    {
+        match self.from {
+            None => Some(Settings {
+                from: Some(name),
+                ..self
+            }),
+            Some(_) => None,
+        }
+    }
+
+    // The file in which a position is kept, where none is there.
+    fn with_save(self, name: &'a str) -> Option<Settings<'a>>
+        ensures { option_map settings_of result ≡ with_setting (settings_of self.entry)
+            (saving name.now) }
+    {
+        match self.save {
+            None => Some(Settings {
+                save: Some(name),
+                ..self
+            }),
+            Some(_) => None,
+        }
+    }
+
     // The most steps, where they aren't there.
     fn with_steps(self, most: u64) -> Option<Settings<'a>>
         ensures { option_map settings_of result ≡ with_setting (settings_of self.entry)
@@ -269,6 +343,8 @@ impl<'a> Settings<'a> {
         match setting {
             Setting::Draws(source) => self.with_draws(source),
             Setting::Style(style) => self.with_style(style),
+            Setting::From(name) => self.with_from(name),
+            Setting::Save(name) => self.with_save(name),
             Setting::Steps(steps) => self.with_steps(steps),
             Setting::Words(width) => self.with_width(width),
         }
@@ -283,6 +359,8 @@ pub fn settings_in(words: &[String], kinds: Kinds) -> Option<Settings<'_>>
     let mut settings = Settings {
         draws: None,
         style: None,
+        from: None,
+        save: None,
         steps: None,
         width: None,
     };

@@ -1,11 +1,18 @@
 -- What it means for each command that its task was done.
 use Rattle.std.proofs.Common.{◌≡◌, ◌∙◌, ℕ, List, Option, Some, None, IfSome, refl, ap, subst, inl}
+use Rattle.std.specs.Prelude.{option_map}
 use Rattle.adv_io.specs.Console.{ConsoleView}
 use Rattle.adv_io.specs.History.{says, grown}
 use Rattle.adv_io.specs.Shelf.{Files, ShelfView, with_file}
-use Rattle.scott_requests.specs.Request.{Request, check, compile, decompile, play, translate, run, hall}
-use Rattle.scott_tool.specs.Plan.{plan, Reaches}
-use Rattle.scott_tool.specs.Promises.{IsEnd, WasDone, HasDone, HasChecked, HasCompiled, HasDecompiled, HasPlayed, HasTranslated, HasRun, HasReplayed, HasPlayedHall}
+use Rattle.scott_requests.specs.Request.{Request, check, compile, decompile, play, translate, run, hall, transfer, cover, simplify, calls}
+use Rattle.scott_types.specs.Database.{Database}
+use Rattle.scott_tool.specs.Outcome as outcome
+use Rattle.scott_tool.specs.Play.{OpensAt, position_kept}
+use Rattle.scott_tool.specs.Position.{beginning, stopped_text}
+use Rattle.scott_tool.specs.Work.{Task, kept_as, saved, play_from}
+use Rattle.scott_tool.specs.Plan.{doing, opened, plan, Reaches}
+use Rattle.adv_position.specs.declared.saved.Saved.{Saved}
+use Rattle.scott_tool.specs.Promises.{IsEnd, WasDone, HasDone, HasChecked, HasCompiled, HasDecompiled, HasPlayed, HasTranslated, HasTransferred, HasRun, HasReplayed, HasPlayedHall, HasCovered, HasCalled, HasSimplified}
 use Rattle.scott_tool.specs.Laws.{Laws}
 use Rattle.scott_tool.proofs.Promised.{Promises, from_lines}
 use Rattle.scott_tool.proofs.Replaying.{replays}
@@ -15,6 +22,27 @@ by_files : (known : Option Files) (P Q : Files → Type 0)
     → ((files : Files) → known ≡ Some files → P files → Q files) → IfSome known P → IfSome known Q
 by_files None P Q f h = tt
 by_files (Some files) P Q f h = f files refl h
+
+-- where a play opened that was reached, and what holds of its task
+opened_at : (files : Files) (db : Database) (from : Option (List ℕ)) (next : Saved → Task)
+    (P : Task → Type 0) → Reaches files (opened from db (λ s. doing (next s))) P
+    → (s : Saved) × OpensAt files db from s × P (next s)
+opened_at files db None next P h = (beginning db, refl, h)
+opened_at files db (Some name) next P (bytes, from, there, has, h) =
+    (from, (bytes, there, has), h)
+
+-- what is kept of a play, by the files that are known
+kept_position : (files : Files) (known : Option Files) (save : Option (List ℕ))
+    (text : List (List ℕ) → Option (List ℕ)) (lines : List (List ℕ)) → known ≡ Some files
+    → outcome.kept known (saved (option_map (λ name. record { name = name; text = text }) save)
+    lines) ≡ Some (position_kept files save (text lines))
+kept_position files known None text lines is = is
+kept_position files known (Some name) text lines is = by (text lines)
+  where
+    by : (out : Option (List ℕ)) → outcome.kept known (kept_as name out)
+        ≡ Some (position_kept files (Some name) out)
+    by None = is
+    by (Some bytes) = ap (λ k. with_file k name bytes) is
 
 module _ (shelf shelf' : ShelfView) (console console' : ConsoleView) (asked : Option Request)
     (status : ℕ) (h : HasDone shelf shelf' console console' asked status) where
@@ -32,7 +60,7 @@ module _ (shelf shelf' : ShelfView) (console console' : ConsoleView) (asked : Op
 
   pub checked : HasChecked shelf console console' asked
   checked game is = done_for (check game) is _ (λ files known (bytes, db, there, text, d).
-      from_lines console.left _ _ (λ lines (o, (out, exact, does), ends, grew). record {
+      from_lines console.left _ _ (λ lines (o, (out, exact, does), ends, grew, kept). record {
         bytes = bytes;
         db = db;
         there = there;
@@ -71,17 +99,23 @@ module _ (shelf shelf' : ShelfView) (console console' : ConsoleView) (asked : Op
         stored = stored files source kept.0 _ known kept.1 kept.2;
       })
 
-  pub played : HasPlayed shelf console console' asked
+  pub played : HasPlayed shelf shelf' console console' asked
   played p is = done_for (play p) is _ (λ files known (bytes, db, there, text, (draws, are, d)).
-      from_lines console.left _ _ (λ lines (o, does, ends, grew). record {
+      let opens = opened_at files db p.opened_from _ _ d in
+      from_lines console.left _ _ (λ lines (o, does, ends, grew, kept). record {
         bytes = bytes;
         db = db;
         draws = draws;
+        from = opens.0;
         there = there;
         text = text;
         draws_are = are;
+        opens = opens.1;
         seen = grew ∙ ap (λ x. grown console.history x.events) does;
-      }) d.seen)
+        kept = kept ∙ ap (λ x. outcome.kept shelf.files x.stored) does
+            ∙ kept_position files shelf.files p.saved_as
+            (λ ls. stopped_text draws (play_from p.style db opens.0 draws ls).value) lines known;
+      }) opens.2.seen)
 
   pub translated : status ≡ 0 → HasTranslated shelf shelf' asked
   translated zero t is = done_for (translate t) is _
@@ -96,9 +130,64 @@ module _ (shelf shelf' : ShelfView) (console console' : ConsoleView) (asked : Op
         stored = stored files t.program kept.0 kept.0 known refl kept.2;
       })
 
+  pub transferred : status ≡ 0 → HasTransferred shelf shelf' asked
+  transferred zero t is = done_for (transfer t) is _
+      (λ files known (
+        bytes,
+        db,
+        there,
+        text,
+        (
+          position,
+          from,
+          position_there,
+          opens,
+          (waits, (no_wide, d)),
+        ),
+      ).
+      let kept = d.files.stored zero in record {
+        bytes = bytes;
+        db = db;
+        position = position;
+        from = from;
+        out = kept.0;
+        there = there;
+        text = text;
+        position_there = position_there;
+        opens = opens;
+        waits = waits;
+        faithful = kept.1;
+        stored = stored files t.translation.program kept.0 kept.0 known refl kept.2;
+      })
+
+  pub simplified : status ≡ 0 → HasSimplified shelf shelf' asked
+  simplified zero s is = done_for (simplify s) is _ (λ files known (bytes, p, there, text, d).
+      let kept = d.files.stored zero in record {
+        bytes = bytes;
+        program = p;
+        out = kept.0;
+        there = there;
+        text = text;
+        simpler = kept.1;
+        stored = stored files s.simpler kept.0 kept.0 known refl kept.2;
+      })
+
   pub ran : HasRun shelf console console' asked status
   ran r is = done_for (run r) is _ (λ files known (bytes, p, there, text, (draws, are, d)).
-      from_lines console.left _ _ (λ lines (o, does, ends, grew). record {
+      from_lines console.left _ _ (λ lines (o, does, ends, grew, kept). record {
+        bytes = bytes;
+        program = p;
+        draws = draws;
+        there = there;
+        text = text;
+        draws_are = are;
+        ends = ends ∙ ap (λ x. x.status) does;
+        seen = grew ∙ ap (λ x. grown console.history x.events) does;
+      }) d.seen)
+
+  pub called : HasCalled shelf console console' asked status
+  called r is = done_for (calls r) is _ (λ files known (bytes, p, there, text, (draws, are, d)).
+      from_lines console.left _ _ (λ lines (o, does, ends, grew, kept). record {
         bytes = bytes;
         program = p;
         draws = draws;
@@ -112,11 +201,23 @@ module _ (shelf shelf' : ShelfView) (console console' : ConsoleView) (asked : Op
   pub played_hall : HasPlayedHall shelf console console' asked
   played_hall game count is = done_for (hall game count) is _
       (λ files known (bytes, db, there, text, d).
-      from_lines console.left _ _ (λ lines (o, does, ends, grew). record {
+      from_lines console.left _ _ (λ lines (o, does, ends, grew, kept). record {
         bytes = bytes;
         db = db;
         there = there;
         text = text;
+        seen = grew ∙ ap (λ x. grown console.history x.events) does;
+      }) d.seen)
+
+  pub covered : HasCovered shelf console console' asked
+  covered c is = done_for (cover c) is _ (λ files known (bytes, db, there, text, (draws, are, d)).
+      from_lines console.left _ _ (λ lines (o, does, ends, grew, kept). record {
+        bytes = bytes;
+        db = db;
+        draws = draws;
+        there = there;
+        text = text;
+        draws_are = are;
         seen = grew ∙ ap (λ x. grown console.history x.events) does;
       }) d.seen)
 
@@ -126,11 +227,15 @@ pub record Meanings (shelf shelf' : ShelfView) (console console' : ConsoleView)
   pub checked_is : status ≡ 0 → HasChecked shelf console console' asked
   pub compiled_is : status ≡ 0 → HasCompiled shelf shelf' asked
   pub decompiled_is : status ≡ 0 → HasDecompiled shelf shelf' asked
-  pub played_is : status ≡ 0 → HasPlayed shelf console console' asked
+  pub played_is : status ≡ 0 → HasPlayed shelf shelf' console console' asked
   pub translated_is : status ≡ 0 → HasTranslated shelf shelf' asked
+  pub transferred_is : status ≡ 0 → HasTransferred shelf shelf' asked
+  pub simplified_is : status ≡ 0 → HasSimplified shelf shelf' asked
   pub ran_is : IsEnd status → HasRun shelf console console' asked status
   pub replayed_is : HasReplayed shelf console console' asked status
   pub played_hall_is : status ≡ 0 → HasPlayedHall shelf console console' asked
+  pub covered_is : status ≡ 0 → HasCovered shelf console console' asked
+  pub called_is : IsEnd status → HasCalled shelf console console' asked status
 
 pub meanings : (laws : Laws) (shelf shelf' : ShelfView) (console console' : ConsoleView)
     (asked : Option Request) (status : ℕ)
@@ -145,9 +250,15 @@ meanings laws shelf shelf' console console' asked status all = record {
   played_is = λ zero. played shelf shelf' console console' asked status (all.done (inl zero));
   translated_is = λ zero. translated shelf shelf' console console' asked status
       (all.done (inl zero)) zero;
+  transferred_is = λ zero. transferred shelf shelf' console console' asked status
+      (all.done (inl zero)) zero;
+  simplified_is = λ zero. simplified shelf shelf' console console' asked status
+      (all.done (inl zero)) zero;
   ran_is = λ end. ran shelf shelf' console console' asked status (all.done end);
   replayed_is = replays laws shelf console console' asked status
       (λ end. ran shelf shelf' console console' asked status (all.done end));
   played_hall_is = λ zero. played_hall shelf shelf' console console' asked status
       (all.done (inl zero));
+  covered_is = λ zero. covered shelf shelf' console console' asked status (all.done (inl zero));
+  called_is = λ end. called shelf shelf' console console' asked status (all.done end);
 }

@@ -7,7 +7,7 @@ use Rattle.adv_io.specs.Shelf.{Files}
 use Rattle.scott_requests.specs.Request.{Request}
 use Rattle.scott_tool.specs.Steps.{◌>>=◌}
 use Rattle.scott_tool.specs.Refusal.{Refusal, unread, too_long}
-use Rattle.scott_tool.specs.Loading.{Load, main_of, draws_of, IsLoad, within_limit, loaded, Texts, texts_of}
+use Rattle.scott_tool.specs.Loading.{Load, main_of, draws_of, position_of, IsLoad, within_limit, loaded, Texts, later_texts_of, texts_of}
 use Rattle.scott_tool.specs.Causes.{IsTooLong, IsLoadable}
 
 -- ---- steps
@@ -71,25 +71,47 @@ loaded-there files load bytes h =
 
 -- ---- the files of a request
 
-abbrev with_draws : Files → Request → List ℕ → Result Texts Refusal
-with_draws files request main = loaded files (draws_of request) >>= λ draws. Ok
-    (record { main = main; draws = draws })
+abbrev with_position : Files → Request → List ℕ → Result (List ℕ × List ℕ) Refusal
+with_position files request draws = loaded files (position_of request) >>= λ position. Ok
+    (draws, position)
+
+abbrev with_later : Files → Request → List ℕ → Result Texts Refusal
+with_later files request main = later_texts_of files request >>= λ later. Ok
+    (record { main = main; draws = later.0; position = later.1 })
+
+same_value : {X E : Type 0} (x y : X) → (let r : Result X E = Ok x in r ≡ Ok y) → x ≡ y
+same_value x y e = cc
+
+-- the draws and the position that were loaded
+later-loaded : (files : Files) (request : Request) (later : List ℕ × List ℕ)
+    → later_texts_of files request ≡ Ok later → (loaded files (draws_of request) ≡ Ok later.0)
+    × (loaded files (position_of request) ≡ Ok later.1)
+later-loaded files request later e =
+    let d = bind-ok (loaded files (draws_of request)) (with_position files request) later e in
+    let p = bind-ok (loaded files (position_of request)) (λ position. Ok (d.0, position)) later d.2
+    in
+    let same = same_value (d.0, p.0) later p.2 in
+    (d.1 ∙ ap (λ t. Ok t.0) same, p.1 ∙ ap (λ t. Ok t.1) same)
+
+-- what was loaded, file by file
+pub record AreLoaded (files : Files) (request : Request) (texts : Texts) : Type 0 where
+  pub main : loaded files (main_of request) ≡ Ok texts.main
+  pub draws : loaded files (draws_of request) ≡ Ok texts.draws
+  pub position : loaded files (position_of request) ≡ Ok texts.position
 
 pub texts-loaded : (files : Files) (request : Request) (texts : Texts) → texts_of files request
-    ≡ Ok texts
-    → (loaded files (main_of request) ≡ Ok texts.main) ×
-    (loaded files (draws_of request) ≡ Ok texts.draws)
+    ≡ Ok texts → AreLoaded files request texts
 texts-loaded files request texts e =
-    let m = bind-ok (loaded files (main_of request)) (with_draws files request) texts e in
-    let d = bind-ok (loaded files (draws_of request)) (λ draws. Ok
-    (record { main = m.0; draws = draws })) texts m.2 in
-    let same : record { main = m.0; draws = d.0 } ≡ texts = d_same m.0 d.0 d.2 in
-    (m.1 ∙ ap (λ t. Ok t.main) same, d.1 ∙ ap (λ t. Ok t.draws) same)
-  where
-    d_same : (main draws : List ℕ) → (let r : Result Texts Refusal = Ok
-        (record { main = main; draws = draws }) in r ≡ Ok texts)
-        → record { main = main; draws = draws } ≡ texts
-    d_same main draws f = cc
+    let m = bind-ok (loaded files (main_of request)) (with_later files request) texts e in
+    let l = bind-ok (later_texts_of files request) (λ later. Ok
+    (record { main = m.0; draws = later.0; position = later.1 })) texts m.2 in
+    let each = later-loaded files request l.0 l.1 in
+    let same = same_value (record { main = m.0; draws = l.0.0; position = l.0.1 }) texts l.2 in
+    record {
+      main = m.1 ∙ ap (λ t. Ok t.main) same;
+      draws = each.0 ∙ ap (λ t. Ok t.draws) same;
+      position = each.1 ∙ ap (λ t. Ok t.position) same;
+    }
 
 -- a file that is refused as too long is
 long_file : (files : Files) (asked : Option Load) (name : List ℕ) (limit : ℕ) → loaded files asked
@@ -104,18 +126,35 @@ long_file files (Some load) name limit e = by (loading load (get files load.name
     by (long bytes has more g) = (load, refl, (bytes, has, more))
     by (there bytes has g) = absurd (ok_or_err (loaded files (Some load)) bytes _ g e)
 
+long_later : (files : Files) (request : Request) (name : List ℕ) (limit : ℕ)
+    → later_texts_of files request ≡ Err (too_long name limit)
+    → (load : Load) × IsLoad request load × IsTooLong files load
+long_later files request name limit e =
+    elim (bind-err (loaded files (draws_of request)) (with_position files request)
+    (too_long name limit) e) [
+      | inl d ↦ (let l = long_file files (draws_of request) name limit d in
+          (l.0, inr (inl l.1), l.2))
+      | inr d ↦
+          elim (bind-err (loaded files (position_of request)) (λ position. Ok (d.0, position))
+          (too_long name limit) d.2) [
+            | inl p ↦ (let l = long_file files (position_of request) name limit p in
+                (l.0, inr (inr l.1), l.2))
+            | inr p ↦ absurd (let f = p.2 in cc)
+          ]
+    ]
+
 pub long_one : (files : Files) (request : Request) (name : List ℕ) (limit : ℕ)
     → texts_of files request ≡ Err (too_long name limit)
     → (load : Load) × IsLoad request load × IsTooLong files load
 long_one files request name limit e =
-    elim (bind-err (loaded files (main_of request)) (with_draws files request)
+    elim (bind-err (loaded files (main_of request)) (with_later files request)
     (too_long name limit) e) [
       | inl m ↦ (let l = long_file files (main_of request) name limit m in (l.0, inl l.1, l.2))
       | inr m ↦
-          elim (bind-err (loaded files (draws_of request))
-          (λ draws. Ok (record { main = m.0; draws = draws })) (too_long name limit) m.2) [
-            | inl d ↦ (let l = long_file files (draws_of request) name limit d in
-                (l.0, inr l.1, l.2))
-            | inr d ↦ absurd (let f = d.2 in cc)
+          elim (bind-err (later_texts_of files request)
+          (λ later. Ok (record { main = m.0; draws = later.0; position = later.1 }))
+          (too_long name limit) m.2) [
+            | inl l ↦ long_later files request name limit l
+            | inr l ↦ absurd (let f = l.2 in cc)
           ]
     ]

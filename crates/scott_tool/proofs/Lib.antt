@@ -1,9 +1,11 @@
 pub mod Files
+pub mod Drawn
 pub mod Loaded
 pub mod Statuses
 pub mod Databases
 pub mod Declining
 pub mod Obeying
+pub mod Keeping
 pub mod Readings
 pub mod Promised
 pub mod Refusing
@@ -12,9 +14,13 @@ pub mod Promises
 pub mod Done
 pub mod Replaying
 pub mod Hill
+pub mod Opening
 pub mod Playing
+pub mod Covering
 pub mod Halls
 pub mod Programs
 pub mod Routines
 pub mod Running
+pub mod Calling
 pub mod Translating
+pub mod Simplifying

@@ -25,6 +25,12 @@ pub where_known : (P Q : List (List ℕ) → Type 0) → ((lines : List (List �
 where_known P Q f None h = tt
 where_known P Q f (Some lines) h = f lines h
 
+pub where_both : (known : Option (List (List ℕ))) → (P Q R : List (List ℕ) → Type 0)
+    → ((lines : List (List ℕ)) → P lines → Q lines → R lines)
+    → IfSome known P → IfSome known Q → IfSome known R
+where_both None P Q R f p q = tt
+where_both (Some lines) P Q R f p q = f lines p q
+
 -- the statuses of refusals
 abbrev is_refused : ℕ → Bool
 is_refused n = nat_eq n 1 || (nat_eq n 2 || (nat_eq n 4 ||
@@ -60,14 +66,14 @@ refusal_not refusal n h f = true≢false (sym (refusal_is refusal) ∙ ap is_ref
     ∙ not_refused n h)
 
 -- the files stay where nothing was done
-nothing_done : (shelf : ShelfView) (expected : Result Task Refusal) (status : ℕ) → (status ≡ 0 → ⊥)
-    → Leaves shelf shelf expected status
+pub nothing_done : (shelf : ShelfView) (expected : Result Task Refusal) (status : ℕ)
+    → (status ≡ 0 → ⊥) → Leaves shelf shelf expected status
 nothing_done shelf (Ok (saying text)) status not_0 = refl
 nothing_done shelf (Ok (storing name text)) status not_0 = record
     { stored = λ e. absurd (not_0 e); stay = inr (inl refl) }
 nothing_done shelf (Ok (running ends show)) status not_0 = refl
 nothing_done shelf (Ok (playing show None)) status not_0 = refl
-nothing_done shelf (Ok (playing show (Some save))) status not_0 = inl refl
+nothing_done shelf (Ok (playing show (Some save))) status not_0 = inr (inl refl)
 nothing_done shelf (Err refusal) status not_0 = refl
 
 -- and where what was done is all said
@@ -78,7 +84,7 @@ said_stays shelf (storing name text) status events lines (out, is, e) = absurd
     (let stored = ap (λ o. o.stored) e in cc)
 said_stays shelf (running ends show) status events lines does = refl
 said_stays shelf (playing show None) status events lines does = refl
-said_stays shelf (playing show (Some save)) status events lines does = inl refl
+said_stays shelf (playing show (Some save)) status events lines does = inr (inl refl)
 
 -- what concludes and stores nothing ends so
 concluded : (shelf : ShelfView) (old new : ConsoleView) (o : Outcome) (status : ℕ) → o.stored ≡ None

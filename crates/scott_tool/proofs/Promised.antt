@@ -10,10 +10,10 @@ use Rattle.scott_tool.specs.Refusal.{Refusal, unread, refusing}
 use Rattle.scott_tool.specs.Loading.{Texts, texts_of}
 use Rattle.scott_tool.specs.Work.{Show, Task, saying, storing, running, playing, task_statuses}
 use Rattle.scott_tool.specs.Plan.{work, expected, statuses_of}
-use Rattle.scott_tool.specs.Obeying.{Stands, Answers}
+use Rattle.scott_tool.specs.Obeying.{Stands, Answers, NameKeeps}
 use Rattle.scott_tool.specs.Causes.{OneLoaded, EndsWith0, IsAccepted}
 use Rattle.scott_tool.specs.Outcome.{refused, Concludes, whole, unsaid, unstored, cut_short}
-use Rattle.scott_tool.specs.Promises.{HasStatus, Completes, IsSeen, NameKeeps, KeepsFiles, IsEnd, HasDone, IfKnown, SaysUnread, Counts}
+use Rattle.scott_tool.specs.Promises.{HasStatus, Completes, IsSeen, KeepsFiles, IsEnd, HasDone, IfKnown, SaysUnread, Counts}
 use Rattle.scott_tool.proofs.Statuses.{first}
 use Rattle.scott_tool.specs.Laws.{Laws}
 use Rattle.scott_tool.proofs.Readings.{accepted}

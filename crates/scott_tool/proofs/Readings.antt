@@ -1,7 +1,7 @@
 -- What a plan says of what was loaded for it.
 use Rattle.std.proofs.Common.{◌≡◌, ◌∙◌, ℕ, List, [], Option, Some, None, Result, Ok, Err, refl, sym, ap, subst, inl, inr}
 use Rattle.std.specs.FinMap.{get}
-use Rattle.std.specs.Prelude.{unwrap_or}
+use Rattle.std.specs.Prelude.{Bool, true, false, option_map, unwrap_or}
 use Rattle.adv_draws.specs.Listed.{listed_draws}
 use Rattle.adv_io.specs.Shelf.{Files}
 use Rattle.scott_format.specs.Faults.{Fault}
@@ -15,20 +15,23 @@ use Rattle.inform_tree.specs.Programs.{DirectiveTree}
 use Rattle.inform_reader.specs.Reading as reader
 use Rattle.inform_reader.specs.Reading.{IsProgram, program_in}
 use Rattle.scott_requests.specs.Settings.{DrawSource, listed, seeded}
-use Rattle.scott_requests.specs.Request.{Request, check, compile, decompile, play, translate, run, hall}
+use Rattle.scott_requests.specs.Request.{PlayRequest, Request, check, compile, decompile, play, translate, run, hall, transfer, cover, simplify, calls}
 use Rattle.scott_types.specs.Database.{Database}
 use Rattle.scott_tool.specs.Laws.{Laws}
 use Rattle.scott_tool.specs.Steps.{◌>>=◌}
 use Rattle.scott_tool.specs.Refusal.{Refusal, Unfit, refusing, flaw_status}
-use Rattle.scott_tool.specs.Loading.{Load, main_of, draws_of, stores, late_statuses, draws_load, database_load, source_load, program_load, loaded, Texts}
+use Rattle.scott_tool.specs.Loading.{Load, Loads, loads_of, main_of, draws_of, position_of, stores, late_statuses, draws_load, database_load, source_load, program_load, position_load, loaded, Texts, texts_of}
 use Rattle.scott_tool.specs.Check.{database_or_unfit, database_of_file}
 use Rattle.scott_tool.specs.Compile.{source_or_unfit, meaning_or_unfit, compiled_from, IsNoSource}
-use Rattle.scott_tool.specs.Play.{draws_or_unfit, draws_from, DrawsAre, AreNoDraws}
+use Rattle.scott_tool.specs.Draws.{draws_or_unfit, draws_from, DrawsAre, AreNoDraws}
 use Rattle.trans_rows.specs.Wide.{Placed, wide_at}
 use Rattle.scott_tool.specs.Translate.{translatable_or_unfit, translatable}
+use Rattle.adv_position.specs.Reading.{position_in}
+use Rattle.adv_position.specs.declared.saved.Saved.{Saved}
+use Rattle.scott_tool.specs.Position.{beginning, position_or_unfit, position_of_file, is_at_prompt, prompt_or_unfit, at_prompt_of_file, HasPosition, HasBadLine}
 use Rattle.scott_tool.specs.Run.{program_or_unfit, program_of_file}
-use Rattle.scott_tool.specs.Work.{Task, stored_by, late_of}
-use Rattle.scott_tool.specs.Plan.{Plan, of_game, of_source, of_program, with_draws, narrow, doing, plan, followed, work, Reaches, IsRefused, expected}
+use Rattle.scott_tool.specs.Work.{Task, stored_by, late_of, play_task}
+use Rattle.scott_tool.specs.Plan.{Plan, of_game, of_source, of_program, with_draws, of_position, at_prompt, narrow, doing, opened, plan, followed, work, Reaches, IsRefused, expected}
 use Rattle.scott_tool.specs.Causes.{IsLoadable, EndsWith0, IsAccepted}
 use Rattle.scott_tool.proofs.Files.{bind-ok, bind-err, there-loaded, loaded-there}
 
@@ -106,7 +109,39 @@ translatable_unfit : (name : List ℕ) (db : Database) (wide : Option Placed) (u
 translatable_unfit name db (Some placed) u e = (placed, refl, sym (ap status_in e))
 translatable_unfit name db None u e = absurd cc
 
-program_fit : (name : List ℕ) (read : Result (List DirectiveTree) reader.Fault)
+position_unfit : (name : List ℕ) (read : Result Saved ℕ) (u : Unfit)
+    → position_or_unfit name read ≡ Err u
+    → (line : ℕ) × (read ≡ Err line) × (flaw_status u.flaw ≡ 5)
+position_unfit name (Ok from) u e = absurd cc
+position_unfit name (Err line) u e = (line, refl, sym (ap status_in e))
+
+position_fit : (name : List ℕ) (read : Result Saved ℕ) (from : Saved)
+    → position_or_unfit name read ≡ Ok from → read ≡ Ok from
+position_fit name (Ok other) from e = let same : other ≡ from = cc in ap Ok same
+position_fit name (Err line) from e = absurd cc
+
+prompt_unfit : (name : List ℕ) (from : Saved) (test : Bool) (u : Unfit)
+    → prompt_or_unfit name from test ≡ Err u → (test ≡ false) × (flaw_status u.flaw ≡ 5)
+prompt_unfit name from true u e = absurd cc
+prompt_unfit name from false u e = (refl, sym (ap status_in e))
+
+prompt_fit : (name : List ℕ) (from fit : Saved) (test : Bool)
+    → prompt_or_unfit name from test ≡ Ok fit → test ≡ true
+prompt_fit name from fit true e = refl
+prompt_fit name from fit false e = absurd cc
+
+-- what bytes read as is the position whose text they are, or the first bad line
+has_position : Laws → (db : Database) (bytes : List ℕ) (from : Saved)
+    → position_in db bytes ≡ Ok from → HasPosition db bytes from
+has_position laws db bytes from e =
+    record { read = e; text = λ keeps. (laws.position db bytes from keeps).0 e }
+
+has_bad_line : Laws → (db : Database) (bytes : List ℕ) (line : ℕ)
+    → position_in db bytes ≡ Err line → HasBadLine db bytes line
+has_bad_line laws db bytes line e =
+    record { read = e; bad = λ keeps. (laws.bad_line db bytes line keeps).0 e }
+
+pub program_fit : (name : List ℕ) (read : Result (List DirectiveTree) reader.Fault)
     (p : List DirectiveTree) → program_or_unfit name read ≡ Ok p → read ≡ Ok p
 program_fit name (Ok other) p e = let same : other ≡ p = cc in ap Ok same
 program_fit name (Err fault) p e = absurd cc
@@ -121,53 +156,88 @@ translatable_fit name db fit (Some placed) e = absurd cc
 
 -- a plan reads the files that are loaded, and its task stores under this name and has these other
 -- statuses
-abbrev pub IsMade : (main draws : Option Load) → Option (List ℕ) → (late : List ℕ) → Plan
-    → Type 0
-IsMade main draws name late (of_game file next) =
-    (main ≡ Some (database_load file)) × ((db : Database) → IsMade main draws name late (next db))
-IsMade main draws name late (of_source file next) =
-    (main ≡ Some (source_load file)) × ((db : Database) → IsMade main draws name late (next db))
-IsMade main draws name late (of_program width file next) =
-    (main ≡ Some (program_load file))
-    × ((p : List DirectiveTree) → IsMade main draws name late (next p))
-IsMade main draws name late (with_draws source next) =
-    (draws ≡ draws_load source) × ((ds : List ℕ) → IsMade main draws name late (next ds))
-IsMade main draws name late (narrow width file db next) = IsMade main draws name late next
-IsMade main draws name late (doing task) = (stored_by task ≡ name) × (late_of task ≡ late)
+abbrev pub IsMade : Loads → Option (List ℕ) → (late : List ℕ) → Plan → Type 0
+IsMade loads name late (of_game file next) =
+    (loads.main ≡ Some (database_load file)) × ((db : Database) → IsMade loads name late (next db))
+IsMade loads name late (of_source file next) =
+    (loads.main ≡ Some (source_load file)) × ((db : Database) → IsMade loads name late (next db))
+IsMade loads name late (of_program width file next) =
+    (loads.main ≡ Some (program_load file))
+    × ((p : List DirectiveTree) → IsMade loads name late (next p))
+IsMade loads name late (with_draws source next) =
+    (loads.draws ≡ draws_load source) × ((ds : List ℕ) → IsMade loads name late (next ds))
+IsMade loads name late (of_position file db next) =
+    (loads.position ≡ Some (position_load file))
+    × ((from : Saved) → IsMade loads name late (next from))
+IsMade loads name late (at_prompt file from next) = IsMade loads name late next
+IsMade loads name late (narrow width file db next) = IsMade loads name late next
+IsMade loads name late (doing task) = (stored_by task ≡ name) × (late_of task ≡ late)
+
+-- what a play keeps it keeps under the name that was asked for
+play_stores : (p : PlayRequest) (db : Database) (from : Saved) (ds : List ℕ)
+    (save : Option (List ℕ)) → stored_by (play_task p.style db from ds save) ≡ save
+play_stores p db from ds None = refl
+play_stores p db from ds (Some name) = refl
+
+-- a play opens at its beginning, or at the position that is loaded
+opened_made : (loads : Loads) (name : Option (List ℕ)) (late : List ℕ) (from : Option (List ℕ))
+    (db : Database) (next : Saved → Plan) → loads.position ≡ option_map position_load from
+    → ((saved : Saved) → IsMade loads name late (next saved))
+    → IsMade loads name late (opened from db next)
+opened_made loads name late None db next is more = more (beginning db)
+opened_made loads name late (Some file) db next is more = (is, more)
 
 -- so are the plans of all requests
 pub made : (request : Request)
-    → IsMade (main_of request) (draws_of request) (stores request) (late_statuses request)
-    (plan request)
+    → IsMade (loads_of request) (stores request) (late_statuses request) (plan request)
 made (check game) = (refl, λ db. (refl, refl))
 made (compile source game) = (refl, λ db. (refl, refl))
 made (decompile game source) = (refl, λ db. (refl, refl))
-made (play p) = (refl, λ db. (refl, λ ds. (refl, refl)))
+made (play p) = (
+  refl,
+  λ db. (
+    refl,
+    λ ds. opened_made (loads_of (play p)) p.saved_as (late_statuses (play p)) p.opened_from db
+        (λ from. doing (play_task p.style db from ds p.saved_as)) refl
+        (λ from. (play_stores p db from ds p.saved_as, refl)),
+  ),
+)
 made (translate t) = (refl, λ db. (refl, refl))
 made (run r) = (refl, λ p. (refl, λ ds. (refl, refl)))
 made (hall game count) = (refl, λ db. (refl, refl))
+made (cover c) = (refl, λ db. (refl, λ ds. (refl, refl)))
+made (transfer t) = (refl, λ db. (refl, λ from. (refl, refl)))
+made (simplify s) = (refl, λ p. (refl, refl))
+made (calls r) = (refl, λ p. (refl, λ ds. (refl, refl)))
 
 -- the task of a plan that was followed stores under its name, and has its other statuses
-pub task_made : (main draws : Option Load) (name : Option (List ℕ)) (late : List ℕ)
+pub task_made : (loads : Loads) (name : Option (List ℕ)) (late : List ℕ)
     (texts : Texts) (p : Plan)
-    → IsMade main draws name late p → (task : Task) → followed p texts ≡ Ok task
+    → IsMade loads name late p → (task : Task) → followed p texts ≡ Ok task
     → (stored_by task ≡ name) × (late_of task ≡ late)
-task_made main draws name late texts (of_game file next) (m, more) task w =
+task_made loads name late texts (of_game file next) (m, more) task w =
     let d = bind-ok (database_of_file file texts.main) (λ db. followed (next db) texts) task w in
-    task_made main draws name late texts (next d.0) (more d.0) task d.2
-task_made main draws name late texts (of_source file next) (m, more) task w =
+    task_made loads name late texts (next d.0) (more d.0) task d.2
+task_made loads name late texts (of_source file next) (m, more) task w =
     let d = bind-ok (compiled_from file texts.main) (λ db. followed (next db) texts) task w in
-    task_made main draws name late texts (next d.0) (more d.0) task d.2
-task_made main draws name late texts (of_program width file next) (m, more) task w =
+    task_made loads name late texts (next d.0) (more d.0) task d.2
+task_made loads name late texts (of_program width file next) (m, more) task w =
     let d = bind-ok (program_of_file width file texts.main) (λ p. followed (next p) texts) task w in
-    task_made main draws name late texts (next d.0) (more d.0) task d.2
-task_made main draws name late texts (with_draws source next) (m, more) task w =
+    task_made loads name late texts (next d.0) (more d.0) task d.2
+task_made loads name late texts (with_draws source next) (m, more) task w =
     let d = bind-ok (draws_from source texts.draws) (λ ds. followed (next ds) texts) task w in
-    task_made main draws name late texts (next d.0) (more d.0) task d.2
-task_made main draws name late texts (narrow width file db next) m task w =
+    task_made loads name late texts (next d.0) (more d.0) task d.2
+task_made loads name late texts (of_position file db next) (m, more) task w =
+    let d = bind-ok (position_of_file file db texts.position) (λ from. followed (next from) texts)
+    task w in
+    task_made loads name late texts (next d.0) (more d.0) task d.2
+task_made loads name late texts (at_prompt file from next) m task w =
+    let d = bind-ok (at_prompt_of_file file from) (λ _. followed next texts) task w in
+    task_made loads name late texts next m task d.2
+task_made loads name late texts (narrow width file db next) m task w =
     let d = bind-ok (translatable file width db) (λ _. followed next texts) task w in
-    task_made main draws name late texts next m task d.2
-task_made main draws name late texts (doing other) m task w =
+    task_made loads name late texts next m task d.2
+task_made loads name late texts (doing other) m task w =
     let same : other ≡ task = cc in
     subst (λ (t : Task). (stored_by t ≡ name) × (late_of t ≡ late)) same m
 
@@ -193,19 +263,25 @@ module _ (files : Files) where
       by (Ok other) f g = let same : other ≡ draws = cc in f ∙ ap Ok same
       by (Err at) f g = absurd cc
 
-module _ (laws : Laws) (files : Files) (texts : Texts) (main draws : Option Load)
-    (name : Option (List ℕ)) (late : List ℕ) (main_is : loaded files main ≡ Ok texts.main)
-    (draws_is : loaded files draws ≡ Ok texts.draws) where
+module _ (laws : Laws) (files : Files) (texts : Texts) (loads : Loads)
+    (name : Option (List ℕ)) (late : List ℕ) (main_is : loaded files loads.main ≡ Ok texts.main)
+    (draws_is : loaded files loads.draws ≡ Ok texts.draws)
+    (position_is : loaded files loads.position ≡ Ok texts.position) where
   abbrev Made : Plan → Type 0
-  Made p = IsMade main draws name late p
+  Made p = IsMade loads name late p
 
-  main_there : (load : Load) → main ≡ Some load → get files load.name ≡ Some texts.main
+  main_there : (load : Load) → loads.main ≡ Some load → get files load.name ≡ Some texts.main
   main_there load is =
       there-loaded files load texts.main (ap (λ l. loaded files l) (sym is) ∙ main_is)
 
-  draws_there : (load : Load) → draws ≡ Some load → get files load.name ≡ Some texts.draws
+  draws_there : (load : Load) → loads.draws ≡ Some load → get files load.name ≡ Some texts.draws
   draws_there load is =
       there-loaded files load texts.draws (ap (λ l. loaded files l) (sym is) ∙ draws_is)
+
+  position_there : (load : Load) → loads.position ≡ Some load
+      → get files load.name ≡ Some texts.position
+  position_there load is =
+      there-loaded files load texts.position (ap (λ l. loaded files l) (sym is) ∙ position_is)
 
   -- ---- the task of a plan that was followed
 
@@ -247,6 +323,21 @@ module _ (laws : Laws) (files : Files) (texts : Texts) (main draws : Option Load
         draws_are files source texts.draws d.0 (ap (λ l. loaded files l) (sym m) ∙ draws_is) d.1,
         reached P (next d.0) (more d.0) task d.2 h,
       )
+  reached P (of_position file db next) (m, more) task w h =
+      let d = bind-ok (position_of_file file db texts.position)
+      (λ from. followed (next from) texts) task w in (
+        texts.position,
+        d.0,
+        position_there (position_load file) m,
+        has_position laws db texts.position d.0
+            (position_fit file (position_in db texts.position) d.0 d.1),
+        reached P (next d.0) (more d.0) task d.2 h,
+      )
+  reached P (at_prompt file from next) m task w h =
+      let d = bind-ok (at_prompt_of_file file from) (λ _. followed next texts) task w in (
+        prompt_fit file from d.0 (is_at_prompt from.position) d.1,
+        reached P next m task d.2 h,
+      )
   reached P (narrow width file db next) m task w h =
       let d = bind-ok (translatable file width db) (λ _. followed next texts) task w in (
         translatable_fit file db d.0 (wide_at width db) d.1,
@@ -256,7 +347,7 @@ module _ (laws : Laws) (files : Files) (texts : Texts) (main draws : Option Load
 
   -- ---- the first content that is refused
 
-  no_draws : (source : DrawSource) → draws ≡ draws_load source → (u : Unfit)
+  no_draws : (source : DrawSource) → loads.draws ≡ draws_load source → (u : Unfit)
       → draws_from source texts.draws ≡ Err u
       → (flaw_status u.flaw ≡ 5) × AreNoDraws files source
   no_draws (seeded seed) m u e = absurd cc
@@ -322,6 +413,30 @@ module _ (laws : Laws) (files : Files) (texts : Texts) (main draws : Option Load
           refused_first (next d.0) (more d.0) u d.2,
         )
       ]
+  refused_first (of_position file db next) (m, more) u w = (
+    texts.position,
+    position_there (position_load file) m,
+    elim (bind-err (position_of_file file db texts.position) (λ from. followed (next from) texts) u
+        w) [
+          | inl d ↦ (let f = position_unfit file (position_in db texts.position) u d in
+              inl (f.2, (f.0, has_bad_line laws db texts.position f.0 f.1)))
+          | inr d ↦ inr (
+            d.0,
+            has_position laws db texts.position d.0
+                (position_fit file (position_in db texts.position) d.0 d.1),
+            refused_first (next d.0) (more d.0) u d.2,
+          )
+        ],
+  )
+  refused_first (at_prompt file from next) m u w =
+      elim (bind-err (at_prompt_of_file file from) (λ _. followed next texts) u w) [
+        | inl d ↦ (let f = prompt_unfit file from (is_at_prompt from.position) u d in
+            inl (f.1, f.0))
+        | inr d ↦ inr (
+          prompt_fit file from d.0 (is_at_prompt from.position) d.1,
+          refused_first next m u d.2,
+        )
+      ]
   refused_first (narrow width file db next) m u w =
       elim (bind-err (translatable file width db) (λ _. followed next texts) u w) [
         | inl d ↦ (let f = translatable_unfit file db (wide_at width db) u d in
@@ -335,7 +450,7 @@ module _ (laws : Laws) (files : Files) (texts : Texts) (main draws : Option Load
 
   -- ---- a plan whose contents are what they should be
 
-  draws_read : (source : DrawSource) → draws ≡ draws_load source → (ds : List ℕ)
+  draws_read : (source : DrawSource) → loads.draws ≡ draws_load source → (ds : List ℕ)
       → DrawsAre files source ds → draws_from source texts.draws ≡ Ok ds
   draws_read (seeded seed) m ds is = ap Ok (sym is)
   draws_read (listed file) m ds (bytes, there, lists) =
@@ -369,6 +484,18 @@ module _ (laws : Laws) (files : Files) (texts : Texts) (main draws : Option Load
         ap (λ r. r >>= λ d. followed (next d) texts) (draws_read source m ds are) ∙ rest.1,
         rest.2,
       )
+  comes P (of_position file db next) (m, more) (bytes, from, there, has, h) =
+      let same = same_file files file (position_there (position_load file) m) there in
+      let reads : position_of_file file db texts.position ≡ Ok from = ap (position_of_file file db)
+      same ∙ ap (position_or_unfit file) has.read in
+      let rest = comes P (next from) (more from) h in
+      (rest.0, ap (λ r. r >>= λ d. followed (next d) texts) reads ∙ rest.1, rest.2)
+  comes P (at_prompt file from next) m (at, h) =
+      let rest = comes P next m h in (
+        rest.0,
+        ap (λ b. prompt_or_unfit file from b >>= λ _. followed next texts) at ∙ rest.1,
+        rest.2,
+      )
   comes P (narrow width file db next) m (no_wide, h) =
       let rest = comes P next m h in (
         rest.0,
@@ -388,6 +515,10 @@ reaches_more files P Q f (of_program width file next) (bytes, p, there, text, h)
     (bytes, p, there, text, reaches_more files P Q f (next p) h)
 reaches_more files P Q f (with_draws source next) (ds, are, h) =
     (ds, are, reaches_more files P Q f (next ds) h)
+reaches_more files P Q f (of_position file db next) (bytes, from, there, has, h) =
+    (bytes, from, there, has, reaches_more files P Q f (next from) h)
+reaches_more files P Q f (at_prompt file from next) (at, h) =
+    (at, reaches_more files P Q f next h)
 reaches_more files P Q f (narrow width file db next) (no_wide, h) =
     (no_wide, reaches_more files P Q f next h)
 reaches_more files P Q f (doing task) h = f task h
@@ -403,24 +534,26 @@ module _ (laws : Laws) (files : Files) (request : Request) where
   text_for (Some load) all =
       let h = all load refl in (h.0, loaded-there files load h.0 h.1)
 
-  abbrev rest : List ℕ → Result Texts Refusal
-  rest bytes = loaded files (draws_of request) >>= λ ds. Ok
-      (record { main = bytes; draws = ds })
-
   abbrev come : Result Texts Refusal → Result Task Refusal
   come r = r >>= λ t. refusing (work request t)
+
+  -- all of them
+  all_texts : (main draws position : List ℕ) → loaded files (main_of request) ≡ Ok main
+      → loaded files (draws_of request) ≡ Ok draws
+      → loaded files (position_of request) ≡ Ok position
+      → texts_of files request ≡ Ok (record { main = main; draws = draws; position = position })
+  all_texts main draws position m d p = rw (m, d, p) refl
 
   pub accepted : (left : Option (List (List ℕ))) → IsAccepted files left (Some request)
       → (task : Task) × (expected files (Some request) ≡ Ok task) × EndsWith0 task left
   accepted left (all, reaches) =
       let m = text_for (main_of request) (λ load is. all load (inl is)) in
-      let d = text_for (draws_of request) (λ load is. all load (inr is)) in
-      let texts : Texts = record { main = m.0; draws = d.0 } in
-      let c = comes laws files texts (main_of request) (draws_of request) (stores request)
-      (late_statuses request) m.1 d.1
-      (λ task. EndsWith0 task left) (plan request) (made request) reaches in (
+      let d = text_for (draws_of request) (λ load is. all load (inr (inl is))) in
+      let p = text_for (position_of request) (λ load is. all load (inr (inr is))) in
+      let texts : Texts = record { main = m.0; draws = d.0; position = p.0 } in
+      let c = comes laws files texts (loads_of request) (stores request) (late_statuses request) m.1
+      d.1 p.1 (λ task. EndsWith0 task left) (plan request) (made request) reaches in (
         c.0,
-        ap (λ r. come (r >>= rest)) m.1 ∙ ap (λ r. come (r >>= λ ds. Ok
-            (record { main = m.0; draws = ds }))) d.1 ∙ ap refusing c.1,
+        ap come (all_texts m.0 d.0 p.0 m.1 d.1 p.1) ∙ ap refusing c.1,
         c.2,
       )

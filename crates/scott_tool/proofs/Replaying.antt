@@ -30,7 +30,7 @@ use Rattle.scott_types.specs.Style.{in_style}
 use Rattle.trans_rows.specs.Faithful.{PlaysAlike}
 use Rattle.trans_rows.specs.Same.{EndingIs}
 use Rattle.scott_tool.specs.Laws.{Laws}
-use Rattle.scott_tool.specs.Play.{DrawsAre}
+use Rattle.scott_tool.specs.Draws.{DrawsAre}
 use Rattle.scott_tool.specs.Run.{Ran, ran, stop_after, stop_status, stop_line}
 use Rattle.scott_tool.specs.Replay.{IsReplay, SawPlay, Replayed}
 use Rattle.scott_tool.specs.Promises.{IsEnd, HasRun, HasReplayed}

@@ -33,6 +33,14 @@ use Rattle.scott_tool.specs.Promises.{IsEnd}
 use Rattle.scott_tool.proofs.Statuses.{end_is, not_end}
 use Rattle.scott_tool.proofs.Obeying.{where_known}
 
+-- each way to stop is an end
+pub end_of_stop : (stop : Stop) → IsEnd (stop_status stop)
+end_of_stop (Halted f.Quits) = inl refl
+end_of_stop (Halted (f.Trapped trap at)) = inr (inl refl)
+end_of_stop (Lacking f.NeedsLine) = inl refl
+end_of_stop (Lacking f.NeedsDraw) = inl refl
+end_of_stop (Lacking f.Spent) = inr (inr refl)
+
 module _ (shelf : ShelfView) (old new : ConsoleView) (status : ℕ) (width : Width)
     (p : List DirectiveTree) (draws : List ℕ) (steps : ℕ) where
   abbrev events : List (List ℕ) → List Event
@@ -95,14 +103,6 @@ module _ (shelf : ShelfView) (old new : ConsoleView) (status : ℕ) (width : Wid
 
   abbrev seen_of : List (List ℕ) → List Event
   seen_of lines = shown (trace_of (ran width p steps lines draws).1.past)
-
-  -- each way to stop is an end
-  end_of_stop : (stop : Stop) → IsEnd (stop_status stop)
-  end_of_stop (Halted f.Quits) = inl refl
-  end_of_stop (Halted (f.Trapped trap at)) = inr (inl refl)
-  end_of_stop (Lacking f.NeedsLine) = inl refl
-  end_of_stop (Lacking f.NeedsDraw) = inl refl
-  end_of_stop (Lacking f.Spent) = inr (inr refl)
 
   module _ (mid : ConsoleView) (stop : Stop) where
     -- what the run has shown, and why it stopped

@@ -7,14 +7,15 @@ use Rattle.adv_io.specs.History.{grown}
 use Rattle.adv_io.specs.Shelf.{Files, ShelfView}
 use Rattle.scott_requests.specs.Request.{Request}
 use Rattle.scott_tool.specs.Refusal.{Refusal, Unfit, unfit, refusing, flaw_status}
+use Rattle.scott_tool.specs.Outcome as outcome
 use Rattle.scott_tool.specs.Outcome.{Outcome, statuses, Ends, whole, unsaid, unstored, cut_short}
-use Rattle.scott_tool.specs.Loading.{main_of, draws_of, stores, late_statuses, Texts, texts_of}
+use Rattle.scott_tool.specs.Loading.{loads_of, stores, late_statuses, Texts, texts_of}
 use Rattle.scott_tool.specs.Work.{IsText, Task, saying, storing, running, playing, Does, status_with, stored_by, late_of}
 use Rattle.scott_tool.specs.Plan.{plan, work, Reaches, IsRefused, expected, statuses_of, late_in}
-use Rattle.scott_tool.specs.Obeying.{Keeps, Stands, Answers, Leaves, MayTake, IsSilent, Obeys}
+use Rattle.scott_tool.specs.Obeying.{Keeps, Stands, Answers, Leaves, NameKeeps, MayTake, IsSilent, Obeys}
 use Rattle.scott_tool.specs.Causes.{IsOfContent, EndsWith, HasCause, by_task, by_content, by_run, by_memory, by_console, by_shelf}
 use Rattle.scott_tool.specs.Laws.{Laws}
-use Rattle.scott_tool.specs.Promises.{IfKnown, SaysUnread, NameKeeps, IsEnd, WasDone}
+use Rattle.scott_tool.specs.Promises.{IfKnown, SaysUnread, IsEnd, WasDone}
 use Rattle.scott_tool.proofs.Files.{texts-loaded}
 use Rattle.scott_tool.proofs.Statuses.{is_2, is_3, is_9, is_content, of_content, is_end, task_end, not_end, Tells, of_task, of_fault, of_memory, of_console, of_shelf, tells}
 use Rattle.scott_tool.proofs.Obeying.{refusal_not, unkept_not_end}
@@ -47,7 +48,8 @@ module _ (shelf shelf' : ShelfView) (console console' : ConsoleView) (status : �
   -- what ends as a task does was all seen
   ended_whole : (o : Outcome) → Ends shelf shelf' console console' o status → IsEnd status
       → (status ≡ o.status) × (console'.history ≡ grown console.history o.events)
-  ended_whole o (whole is grew files) end = (is, grew)
+      × (shelf'.files ≡ outcome.kept shelf.files o.stored)
+  ended_whole o (whole is grew files) end = (is, grew, files)
   ended_whole o (unsaid three failed part files) end = absurd
       (not_end status 3 end (λ n. omega arith) (λ n. omega arith) (λ n. omega arith) three)
   ended_whole o (unstored file stored loses said) end = absurd
@@ -58,11 +60,12 @@ module _ (shelf shelf' : ShelfView) (console console' : ConsoleView) (status : �
   abbrev Saw : Task → List (List ℕ) → Type 0
   Saw task lines = (o : Outcome) × Does task lines o × (status ≡ o.status)
       × (console'.history ≡ grown console.history o.events)
+      × (shelf'.files ≡ outcome.kept shelf.files o.stored)
 
   saw : (task : Task) (lines : List (List ℕ)) → IsEnd status
       → Answers shelf shelf' console console' lines (Ok task) status → Saw task lines
   saw task lines end (inl (o, does, ends)) =
-      let all = ended_whole o ends end in (o, does, all.0, all.1)
+      let all = ended_whole o ends end in (o, does, all.0, all.1, all.2)
   saw task lines end (inr silent) = absurd (not_end status 9 end (λ n. omega arith)
       (λ n. omega arith) (λ n. omega arith) silent.0)
 
@@ -101,11 +104,7 @@ module _ (shelf shelf' : ShelfView) (console console' : ConsoleView) (status : �
       by (saying text) h = h
       by (running ends show) h = h
       by (playing show None) h = h
-      by (playing show (Some save)) h = elim h [
-        | inl same ↦ inr (inl same)
-        | inr keeps ↦ kept_some save.name
-            (λ out. (lines : List (List ℕ)) × (save.text lines ≡ Some out)) keeps
-      ]
+      by (playing show (Some save)) h = h
       by (storing other text) h = kept_some other (IsText text) h
 
   stay_named : (name : Option (List ℕ)) → shelf'.files ≡ shelf.files
@@ -136,8 +135,8 @@ module _ (shelf shelf' : ShelfView) (console console' : ConsoleView) (status : �
     done_by task w end =
         from_files shelf.files (λ files. texts_of files request ≡ Ok texts) DoneIn
         (λ files e. let l = texts-loaded files request texts e in
-        reached laws files texts (main_of request) (draws_of request) (stores request)
-        (late_statuses request) l.0 l.1 Done (plan request) (made request) task w
+        reached laws files texts (loads_of request) (stores request) (late_statuses request) l.main
+        l.draws l.position Done (plan request) (made request) task w
         (was_done task (obeys_task task w) end)) there
 
     refused_by : (u : Unfit) → work request texts ≡ Err u → status ≡ flaw_status u.flaw
@@ -147,8 +146,8 @@ module _ (shelf shelf' : ShelfView) (console console' : ConsoleView) (status : �
         (λ files. IsRefused files (plan request) status)
         (λ files e. let l = texts-loaded files request texts e in
         subst (IsRefused files (plan request)) (sym s)
-        (refused_first laws files texts (main_of request) (draws_of request) (stores request)
-        (late_statuses request) l.0 l.1 (plan request) (made request) u w)) there
+        (refused_first laws files texts (loads_of request) (stores request) (late_statuses request)
+        l.main l.draws l.position (plan request) (made request) u w)) there
 
     run_ended : IfSome shelf.files DoneIn
         → IfSome shelf.files (λ files. EndsWith files console.left (Some request) status)
@@ -198,8 +197,8 @@ module _ (shelf shelf' : ShelfView) (console console' : ConsoleView) (status : �
 
     was_made : (task : Task) → work request texts ≡ Ok task
         → (stored_by task ≡ stores request) × (late_of task ≡ late_statuses request)
-    was_made task w = task_made (main_of request) (draws_of request) (stores request)
-        (late_statuses request) texts (plan request) (made request) task w
+    was_made task w = task_made (loads_of request) (stores request) (late_statuses request) texts
+        (plan request) (made request) task w
 
     -- what may have been seen with other statuses is as the request has it
     late_seen : (due : Result Task Unfit) → work request texts ≡ due

@@ -5,10 +5,16 @@ pub mod Loading
 pub mod Check
 pub mod Compile
 pub mod Decompile
+pub mod Draws
+pub mod Position
 pub mod Play
 pub mod Translate
+pub mod Transfer
+pub mod Simplify
 pub mod Run
 pub mod Hall
+pub mod Cover
+pub mod Calls
 pub mod Replay
 pub mod Work
 pub mod Plan

@@ -1,12 +1,12 @@
 -- The files that a request loads, before any of them is read.
-use Rattle.std.specs.Prelude.{◌≡◌, ◌⊎◌, ℕ, nat_le, List, [], length, Option, Some, None, Result, Ok, Err, if◌then◌else◌}
+use Rattle.std.specs.Prelude.{◌≡◌, ◌⊎◌, ℕ, nat_le, List, [], ◌∷◌, length, Option, Some, None, option_map, Result, Ok, Err, if◌then◌else◌}
 use Rattle.std.specs.FinMap.{get}
 use Rattle.adv_io.specs.Shelf.{Files}
-use Rattle.scott_format.specs.declared.reading.TheConstants.{DATABASE_LIMIT}
+use Rattle.scott_format.specs.declared.readers.TheConstants.{DATABASE_LIMIT}
 use Rattle.scott_requests.specs.Settings.{DrawSource, listed, seeded}
-use Rattle.scott_requests.specs.Request.{Request, check, compile, decompile, play, translate, run, hall}
+use Rattle.scott_requests.specs.Request.{Request, check, compile, decompile, play, translate, run, hall, transfer, cover, simplify, calls}
 use Rattle.inform_reader.specs.declared.reading.TheConstants.{PROGRAM_LIMIT}
-use Rattle.scott_tool.specs.declared.loads.TheConstants.{SOURCE_LIMIT, DRAWS_LIMIT}
+use Rattle.scott_tool.specs.declared.loads.TheConstants.{SOURCE_LIMIT, DRAWS_LIMIT, POSITION_LIMIT}
 use Rattle.scott_tool.specs.Steps.{◌>>=◌}
 use Rattle.scott_tool.specs.Refusal.{Refusal, unread, too_long}
 
@@ -28,25 +28,40 @@ abbrev pub draws_load : DrawSource → Option Load
 draws_load (listed name) = Some (record { name = name; limit = DRAWS_LIMIT })
 draws_load (seeded seed) = None
 
+abbrev pub position_load : List ℕ → Load
+position_load name = record { name = name; limit = POSITION_LIMIT }
+
 -- ---- what each request loads, in this order
 
--- its main file, and then its draws
+-- its main file, then its draws, and then the position that it goes on from
 pub record Loads : Type 0 where
   pub main : Option Load
   pub draws : Option Load
+  pub position : Option Load
 
 -- no file but the main one
 abbrev pub only : Load → Loads
-only load = record { main = Some load; draws = None }
+only load = record { main = Some load; draws = None; position = None }
 
 abbrev pub loads_of : Request → Loads
 loads_of (check game) = only (database_load game)
 loads_of (compile source game) = only (source_load source)
 loads_of (decompile game source) = only (database_load game)
-loads_of (play p) = record (only (database_load p.game)) { draws = draws_load p.source }
+loads_of (play p) =
+    record {
+      main = Some (database_load p.game);
+      draws = draws_load p.source;
+      position = option_map position_load p.opened_from;
+    }
 loads_of (translate t) = only (database_load t.game)
 loads_of (run r) = record (only (program_load r.program)) { draws = draws_load r.source }
+loads_of (calls r) = record (only (program_load r.program)) { draws = draws_load r.source }
 loads_of (hall game count) = only (database_load game)
+loads_of (cover c) = record (only (database_load c.game)) { draws = draws_load c.source }
+loads_of (transfer t) =
+    let game = only (database_load t.translation.game) in
+    record game { position = Some (position_load t.opened_from) }
+loads_of (simplify s) = only (program_load s.program)
 
 abbrev pub main_of : Request → Option Load
 main_of request = (loads_of request).main
@@ -54,24 +69,40 @@ main_of request = (loads_of request).main
 abbrev pub draws_of : Request → Option Load
 draws_of request = (loads_of request).draws
 
+abbrev pub position_of : Request → Option Load
+position_of request = (loads_of request).position
+
 -- the name of the file that a request stores
 abbrev pub stores : Request → Option (List ℕ)
 stores (check game) = None
 stores (compile source game) = Some game
 stores (decompile game source) = Some source
-stores (play p) = None
+stores (play p) = p.saved_as
 stores (translate t) = Some t.program
 stores (run r) = None
 stores (hall game count) = None
+stores (transfer t) = Some t.translation.program
+stores (cover c) = None
+stores (simplify s) = Some s.simpler
+stores (calls r) = None
 
 -- the statuses, besides 0, 3, 8 and 10, with which a request may have worked on the console: 2
 -- where a file is stored after that, and 9 where memory is wanted after it
+abbrev pub late_where : {X : Type 0} → Option X → List ℕ
+late_where None = []
+late_where (Some save) = 2 ∷ 9 ∷ []
+
 abbrev pub late_statuses : Request → List ℕ
+late_statuses (play p) = late_where p.saved_as
+late_statuses (cover c) = 9 ∷ []
+late_statuses (calls r) = 9 ∷ []
 late_statuses request = []
 
 -- one of the files that a request loads
 abbrev pub IsLoad : Request → Load → Type 0
-IsLoad request load = (main_of request ≡ Some load) ⊎ (draws_of request ≡ Some load)
+IsLoad request load =
+    (main_of request ≡ Some load) ⊎ (draws_of request ≡ Some load)
+    ⊎ (position_of request ≡ Some load)
 
 -- ---- loading
 
@@ -90,9 +121,17 @@ loaded files (Some load) = within_limit load (get files load.name)
 pub record Texts : Type 0 where
   pub main : List ℕ
   pub draws : List ℕ
+  pub position : List ℕ
+
+-- the draws, and then the position
+abbrev pub later_texts_of : Files → Request → Result (List ℕ × List ℕ) Refusal
+later_texts_of files request = do
+  draws ← loaded files (draws_of request)
+  position ← loaded files (position_of request)
+  Ok (draws, position)
 
 abbrev pub texts_of : Files → Request → Result Texts Refusal
 texts_of files request = do
   main ← loaded files (main_of request)
-  draws ← loaded files (draws_of request)
-  Ok (record { main = main; draws = draws })
+  later ← later_texts_of files request
+  Ok (record { main = main; draws = later.0; position = later.1 })

@@ -1,16 +1,18 @@
 -- What the functions of the program promise each other.
-use Rattle.std.specs.Prelude.{◌≡◌, ◌⊎◌, ◌≤◌, ℕ, List, length, Option, Some, None, IfSome, Result, Ok, Err, Contains, IfOk, IfErr, OnOk, Vec}
-use Rattle.adv_io.specs.Console.{ConsoleView}
+use Rattle.std.specs.Prelude.{◌≡◌, ◌⊎◌, ◌≤◌, ℕ, List, length, Option, Some, None, IfSome, Result, Ok, Err, Contains, MatchResult, IfOk, IfErr, OnOk, Vec}
+use Rattle.adv_io.specs.Console.{ConsoleView, Speaks}
 use Rattle.adv_io.specs.Faults.{Rose}
+use Rattle.adv_io.specs.History.{says}
 use Rattle.adv_io.specs.Shelf.{Files, ShelfView, Lacks, with_file}
+use Rattle.adv_io.specs.declared.faults.ConsoleFault.{ConsoleFault}
 use Rattle.scott_format.specs.declared.faults.FormatFault.{FormatFault}
 use Rattle.scott_format.specs.declared.faults.FormatFault.TheVariants as answer
 use Rattle.scott_requests.specs.Request.{Request}
 use Rattle.scott_tool.specs.declared.refusals.ContentFault.TheVariants.{NoDatabase}
 use Rattle.scott_tool.specs.declared.refusals.Refusal.{Refusal as HeldRefusal}
 use Rattle.scott_tool.specs.Refusal.{Refusal, Unfit, unfit_by, no_request, unread, too_long, unfit, unwritten, refusing}
-use Rattle.scott_tool.specs.Outcome.{Outcome, refused, Concludes, Silent, Loses, Ends}
-use Rattle.scott_tool.specs.Loading.{Load, Texts, main_of, IsLoad, texts_of}
+use Rattle.scott_tool.specs.Outcome.{File, Outcome, refused, Concludes, Silent, Loses, Ends}
+use Rattle.scott_tool.specs.Loading.{Load, Texts, main_of, draws_of, IsLoad, texts_of}
 use Rattle.scott_tool.specs.Work.{Text, IsText, Task, saying, storing, running, playing}
 use Rattle.scott_tool.specs.Plan.{work, statuses_of, late_in, IsExpected}
 use Rattle.scott_tool.specs.Views.{refusal_of}
@@ -38,6 +40,14 @@ pub record Keeps (shelf shelf' : ShelfView) (name : List ℕ) (MayBe : List ℕ 
       × (shelf'.files ≡ with_file shelf.files name bytes)
   pub stay : (status ≡ 0) ⊎ (shelf'.files ≡ shelf.files) ⊎ Loses shelf shelf' name
 
+-- Files stay where nothing is to be stored under a name. Else that name alone has other bytes with
+-- status 0, and may be lost where the shelf failed.
+abbrev pub NameKeeps : (shelf shelf' : ShelfView) → Option (List ℕ) → (status : ℕ) → Type 0
+NameKeeps shelf shelf' None status = shelf'.files ≡ shelf.files
+NameKeeps shelf shelf' (Some name) status =
+    ((status ≡ 0) × ((bytes : List ℕ) × (shelf'.files ≡ with_file shelf.files name bytes)))
+    ⊎ (shelf'.files ≡ shelf.files) ⊎ Loses shelf shelf' name
+
 -- the files after what is expected; they stay where it stores nothing
 abbrev pub Leaves : (shelf shelf' : ShelfView) → Result Task Refusal → (status : ℕ) → Type 0
 Leaves shelf shelf' (Ok (saying text)) status = shelf'.files ≡ shelf.files
@@ -45,8 +55,7 @@ Leaves shelf shelf' (Ok (storing name text)) status = Keeps shelf shelf' name (I
 Leaves shelf shelf' (Ok (running ends show)) status = shelf'.files ≡ shelf.files
 Leaves shelf shelf' (Ok (playing show None)) status = shelf'.files ≡ shelf.files
 Leaves shelf shelf' (Ok (playing show (Some save))) status =
-    (shelf'.files ≡ shelf.files) ⊎ Keeps shelf shelf' save.name
-    (λ out. (lines : List (List ℕ)) × (save.text lines ≡ Some out)) status
+    NameKeeps shelf shelf' (Some save.name) status
 Leaves shelf shelf' (Err refusal) status = shelf'.files ≡ shelf.files
 
 -- only what is done, is a run that ends otherwise, or fails at the console, may take a line; and
@@ -98,6 +107,34 @@ pub record Refuses (old new : ConsoleView) (refusal : Option Refusal) (status : 
   pub later : old.faults ≤ new.faults
   pub console_stays : ConsoleStays old new status
 
+-- why a file wasn't stored: memory ran out and all stayed, or the shelf failed
+abbrev pub FailsToStore : (shelf shelf' : ShelfView) → List ℕ → Option Refusal → Type 0
+FailsToStore shelf shelf' name None = (shelf'.files ≡ shelf.files) × (shelf'.faults ≡ shelf.faults)
+FailsToStore shelf shelf' name (Some (unwritten other)) = (other ≡ name) × Loses shelf shelf' name
+FailsToStore shelf shelf' name (Some _) = ⊥
+
+-- What a call promises that says a report after the console's work: it is said with the status of
+-- that work; or the console failed, with 3; or memory ran out before it, with 9.
+pub data SaysReport (old new : ConsoleView) (text : List ℕ) (ending status : ℕ) : Type 0 where
+  reported : (said : Result Unit ConsoleFault) → Speaks old new said (says text)
+      → MatchResult said (λ _. status ≡ ending) (λ _. status ≡ 3)
+      → SaysReport old new text ending status
+  unreported : new ≡ old → status ≡ 9 → SaysReport old new text ending status
+
+-- what a call promises that keeps a file after the console's work, if there is one
+pub data KeepsAfter (shelf shelf' : ShelfView) (old new : ConsoleView) (file : Option File)
+    (status : ℕ) : Type 0 where
+  nothing : file ≡ None → status ≡ 0 → shelf' ≡ shelf → new ≡ old
+      → KeepsAfter shelf shelf' old new file status
+  stored : (kept : File) → file ≡ Some kept → status ≡ 0
+      → shelf'.files ≡ with_file shelf.files kept.name kept.bytes → shelf'.faults ≡ shelf.faults
+      → new ≡ old → KeepsAfter shelf shelf' old new file status
+  unstored : (kept : File) (refusal : Option Refusal) → file ≡ Some kept
+      → FailsToStore shelf shelf' kept.name refusal → shelf.faults ≤ shelf'.faults
+      → Refuses old new refusal status → KeepsAfter shelf shelf' old new file status
+  starved : (kept : File) → file ≡ Some kept → shelf' ≡ shelf → new ≡ old → status ≡ 9
+      → KeepsAfter shelf shelf' old new file status
+
 -- ---- contents
 
 -- a content is refused as is due, unless memory ran out
@@ -131,12 +168,6 @@ MakesFile name (Ok bytes) expected =
     (text : Text) × (expected ≡ Ok (storing name text)) × IsText text bytes.items
 MakesFile name (Err refusal) expected = Declines expected (refusal_of refusal)
 
--- why a file wasn't stored: memory ran out and all stayed, or the shelf failed
-abbrev pub FailsToStore : (shelf shelf' : ShelfView) → List ℕ → Option Refusal → Type 0
-FailsToStore shelf shelf' name None = (shelf'.files ≡ shelf.files) × (shelf'.faults ≡ shelf.faults)
-FailsToStore shelf shelf' name (Some (unwritten other)) = (other ≡ name) × Loses shelf shelf' name
-FailsToStore shelf shelf' name (Some _) = ⊥
-
 -- ---- files
 
 -- Why files weren't loaded, of which `Loaded` are. That one can't be read can come of a shelf that
@@ -164,9 +195,14 @@ pub record Fetches {T X : Type 0} (view : T → X) (old new : ShelfView) (Loaded
   pub later : old.faults ≤ new.faults
   pub steady : OnOk result (new.faults ≡ old.faults)
 
--- the main file that was loaded is within its limit
-abbrev pub MainFits : Request → Texts → Type 0
-MainFits request texts = IfSome (main_of request) (λ load. length texts.main ≤ load.limit)
+-- bytes that were loaded are within their limit
+abbrev pub IsWithin : Option Load → List ℕ → Type 0
+IsWithin asked bytes = IfSome asked (λ load. length bytes ≤ load.limit)
+
+-- so are the main file and that of the draws
+pub record TextsFit (request : Request) (texts : Texts) : Type 0 where
+  pub main : IsWithin (main_of request) texts.main
+  pub draws : IsWithin (draws_of request) texts.draws
 
 -- ---- requests
 

@@ -1,10 +1,11 @@
 -- What a request asks for: the contents that are read one after the other, and the task at the end.
-use Rattle.std.specs.Prelude.{◌≡◌, ◌⊎◌, ℕ, List, [], ◌∷◌, Option, Some, None, Result, Ok, Err}
+use Rattle.std.specs.Prelude.{◌≡◌, ◌⊎◌, ℕ, true, false, List, [], ◌∷◌, Option, Some, None, Result, Ok, Err}
 use Rattle.std.specs.FinMap.{get}
 use Rattle.adv_check.specs.Report.{report_text}
 use Rattle.adv_compiler.specs.Meaning.{meant}
 use Rattle.adv_decompiler.specs.Plain.{plain}
 use Rattle.adv_io.specs.Shelf.{Files}
+use Rattle.adv_position.specs.declared.saved.Saved.{Saved}
 use Rattle.inform_reader.specs.Reading.{Fault as ProgramFault, IsProgram, IsFaulty}
 use Rattle.inform_tree.specs.declared.widths.Width.{Width}
 use Rattle.inform_tree.specs.Programs.{DirectiveTree}
@@ -12,7 +13,7 @@ use Rattle.scott_format.specs.Canon.{canon}
 use Rattle.scott_format.specs.Faults.{Fault}
 use Rattle.scott_format.specs.File.{DatText, DatFault}
 use Rattle.scott_requests.specs.Settings.{DrawSource}
-use Rattle.scott_requests.specs.Request.{Request, check, compile, decompile, play, translate, run, hall}
+use Rattle.scott_requests.specs.Request.{PlayRequest, Request, check, compile, decompile, play, translate, run, hall, transfer, cover, simplify, calls}
 use Rattle.scott_types.specs.declared.styles.Style.{Style}
 use Rattle.scott_types.specs.Database.{Database}
 use Rattle.source_reader.specs.Text.{SourceText}
@@ -24,21 +25,30 @@ use Rattle.scott_tool.specs.Outcome.{Outcome, refused}
 use Rattle.scott_tool.specs.Loading.{Texts, texts_of}
 use Rattle.scott_tool.specs.Check.{database_of_file}
 use Rattle.scott_tool.specs.Compile.{compiled_from, IsNoSource}
-use Rattle.scott_tool.specs.Play.{draws_from, DrawsAre, AreNoDraws}
+use Rattle.scott_tool.specs.Draws.{draws_from, DrawsAre, AreNoDraws}
+use Rattle.scott_tool.specs.Position.{beginning, position_of_file, is_at_prompt, at_prompt_of_file, HasPosition, HasBadLine}
 use Rattle.scott_tool.specs.Translate.{translatable}
 use Rattle.scott_tool.specs.Run.{program_of_file}
-use Rattle.scott_tool.specs.Work.{exactly, translation, Task, saying, storing, Does, task_statuses, late_of, play_task, run_task, hall_task}
+use Rattle.scott_tool.specs.Work.{exactly, translation, Task, saying, storing, Does, task_statuses, late_of, play_task, run_task, hall_task, cover_task, calls_task, simplification}
 
 -- The file of this name is read as a database, as a source of one, or as a program for words of
--- this width; the draws are read; that no number of the database is too wide for words of this
--- width is found out; or all is read, and this is to be done.
+-- this width; the draws are read; the file of this name is read as a position of a play of the
+-- database; that the position is at a prompt, or that no number of the database is too wide for
+-- words of this width, is found out; or all is read, and this is to be done.
 pub data Plan : Type 0 where
   of_game : List ℕ → (Database → Plan) → Plan
   of_source : List ℕ → (Database → Plan) → Plan
   of_program : Width → List ℕ → (List DirectiveTree → Plan) → Plan
   with_draws : DrawSource → (List ℕ → Plan) → Plan
+  of_position : List ℕ → Database → (Saved → Plan) → Plan
+  at_prompt : List ℕ → Saved → Plan → Plan
   narrow : Width → List ℕ → Database → Plan → Plan
   doing : Task → Plan
+
+-- from the beginning, or from the position that a file has
+abbrev pub opened : Option (List ℕ) → Database → (Saved → Plan) → Plan
+opened None db next = next (beginning db)
+opened (Some name) db next = of_position name db next
 
 -- the plan of each request
 abbrev pub plan : Request → Plan
@@ -46,14 +56,33 @@ plan (check game) = of_game game (λ db. doing (saying (exactly (report_text db)
 plan (compile source game) = of_source source (λ db. doing (storing game (exactly (canon db))))
 plan (decompile game source) = of_game game (λ db. doing (storing source (exactly (plain db))))
 plan (play p) =
-    of_game p.game (λ db. with_draws p.source (λ draws. doing (play_task p.style db draws)))
+    of_game p.game
+    (λ db. with_draws p.source
+    (λ draws. opened p.opened_from db
+    (λ from. doing (play_task p.style db from draws p.saved_as))))
 plan (translate t) =
     of_game t.game
-    (λ db. narrow t.width t.game db (doing (storing t.program (translation t.style t.width db))))
+    (λ db. narrow t.width t.game db
+    (doing (storing t.program (translation t.style t.width db None))))
 plan (run r) =
     of_program r.width r.program
     (λ p. with_draws r.source (λ draws. doing (run_task r.width p r.steps draws)))
+plan (calls r) =
+    of_program r.width r.program
+    (λ p. with_draws r.source (λ draws. doing (calls_task r.width p r.steps draws)))
 plan (hall game count) = of_game game (λ db. doing (hall_task db count))
+plan (cover c) =
+    of_game c.game (λ db. with_draws c.source (λ draws. doing (cover_task c.style db draws)))
+plan (transfer t) =
+    let asked = t.translation in
+    of_game asked.game
+    (λ db. of_position t.opened_from db
+    (λ from. at_prompt t.opened_from from
+    (narrow asked.width asked.game db
+    (doing (storing asked.program (translation asked.style asked.width db (Some from.state)))))))
+plan (simplify s) =
+    of_program s.width s.program
+    (λ p. doing (storing s.simpler (simplification s.width p)))
 
 -- ---- a plan on what was loaded: its task, or the first content that is refused
 
@@ -66,6 +95,10 @@ followed (of_program width name next) texts =
     program_of_file width name texts.main >>= λ p. followed (next p) texts
 followed (with_draws source next) texts =
     draws_from source texts.draws >>= λ draws. followed (next draws) texts
+followed (of_position name db next) texts =
+    position_of_file name db texts.position >>= λ from. followed (next from) texts
+followed (at_prompt name from next) texts =
+    at_prompt_of_file name from >>= λ _. followed next texts
 followed (narrow width name db next) texts = translatable name width db >>= λ _. followed next texts
 followed (doing task) texts = Ok task
 
@@ -73,12 +106,32 @@ followed (doing task) texts = Ok task
 abbrev pub work : Request → Texts → Result Task Unfit
 work request texts = followed (plan request) texts
 
--- the end of the plans of a play and of a run, where the draws are accepted
-abbrev pub playing_from : Style → Database → Result (List ℕ) Unfit → Result Task Unfit
-playing_from style db drawn = drawn >>= λ draws. Ok (play_task style db draws)
+-- where a play opens, by the bytes of the file that has the position, if there is one
+abbrev pub opening_of : Option (List ℕ) → Database → List ℕ → Result Saved Unfit
+opening_of None db bytes = Ok (beginning db)
+opening_of (Some name) db bytes = position_of_file name db bytes
 
+-- the end of the plan of a play, where the draws are accepted, and where the position is too
+abbrev pub playing_with : PlayRequest → Database → Texts → List ℕ → Result Task Unfit
+playing_with p db texts draws =
+    opening_of p.opened_from db texts.position >>= λ from.
+    Ok (play_task p.style db from draws p.saved_as)
+
+abbrev pub playing_from : PlayRequest → Database → Texts → Result (List ℕ) Unfit
+    → Result Task Unfit
+playing_from p db texts drawn = drawn >>= playing_with p db texts
+
+-- the same of a play of which it is told what was tried
+abbrev pub covering_from : Style → Database → Result (List ℕ) Unfit → Result Task Unfit
+covering_from style db drawn = drawn >>= λ draws. Ok (cover_task style db draws)
+
+-- the end of the plan of a run, where the draws are accepted
 abbrev pub running_from : Width → List DirectiveTree → ℕ → Result (List ℕ) Unfit → Result Task Unfit
 running_from width p steps drawn = drawn >>= λ draws. Ok (run_task width p steps draws)
+
+-- the same of a run of which it is told what it entered
+abbrev pub calling_from : Width → List DirectiveTree → ℕ → Result (List ℕ) Unfit → Result Task Unfit
+calling_from width p steps drawn = drawn >>= λ draws. Ok (calls_task width p steps draws)
 
 -- ---- a plan by the files that there are
 
@@ -95,6 +148,11 @@ Reaches files (of_program width name next) P =
     × IsProgram width bytes p × Reaches files (next p) P
 Reaches files (with_draws source next) P =
     (draws : List ℕ) × DrawsAre files source draws × Reaches files (next draws) P
+Reaches files (of_position name db next) P =
+    (bytes : List ℕ) × (from : Saved) × (get files name ≡ Some bytes) × HasPosition db bytes from
+    × Reaches files (next from) P
+Reaches files (at_prompt name from next) P =
+    (is_at_prompt from.position ≡ true) × Reaches files next P
 Reaches files (narrow width name db next) P = (wide_at width db ≡ None) × Reaches files next P
 Reaches files (doing task) P = P task
 
@@ -116,6 +174,13 @@ IsRefused files (of_program width name next) status =
 IsRefused files (with_draws source next) status =
     ((status ≡ 5) × AreNoDraws files source)
     ⊎ ((draws : List ℕ) × DrawsAre files source draws × IsRefused files (next draws) status)
+IsRefused files (of_position name db next) status =
+    (bytes : List ℕ) × (get files name ≡ Some bytes)
+    × (((status ≡ 5) × ((line : ℕ) × HasBadLine db bytes line))
+    ⊎ ((from : Saved) × HasPosition db bytes from × IsRefused files (next from) status))
+IsRefused files (at_prompt name from next) status =
+    ((status ≡ 5) × (is_at_prompt from.position ≡ false))
+    ⊎ ((is_at_prompt from.position ≡ true) × IsRefused files next status)
 IsRefused files (narrow width name db next) status =
     ((status ≡ 7) × ((placed : Placed) × (wide_at width db ≡ Some placed)))
     ⊎ ((wide_at width db ≡ None) × IsRefused files next status)

@@ -1,53 +1,42 @@
--- `play F`: a database is played on the console.
-use Rattle.std.specs.Prelude.{◌≡◌, ℕ, List, Some, Result, Ok, Err}
-use Rattle.std.specs.FinMap.{get}
-use Rattle.adv_draws.specs.Listed.{listed_draws}
-use Rattle.adv_draws.specs.Seeded.{seeded_draws}
-use Rattle.adv_draws.specs.declared.faults.DrawFault.TheVariants.{NotADraw}
+-- `play F`: a database is played on the console, and the position is kept where it stops.
+use Rattle.std.specs.Prelude.{◌≡◌, ℕ, List, Option, Some, None}
+use Rattle.std.specs.FinMap.{get, insert}
 use Rattle.adv_io.specs.Console.{ConsoleView}
-use Rattle.adv_io.specs.History.{grown, shown}
+use Rattle.adv_io.specs.History.{grown}
 use Rattle.adv_io.specs.Shelf.{Files}
+use Rattle.adv_position.specs.declared.saved.Saved.{Saved}
 use Rattle.scott_format.specs.File.{DatText}
-use Rattle.scott_requests.specs.Settings.{DrawSource, listed, seeded}
-use Rattle.scott_rules.specs.Play as rules
-use Rattle.adv_io.specs.Steps.{trace_of}
-use Rattle.scott_types.specs.declared.styles.Style.{Style}
+use Rattle.scott_requests.specs.Request.{PlayRequest}
 use Rattle.scott_types.specs.Database.{Database}
-use Rattle.scott_types.specs.Style.{in_style}
-use Rattle.scott_tool.specs.Refusal.{Unfit, unfit_by}
-use Rattle.scott_tool.specs.declared.refusals.ContentFault.TheVariants.{NoDraws}
+use Rattle.scott_tool.specs.Draws.{DrawsAre}
+use Rattle.scott_tool.specs.Position.{beginning, HasPosition, stopped_text}
+use Rattle.scott_tool.specs.Work.{play_from, play_events}
 
--- the draws that a file lists, or the place of its first run that is none
-abbrev pub draws_or_unfit : List ℕ → Result (List ℕ) ℕ → Result (List ℕ) Unfit
-draws_or_unfit name (Ok draws) = Ok draws
-draws_or_unfit name (Err at) = Err (unfit_by name (NoDraws (NotADraw at)))
+-- the play opens at its beginning, or at the position of a file
+abbrev pub OpensAt : Files → Database → Option (List ℕ) → Saved → Type 0
+OpensAt files db None from = from ≡ beginning db
+OpensAt files db (Some name) from =
+    (bytes : List ℕ) × (get files name ≡ Some bytes) × HasPosition db bytes from
 
--- the draws of a play, by the bytes of their file
-abbrev pub draws_from : DrawSource → List ℕ → Result (List ℕ) Unfit
-draws_from (listed name) bytes = draws_or_unfit name (listed_draws bytes)
-draws_from (seeded seed) bytes = Ok (seeded_draws seed)
-
--- these are the draws of a play
-abbrev pub DrawsAre : Files → DrawSource → List ℕ → Type 0
-DrawsAre files (listed name) draws =
-    (bytes : List ℕ) × (get files name ≡ Some bytes) × (listed_draws bytes ≡ Ok draws)
-DrawsAre files (seeded seed) draws = draws ≡ seeded_draws seed
-
--- the file of draws is there, and has a run of bytes that is no draw
-abbrev pub AreNoDraws : Files → DrawSource → Type 0
-AreNoDraws files (listed name) =
-    (bytes : List ℕ) × (at : ℕ) × (get files name ≡ Some bytes) × (listed_draws bytes ≡ Err at)
-AreNoDraws files (seeded seed) = ⊥
+-- the files after a play that stopped there: the position is kept, if there is one and it is asked
+-- for
+abbrev pub position_kept : Files → Option (List ℕ) → Option (List ℕ) → Files
+position_kept files (Some name) (Some text) = insert files name text
+position_kept files _ _ = files
 
 -- What status 0 means: the file is a text of a database, and the console saw what the play of it in
--- this style says and takes, with these lines and its draws.
-pub record Played (files : Files) (lines : List (List ℕ)) (game : List ℕ) (source : DrawSource)
-    (style : Style) (old new : ConsoleView) : Type 0 where
+-- this style says and takes, with these lines and its draws, from the position where it opens. As
+-- many draws were dropped as were taken before. Where it stops the position is kept.
+pub record Played (files : Files) (lines : List (List ℕ)) (p : PlayRequest)
+    (old new : ConsoleView) (after : Option Files) : Type 0 where
   pub bytes : List ℕ
   pub db : Database
   pub draws : List ℕ
-  pub there : get files game ≡ Some bytes
+  pub from : Saved
+  pub there : get files p.game ≡ Some bytes
   pub text : DatText bytes db
-  pub draws_are : DrawsAre files source draws
-  pub seen : new.history
-      ≡ grown old.history (shown (trace_of (rules.play (in_style style db) lines draws).events))
+  pub draws_are : DrawsAre files p.source draws
+  pub opens : OpensAt files db p.opened_from from
+  pub seen : new.history ≡ grown old.history (play_events p.style db from draws lines)
+  pub kept : after ≡ Some (position_kept files p.saved_as
+      (stopped_text draws (play_from p.style db from draws lines).value))

@@ -3,25 +3,29 @@ use Rattle.std.specs.Prelude.{◌≡◌, ◌⊎◌, ◌≤◌, ℕ, List, [], �
 use Rattle.adv_io.specs.Console.{ConsoleView}
 use Rattle.adv_io.specs.Faults.{Rose}
 use Rattle.adv_io.specs.History.{grown}
-use Rattle.adv_io.specs.Shelf.{Files, ShelfView, with_file}
-use Rattle.scott_requests.specs.Request.{PlayRequest, TranslationRequest, RunRequest, Request, check, compile, decompile, play, translate, run, hall}
+use Rattle.adv_io.specs.Shelf.{Files, ShelfView}
+use Rattle.scott_requests.specs.Request.{PlayRequest, TranslationRequest, RunRequest, TransferRequest, CoverRequest, Request, check, compile, decompile, play, translate, run, hall, transfer, cover, SimplifyRequest, simplify, calls}
 use Rattle.scott_types.specs.declared.styles.Style.{Style}
 use Rattle.scott_types.specs.Database.{Database}
 use Rattle.scott_tool.specs.Refusal.{no_request, unread}
-use Rattle.scott_tool.specs.Outcome.{statuses, Outcome, refused, Concludes, Loses}
+use Rattle.scott_tool.specs.Outcome.{statuses, Outcome, refused, kept, Concludes}
 use Rattle.scott_tool.specs.Loading.{stores, late_statuses}
 use Rattle.scott_tool.specs.Work.{Task, Does}
 use Rattle.scott_tool.specs.Plan.{Reaches, expected, statuses_of}
-use Rattle.scott_tool.specs.Obeying.{Stands, Answers, Leaves, MayTake, IsSilent, ShelfStays, ConsoleStays}
+use Rattle.scott_tool.specs.Obeying.{Stands, Answers, Leaves, NameKeeps, MayTake, IsSilent, ShelfStays, ConsoleStays}
 use Rattle.scott_tool.specs.Causes.{OneLoaded, HasPlan, HasCause, IsAccepted}
 use Rattle.scott_tool.specs.Check.{Checked}
 use Rattle.scott_tool.specs.Compile.{Compiled}
 use Rattle.scott_tool.specs.Decompile.{Decompiled}
 use Rattle.scott_tool.specs.Play.{Played}
 use Rattle.scott_tool.specs.Translate.{Translated}
+use Rattle.scott_tool.specs.Transfer.{Transferred}
+use Rattle.scott_tool.specs.Simplify.{Simplified}
 use Rattle.scott_tool.specs.Run.{Ran}
 use Rattle.scott_tool.specs.Replay.{IsReplay, Replayed}
 use Rattle.scott_tool.specs.Hall.{HallPlayed}
+use Rattle.scott_tool.specs.Cover.{Covered}
+use Rattle.scott_tool.specs.Calls.{Called}
 
 -- where the files and the lines are known, this holds of both
 abbrev pub IfKnown : ShelfView → ConsoleView → (Files → List (List ℕ) → Type 0) → Type 0
@@ -81,14 +85,6 @@ pub record IsSeen (shelf shelf' : ShelfView) (console console' : ConsoleView)
 
 -- ---- the files
 
--- They stay where nothing is to be stored under a name. Else that name alone has other bytes with
--- status 0, and may be lost where the shelf failed.
-abbrev pub NameKeeps : (shelf shelf' : ShelfView) → Option (List ℕ) → (status : ℕ) → Type 0
-NameKeeps shelf shelf' None status = shelf'.files ≡ shelf.files
-NameKeeps shelf shelf' (Some name) status =
-    ((status ≡ 0) × ((bytes : List ℕ) × (shelf'.files ≡ with_file shelf.files name bytes)))
-    ⊎ (shelf'.files ≡ shelf.files) ⊎ Loses shelf shelf' name
-
 abbrev pub KeepsFiles : (shelf shelf' : ShelfView) → Option Request → (status : ℕ) → Type 0
 KeepsFiles shelf shelf' None status = shelf'.files ≡ shelf.files
 KeepsFiles shelf shelf' (Some request) status = NameKeeps shelf shelf' (stores request) status
@@ -99,13 +95,14 @@ KeepsFiles shelf shelf' (Some request) status = NameKeeps shelf shelf' (stores r
 abbrev pub IsEnd : (status : ℕ) → Type 0
 IsEnd status = (status ≡ 0) ⊎ (status ≡ 8) ⊎ (status ≡ 10)
 
--- The console saw what the task does with the lines that are left, and the status is its own; and
--- the file that it stores is there.
+-- The console saw what the task does with the lines that are left, the status is its own, and the
+-- file that it stores is there.
 pub record WasDone (shelf shelf' : ShelfView) (console console' : ConsoleView) (task : Task)
     (status : ℕ) : Type 0 where
   pub seen : IfSome console.left
       (λ lines. (o : Outcome) × Does task lines o × (status ≡ o.status)
-      × (console'.history ≡ grown console.history o.events))
+      × (console'.history ≡ grown console.history o.events)
+      × (shelf'.files ≡ kept shelf.files o.stored))
   pub files : Leaves shelf shelf' (Ok task) status
 
 -- Each content of the request was what it should be, and its task was done. So it is with 0, and
@@ -134,17 +131,28 @@ HasDecompiled shelf shelf' asked =
     (game source : List ℕ) → asked ≡ Some (decompile game source)
     → IfSome shelf.files (λ files. Decompiled files game source shelf'.files)
 
-abbrev pub HasPlayed : ShelfView → (console console' : ConsoleView) → Option Request → Type 0
-HasPlayed shelf console console' asked =
+abbrev pub HasPlayed : (shelf shelf' : ShelfView) → (console console' : ConsoleView)
+    → Option Request → Type 0
+HasPlayed shelf shelf' console console' asked =
     (p : PlayRequest) → asked ≡ Some (play p)
     → IfKnown shelf console
-    (λ files lines. Played files lines p.game p.source p.style console console')
+    (λ files lines. Played files lines p console console' shelf'.files)
 
 abbrev pub HasTranslated : (shelf shelf' : ShelfView) → Option Request → Type 0
 HasTranslated shelf shelf' asked =
     (t : TranslationRequest) → asked ≡ Some (translate t)
     → IfSome shelf.files
     (λ files. Translated files t.game t.program t.style t.width shelf'.files)
+
+abbrev pub HasTransferred : (shelf shelf' : ShelfView) → Option Request → Type 0
+HasTransferred shelf shelf' asked =
+    (t : TransferRequest) → asked ≡ Some (transfer t)
+    → IfSome shelf.files (λ files. Transferred files t shelf'.files)
+
+abbrev pub HasSimplified : (shelf shelf' : ShelfView) → Option Request → Type 0
+HasSimplified shelf shelf' asked =
+    (s : SimplifyRequest) → asked ≡ Some (simplify s)
+    → IfSome shelf.files (λ files. Simplified files s shelf'.files)
 
 -- with 0, and with the statuses of a run that ends otherwise
 abbrev pub HasRun : ShelfView → (console console' : ConsoleView) → Option Request → (status : ℕ)
@@ -167,6 +175,18 @@ abbrev pub HasPlayedHall : ShelfView → (console console' : ConsoleView) → Op
 HasPlayedHall shelf console console' asked =
     (game : List ℕ) (count : ℕ) → asked ≡ Some (hall game count)
     → IfKnown shelf console (λ files lines. HallPlayed files lines game count console console')
+
+abbrev pub HasCovered : ShelfView → (console console' : ConsoleView) → Option Request → Type 0
+HasCovered shelf console console' asked =
+    (c : CoverRequest) → asked ≡ Some (cover c)
+    → IfKnown shelf console (λ files lines. Covered files lines c console console')
+
+-- with 0, and with the statuses of a run that ends otherwise
+abbrev pub HasCalled : ShelfView → (console console' : ConsoleView) → Option Request
+    → (status : ℕ) → Type 0
+HasCalled shelf console console' asked status =
+    (r : RunRequest) → asked ≡ Some (calls r)
+    → IfKnown shelf console (λ files lines. Called files lines r console console' status)
 
 -- ---- counts of faults
 

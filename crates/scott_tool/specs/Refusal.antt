@@ -8,10 +8,10 @@ use Rattle.inform_reader.specs.FaultTexts as program
 use Rattle.source_reader.specs.FaultTexts as source
 use Rattle.translator.specs.FaultTexts as translator
 use Rattle.scott_tool.specs.declared.refusals.ContentFault.{ContentFault}
-use Rattle.scott_tool.specs.declared.refusals.ContentFault.TheVariants.{NoDatabase, NoSource, NoMeaning, NoDraws, NoProgram, NoTranslation}
+use Rattle.scott_tool.specs.declared.refusals.ContentFault.TheVariants.{NoDatabase, NoSource, NoMeaning, NoDraws, NoPosition, NotAtPrompt, NoProgram, NoTranslation}
 
--- what is wrong with a content: it is no database; no source of one, or no draws; no program that
--- is accepted; or it has a number that is too wide
+-- what is wrong with a content: it is no database; no source of one, no draws, or no position that
+-- serves; no program that is accepted; or it has a number that is too wide
 pub data Flaw : Type 0 where
   bad_database : Flaw
   bad_text : Flaw
@@ -59,7 +59,7 @@ status_of (unwritten name) = 2
 unfoldable pub usage : List ℕ
 usage =
     codes "usage: scott check F | compile S F | decompile F S | play F | translate F G | run G"
-    ++ codes " | hall F N\n"
+    ++ codes " | hall F N | transfer F P G | cover F | simplify G H | calls G\n"
 
 unfoldable pub cannot_read : List ℕ
 cannot_read = codes "cannot read "
@@ -79,6 +79,12 @@ bytes_end = codes " bytes\n"
 unfoldable pub line_end : List ℕ
 line_end = codes "\n"
 
+unfoldable pub no_position : List ℕ
+no_position = codes "not a position in line "
+
+unfoldable pub waits_for_draw : List ℕ
+waits_for_draw = codes "waits for a draw"
+
 abbrev pub whole : List (List ℕ) → List ℕ
 whole pieces = flat_map (λ piece. piece) pieces
 
@@ -97,6 +103,8 @@ flaw_of (NoDatabase fault) = bad_database
 flaw_of (NoSource fault) = bad_text
 flaw_of (NoMeaning fault) = bad_text
 flaw_of (NoDraws fault) = bad_text
+flaw_of (NoPosition fault) = bad_text
+flaw_of NotAtPrompt = bad_text
 flaw_of (NoProgram fault) = bad_program
 flaw_of (NoTranslation fault) = bad_width
 
@@ -105,6 +113,8 @@ content_pieces (NoDatabase fault) = format.fault_pieces fault
 content_pieces (NoSource fault) = source.fault_pieces fault
 content_pieces (NoMeaning fault) = compiler.fault_pieces fault
 content_pieces (NoDraws fault) = draws.fault_pieces fault
+content_pieces (NoPosition fault) = no_position ∷ decimal fault.0 ∷ []
+content_pieces NotAtPrompt = waits_for_draw ∷ []
 content_pieces (NoProgram fault) = program.fault_pieces fault
 content_pieces (NoTranslation fault) = translator.fault_pieces fault
 

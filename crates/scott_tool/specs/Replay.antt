@@ -15,7 +15,7 @@ use Rattle.scott_types.specs.Database.{Database}
 use Rattle.scott_types.specs.Style.{in_style}
 use Rattle.trans_rows.specs.Steps.{enough}
 use Rattle.translator.specs.Faithful.{Faithful}
-use Rattle.scott_tool.specs.Play.{DrawsAre}
+use Rattle.scott_tool.specs.Draws.{DrawsAre}
 
 -- The file of this name is the text of a program that is faithful to a database in this style, as
 -- `translate` stores it; the lines are typed ones, and the steps are enough for them.

@@ -19,7 +19,7 @@ use Rattle.inform_reader.specs.Reading.{Fault, IsProgram, program_in}
 use Rattle.inform_reader.specs.Views.{fault_answer}
 use Rattle.scott_requests.specs.Settings.{DrawSource}
 use Rattle.scott_tool.specs.Refusal.{Unfit, unfit_by, whole}
-use Rattle.scott_tool.specs.Play.{DrawsAre}
+use Rattle.scott_tool.specs.Draws.{DrawsAre}
 use Rattle.scott_tool.specs.declared.refusals.ContentFault.TheVariants.{NoProgram}
 
 -- the program that a file's bytes read as, where words have this width, or what is wrong with it

@@ -22,7 +22,12 @@ abbrev pub load_of : HeldLoad → Load
 load_of load = record { name = load.name.now; limit = load.limit }
 
 abbrev pub texts_in : HeldTexts → Texts
-texts_in texts = record { main = texts.main.items; draws = texts.draws.items }
+texts_in texts =
+    record {
+      main = texts.main.items;
+      draws = texts.draws.items;
+      position = texts.position.items;
+    }
 
 -- the number of a status
 abbrev pub number_of : Status → ℕ

@@ -4,31 +4,39 @@ ghost use Rattle.scott_requests.specs.Views.{request_of};
 ghost use Rattle.scott_tool.specs.Refusal.{refusing};
 ghost use Rattle.scott_tool.specs.Plan.{work};
 ghost use Rattle.scott_tool.specs.Views.{texts_in, number_of};
-ghost use Rattle.scott_tool.specs.Obeying.{Obeys, MainFits};
+ghost use Rattle.scott_tool.specs.Obeying.{Obeys, TextsFit};
 
+mod calls;
 mod check;
 mod compile;
+mod cover;
 mod decompile;
 mod hall;
 mod play;
 mod run;
 mod saying;
+mod simplify;
 mod storing;
+mod transfer;
 mod translate;
 
 use crate::loads::Texts;
 use crate::status::Status;
 use adv_io::{Console, Shelf};
+use calls::calls;
 use check::report_on;
 use compile::database_text;
+use cover::cover;
 use decompile::source_text;
 use hall::play_hall;
 use play::play;
 use run::run;
 use saying::say_made;
 use scott_requests::Request;
+use simplify::simpler_text;
 use std::alloc::Global;
 use storing::store_made;
+use transfer::opened_program_text;
 use translate::program_text;
 
 /// Does what was asked for.
@@ -39,7 +47,7 @@ pub fn work<S: Shelf, C: Console>(
     shelf: &mut S,
     console: &mut C,
 ) -> Status
-    requires fits { MainFits (request_of request) (texts_in texts.now) }
+    requires fits { TextsFit (request_of request) (texts_in texts.now) }
     requires sized { IsSized (request_of request) }
     ensures { Obeys (S.seen shelf.old) (S.seen shelf.new) (C.seen console.old) (C.seen console.new)
         (refusing (work (request_of request.entry) (texts_in texts.now))) (number_of result) }
@@ -54,12 +62,22 @@ pub fn work<S: Shelf, C: Console>(
             let made = source_text(alloc, game, source, texts);
             store_made(alloc, source, made, shelf, console)
         }
-        Request::Play(asked) => play(alloc, asked, texts, console),
+        Request::Play(asked) => play(alloc, asked, texts, shelf, console),
         Request::Translate(asked) => {
             let made = program_text(alloc, asked, texts);
             store_made(alloc, asked.program, made, shelf, console)
         }
         Request::Run(asked) => run(alloc, asked, texts, console),
+        Request::Calls(asked) => calls(alloc, asked, texts, console),
         Request::Hall(game, count) => play_hall(alloc, game, count, texts, console),
+        Request::Cover(asked) => cover(alloc, asked, texts, console),
+        Request::Transfer(asked) => {
+            let made = opened_program_text(alloc, asked, texts);
+            store_made(alloc, asked.translation.program, made, shelf, console)
+        }
+        Request::Simplify(asked) => {
+            let made = simpler_text(alloc, asked, texts);
+            store_made(alloc, asked.simpler, made, shelf, console)
+        }
     }
 }

@@ -1,5 +1,6 @@
 //! What the bytes of a file hold, or why they are refused.
-ghost use Rattle.std.specs.Prelude.{◌≡◌, ◌≤◌, None, IfOk, length};
+ghost use Rattle.std.specs.Prelude.{◌≡◌, ◌≤◌, ◌+◌, ◌*◌, IfOk, IfSome, length, option_map};
+ghost use Rattle.std.specs.Option.{option_copied};
 ghost use Rattle.scott_requests.specs.Views.{source_of};
 ghost use Rattle.adv_compiler.specs.Meaning.{meant};
 ghost use Rattle.adv_draws.specs.Listed.{listed_draws};
@@ -7,23 +8,31 @@ ghost use Rattle.source_reader.specs.Text.{source_in};
 ghost use Rattle.source_reader.specs.WellFormed.{WellFormed};
 ghost use Rattle.scott_tool.specs.Check.{database_of_file};
 ghost use Rattle.scott_tool.specs.Compile.{source_or_unfit, meaning_or_unfit, compiled_from};
-ghost use Rattle.scott_tool.specs.Play.{draws_or_unfit, draws_from};
+ghost use Rattle.scott_tool.specs.Draws.{draws_or_unfit, draws_from};
+ghost use Rattle.scott_types.specs.State.{Fits};
+ghost use Rattle.scott_turn.specs.Positions.{CanStand};
+ghost use Rattle.scott_tool.specs.Loading.{draws_load};
+ghost use Rattle.adv_position.specs.declared.saved.TheConstants.{TAKEN_LIMIT};
+ghost use Rattle.scott_tool.specs.Position.{position_of_file, at_prompt_of_file};
+ghost use Rattle.scott_tool.specs.Plan.{opening_of};
 ghost use Rattle.scott_tool.specs.Translate.{translatable};
 ghost use Rattle.scott_tool.specs.Run.{program_of_file};
 ghost use Rattle.translator.specs.Faithful.{Faithful};
 ghost use Rattle.inform_names.specs.Views.{directives_of};
 ghost use Rattle.scott_tool.specs.Views.{refusal_of};
-ghost use Rattle.scott_tool.specs.Obeying.{Gives, database_refusal};
+ghost use Rattle.scott_tool.specs.Obeying.{Gives, IsWithin, database_refusal};
 
 use crate::refusals::{ContentFault, Refusal};
 use adv_compiler::{CompileFault, compile};
 use adv_draws::{DrawFault, Draws};
+use adv_position::{Saved, read_position};
 use inform_names::Accepted;
 use inform_reader::{ProgramFault, read_program};
 use inform_tree::Width;
 use scott_format::{DATABASE_LIMIT, FormatFault, read_db};
 use scott_requests::DrawSource;
-use scott_types::{Db, Style};
+use scott_types::laws::start_fits;
+use scott_types::{Db, Position, State, Style};
 use source_reader::{Source, SourceFault, read_source};
 use std::alloc::Global;
 use std::mem::forget;
@@ -87,8 +96,10 @@ pub fn compiled<'a>(alloc: Global, name: &'a str, bytes: &[u8]) -> Result<Db, Re
 
 // The draws that a file's bytes list.
 fn listed<'a>(alloc: Global, name: &'a str, bytes: &[u8]) -> Result<Draws, Refusal<'a>>
-    ensures { Gives (λ draws. draws.left) result
+    ensures given { Gives (λ draws. draws.left) result
         (draws_or_unfit name.now (listed_draws bytes.now)) }
+    ensures fresh { IfOk result (λ draws. draws.taken ≡ 0) }
+    ensures short { IfOk result (λ draws. 2 * length draws.left ≤ length bytes.now + 1) }
 {
     match Draws::listed(alloc, bytes) {
         Ok(draws) => Ok(draws),
@@ -99,32 +110,40 @@ fn listed<'a>(alloc: Global, name: &'a str, bytes: &[u8]) -> Result<Draws, Refus
     }
 }
 
-/// The text of a program that is faithful to a database, in this style and for words of this width.
-/// The file of this name has the database.
+/// The text of a program that is faithful to a database, in this style and for words of this width,
+/// from its beginning or from a state after a prompt. The file of this name has the database.
 pub fn translated<'a>(
     alloc: Global,
     name: &'a str,
     db: &Db,
     style: Style,
     width: Width,
+    from: Option<&State>,
 ) -> Result<Vec<u8>, Refusal<'a>>
+    requires fits { IfSome from (λ s. Fits db.now s.now) }
     ensures given { Gives (λ _. db.now) result (translatable name.now width db.now) }
-    ensures faithful { IfOk result (λ text. Faithful style width db.now None text.items) }
+    ensures faithful { IfOk result (λ text. Faithful style width db.now
+        (option_map (λ s. s.now) from.entry) text.items) }
 {
-    match translate(alloc, db, style, width, None) {
+    match translate(alloc, db, style, width, from) {
         Ok(text) => Ok(text),
         Err(TransFault::Memory) => Err(Refusal::Memory),
         Err(fault) => Err(Refusal::Unfit(name, ContentFault::NoTranslation(fault))),
     }
 }
 
-/// The draws of a play, by the bytes of their file.
+/// The draws of a play, by the bytes of their file. Where these are within their limit there are no
+/// more than a position can say were taken.
 pub fn draws_from<'a>(
     alloc: Global,
     source: DrawSource<'a>,
     bytes: &[u8],
 ) -> Result<Draws, Refusal<'a>>
-    ensures { Gives (λ draws. draws.left) result (draws_from (source_of source.entry) bytes.now) }
+    ensures given { Gives (λ draws. draws.left) result
+        (draws_from (source_of source.entry) bytes.now) }
+    ensures fresh { IfOk result (λ draws. draws.taken ≡ 0) }
+    ensures few { IfOk result (λ draws. IsWithin (draws_load (source_of source.entry)) bytes.now
+        → length draws.left ≤ TAKEN_LIMIT) }
 {
     match source {
         DrawSource::Listed(name) => listed(alloc, name, bytes),
@@ -147,5 +166,49 @@ pub fn program<'a>(
         Ok(accepted) => Ok(accepted),
         Err(ProgramFault::Memory) => Err(Refusal::Memory),
         Err(fault) => Err(Refusal::Unfit(name, ContentFault::NoProgram(fault))),
+    }
+}
+
+/// The position of a play of the database that a file's bytes have.
+pub fn position<'a>(name: &'a str, db: &Db, bytes: &[u8]) -> Result<Saved, Refusal<'a>>
+    ensures given { Gives (λ from. from) result (position_of_file name.now db.now bytes.now) }
+    ensures fits { IfOk result (λ from. Fits db.now from.state) }
+    ensures stands { IfOk result (λ from. CanStand db.now from.position) }
+{
+    match read_position(db, bytes) {
+        Ok(from) => Ok(from),
+        Err(fault) => Err(Refusal::Unfit(name, ContentFault::NoPosition(fault))),
+    }
+}
+
+/// Where a play of the database opens: at its beginning, or at the position that the bytes of the
+/// file of this name have.
+pub fn opening<'a>(from: Option<&'a str>, db: &Db, bytes: &[u8]) -> Result<Saved, Refusal<'a>>
+    ensures given { Gives (λ from. from) result
+        (opening_of (option_copied from.entry) db.now bytes.now) }
+    ensures fits { IfOk result (λ from. Fits db.now from.state) }
+    ensures stands { IfOk result (λ from. CanStand db.now from.position) }
+{
+    match from {
+        Some(name) => position(name, db, bytes),
+        None => {
+            start_fits();
+            let _ = db.parts();
+            Ok(Saved {
+                state: State::start(db),
+                position: Position::Fresh,
+                taken: 0,
+            })
+        }
+    }
+}
+
+/// Whether a position stands at its prompt. The file of this name has it.
+pub fn test_prompt<'a>(name: &'a str, from: &Saved) -> Result<(), Refusal<'a>>
+    ensures { Gives (λ _. from.now) result (at_prompt_of_file name.now from.now) }
+{
+    match from.position {
+        Position::Line => Ok(()),
+        _ => Err(Refusal::Unfit(name, ContentFault::NotAtPrompt)),
     }
 }

@@ -1,10 +1,11 @@
 //! The files that a request loads, before any of them is read.
 ghost use Rattle.std.specs.Prelude.{◌≡◌, ◌≤◌, [], length, None, Some, option_map, IfOk, IfSome};
+ghost use Rattle.std.specs.Option.{option_copied};
 ghost use Rattle.adv_io.specs.Shelf.{Files};
 ghost use Rattle.scott_requests.specs.Views.{request_of, source_of};
-ghost use Rattle.scott_tool.specs.Loading.{database_load, source_load, program_load, main_of, draws_of, draws_load, IsLoad, loaded, texts_of};
+ghost use Rattle.scott_tool.specs.Loading.{database_load, source_load, program_load, main_of, draws_of, position_of, draws_load, position_load, IsLoad, loaded, later_texts_of, texts_of};
 ghost use Rattle.scott_tool.specs.Views.{load_of, texts_in};
-ghost use Rattle.scott_tool.specs.Obeying.{Fetches, MainFits};
+ghost use Rattle.scott_tool.specs.Obeying.{Fetches, TextsFit};
 
 use crate::refusals::Refusal;
 use adv_io::{Shelf, ShelfFault};
@@ -19,6 +20,9 @@ pub const SOURCE_LIMIT: usize = 8_388_608;
 /// The most bytes of a file of draws.
 pub const DRAWS_LIMIT: usize = 1_048_576;
 
+/// The most bytes of a file that has a position.
+pub const POSITION_LIMIT: usize = 65_536;
+
 /// A file that is to be loaded: its name, and the most bytes that it may have.
 #[derive(Clone, Copy)]
 pub struct Load<'a> {
@@ -31,6 +35,7 @@ pub struct Load<'a> {
 pub struct Texts {
     pub main: Vec<u8>,
     pub draws: Vec<u8>,
+    pub position: Vec<u8>,
 }
 
 fn database_load(name: &str) -> Load<'_>
@@ -72,21 +77,43 @@ fn draws_load(source: DrawSource<'_>) -> Option<Load<'_>>
     }
 }
 
-// What a request loads: its main file, and then its draws.
+fn position_load(name: &str) -> Load<'_>
+    ensures { load_of result ≡ position_load name.now }
+{
+    Load {
+        name,
+        limit: POSITION_LIMIT,
+    }
+}
+
+// The position that a play goes on from, if there is one.
+fn opening_load(from: Option<&str>) -> Option<Load<'_>>
+    ensures { option_map load_of result ≡ option_map position_load (option_copied from.entry) }
+{
+    match from {
+        Some(name) => Some(position_load(name)),
+        None => None,
+    }
+}
+
+// What a request loads: its main file, then its draws, and then the position that it goes on from.
 #[derive(Clone, Copy)]
 struct Loads<'a> {
     main: Option<Load<'a>>,
     draws: Option<Load<'a>>,
+    position: Option<Load<'a>>,
 }
 
 // No file but the main one.
 fn only(load: Load<'_>) -> Loads<'_>
     ensures main { option_map load_of result.main ≡ Some (load_of load.entry) }
     ensures draws { option_map load_of result.draws ≡ None }
+    ensures position { option_map load_of result.position ≡ None }
 {
     Loads {
         main: Some(load),
         draws: None,
+        position: None,
     }
 }
 
@@ -94,6 +121,7 @@ fn only(load: Load<'_>) -> Loads<'_>
 fn loads_of(request: Request<'_>) -> Loads<'_>
     ensures main { option_map load_of result.main ≡ main_of (request_of request.entry) }
     ensures draws { option_map load_of result.draws ≡ draws_of (request_of request.entry) }
+    ensures position { option_map load_of result.position ≡ position_of (request_of request.entry) }
 {
     match request {
         Request::Check(game) => only(database_load(game)),
@@ -102,13 +130,31 @@ fn loads_of(request: Request<'_>) -> Loads<'_>
         Request::Play(play) => Loads {
             main: Some(database_load(play.game)),
             draws: draws_load(play.source),
+            position: opening_load(play.from),
         },
         Request::Translate(translation) => only(database_load(translation.game)),
         Request::Run(run) => Loads {
             main: Some(program_load(run.program)),
             draws: draws_load(run.source),
+            position: None,
+        },
+        Request::Calls(run) => Loads {
+            main: Some(program_load(run.program)),
+            draws: draws_load(run.source),
+            position: None,
         },
         Request::Hall(game, _) => only(database_load(game)),
+        Request::Cover(cover) => Loads {
+            main: Some(database_load(cover.game)),
+            draws: draws_load(cover.source),
+            position: None,
+        },
+        Request::Transfer(transfer) => Loads {
+            main: Some(database_load(transfer.translation.game)),
+            draws: None,
+            position: Some(position_load(transfer.from)),
+        },
+        Request::Simplify(asked) => only(program_load(asked.program)),
     }
 }
 
@@ -150,6 +196,26 @@ fn load_any<'a, S: Shelf>(
     }
 }
 
+// Loads the draws and the position of a request.
+fn load_later<'a, S: Shelf>(
+    alloc: Global,
+    request: Request<'a>,
+    loads: Loads<'a>,
+    shelf: &mut S,
+) -> Result<(Vec<u8>, Vec<u8>), Refusal<'a>>
+    requires draws { option_map load_of loads.draws ≡ draws_of (request_of request) }
+    requires position { option_map load_of loads.position ≡ position_of (request_of request) }
+    ensures fetched { Fetches (λ p. (p.0.items, p.1.items)) (S.seen shelf.old) (S.seen shelf.new)
+        (IsLoad (request_of request.entry))
+        (λ files. later_texts_of files (request_of request.entry)) result }
+    ensures within { IfOk result (λ p. IfSome (draws_of (request_of request.entry))
+        (λ load. length p.0.items ≤ load.limit)) }
+{
+    let draws = load_any(alloc, loads.draws, shelf)?;
+    let position = load_any(alloc, loads.position, shelf)?;
+    Ok((draws, position))
+}
+
 /// Loads all files of a request.
 pub fn load_texts<'a, S: Shelf>(
     alloc: Global,
@@ -159,10 +225,14 @@ pub fn load_texts<'a, S: Shelf>(
     ensures fetched { Fetches texts_in (S.seen shelf.old) (S.seen shelf.new)
         (IsLoad (request_of request.entry))
         (λ files. texts_of files (request_of request.entry)) result }
-    ensures fits { IfOk result (λ texts. MainFits (request_of request.entry) (texts_in texts)) }
+    ensures fits { IfOk result (λ texts. TextsFit (request_of request.entry) (texts_in texts)) }
 {
     let loads = loads_of(request);
     let main = load_any(alloc, loads.main, shelf)?;
-    let draws = load_any(alloc, loads.draws, shelf)?;
-    Ok(Texts { main, draws })
+    let (draws, position) = load_later(alloc, request, loads, shelf)?;
+    Ok(Texts {
+        main,
+        draws,
+        position,
+    })
 }

@@ -5,13 +5,14 @@ ghost use Rattle.scott_requests.specs.Views.{request_of};
 ghost use Rattle.scott_tool.specs.Laws.{Laws};
 ghost use Rattle.scott_tool.specs.Views.{number_of};
 ghost use Rattle.scott_tool.specs.Obeying.{Handled};
-ghost use Rattle.scott_tool.specs.Promises.{HasStatus, IsSeen, KeepsFiles, Completes, IsEnd, HasDone, HasChecked, HasCompiled, HasDecompiled, HasPlayed, HasTranslated, HasRun, HasReplayed, HasPlayedHall, Counts};
+ghost use Rattle.scott_tool.specs.Promises.{HasStatus, IsSeen, KeepsFiles, Completes, IsEnd, HasDone, HasChecked, HasCompiled, HasDecompiled, HasPlayed, HasTranslated, HasTransferred, HasRun, HasReplayed, HasPlayedHall, HasCovered, HasCalled, Counts, HasSimplified};
 
 use crate::commands::work;
 use crate::loads::load_texts;
 use crate::refusals::Refusal;
 use crate::status::Status;
 use adv_io::{Console, Shelf};
+use adv_position::laws::{bad_line_is_found, text_is_read};
 use inform_reader::laws::{fault_in as program_fault_in, program_in};
 use scott_format::laws::{database_in, fault_in};
 use scott_requests::{Request, request_in};
@@ -74,6 +75,8 @@ fn reading_laws()
     source_fault_in();
     program_in();
     program_fault_in();
+    text_is_read();
+    bad_line_is_found();
 }
 
 /// Does what the words ask for, with the files of a shelf, on a console, and answers a status.
@@ -120,13 +123,23 @@ pub fn scott<S: Shelf, C: Console>(
     ensures decompiled { result ≡ 0 → HasDecompiled (S.seen shelf.old) (S.seen shelf.new)
         (asked_by words.now) }
 
-    // With 0 `play` has shown the play of the file's database.
-    ensures played { result ≡ 0 → HasPlayed (S.seen shelf.old)
+    // With 0 `play` has shown the play of the file's database, from its beginning or from the
+    // position of a file, and where it stopped and a file was named the position is kept.
+    ensures played { result ≡ 0 → HasPlayed (S.seen shelf.old) (S.seen shelf.new)
         (C.seen console.old) (C.seen console.new) (asked_by words.now) }
 
     // With 0 `translate` has stored the text of a program that is faithful to the file's database:
     // for every list of lines and draws its run is the play of the database.
     ensures translated { result ≡ 0 → HasTranslated (S.seen shelf.old) (S.seen shelf.new)
+        (asked_by words.now) }
+
+    // With 0 `transfer` has stored the text of a program that is faithful to the file's database
+    // from the position of the other file on.
+    ensures transferred { result ≡ 0 → HasTransferred (S.seen shelf.old) (S.seen shelf.new)
+        (asked_by words.now) }
+
+    // With 0 `simplify` has stored the text of a program that is simpler than the file's.
+    ensures simplified { result ≡ 0 → HasSimplified (S.seen shelf.old) (S.seen shelf.new)
         (asked_by words.now) }
 
     // With 0, 8 and 10 `run` has shown the run of the file's program, and then its line.
@@ -143,6 +156,16 @@ pub fn scott<S: Shelf, C: Console>(
     // is what it would say on its lines alone.
     ensures played_hall { result ≡ 0 → HasPlayedHall (S.seen shelf.old)
         (C.seen console.old) (C.seen console.new) (asked_by words.now) }
+
+    // With 0 `cover` has shown the play of the file's database, and then how often each of its
+    // action lines was tried in it.
+    ensures covered { result ≡ 0 → HasCovered (S.seen shelf.old)
+        (C.seen console.old) (C.seen console.new) (asked_by words.now) }
+
+    // With 0 `calls` has shown the run of the file's program, and then how often it entered each
+    // routine of a game's lines; with 8 and 10 its line, as `run` has.
+    ensures called { IsEnd result → HasCalled (S.seen shelf.old)
+        (C.seen console.old) (C.seen console.new) (asked_by words.now) result }
 
     // No count of faults falls. The console's stays with every status but 3, and the shelf's with
     // every one but 2 and 3.

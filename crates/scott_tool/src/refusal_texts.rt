@@ -1,6 +1,6 @@
 //! What is said where a request isn't done, piece by piece.
 ghost use Rattle.std.specs.Prelude.{◌≡◌};
-ghost use Rattle.scott_tool.specs.Refusal.{usage, cannot_read, cannot_write, after_name, longer_than, bytes_end, line_end};
+ghost use Rattle.scott_tool.specs.Refusal.{usage, cannot_read, cannot_write, after_name, longer_than, bytes_end, line_end, no_position, waits_for_draw};
 
 /// The line that tells how the program is called.
 #[tactic(auto, unfolding(crate::specs::Refusal::usage))]
@@ -8,7 +8,7 @@ pub fn usage<'a>() -> &'a [u8]
     ensures { result.now ≡ usage }
 {
     b"usage: scott check F | compile S F | decompile F S | play F | translate F G | run G\
-    \x20| hall F N\n"
+    \x20| hall F N | transfer F P G | cover F | simplify G H | calls G\n"
 }
 
 #[tactic(auto, unfolding(crate::specs::Refusal::cannot_read))]
@@ -51,4 +51,18 @@ pub fn line_end<'a>() -> &'a [u8]
     ensures { result.now ≡ line_end }
 {
     b"\n"
+}
+
+#[tactic(auto, unfolding(crate::specs::Refusal::no_position))]
+pub fn no_position<'a>() -> &'a [u8]
+    ensures { result.now ≡ no_position }
+{
+    b"not a position in line "
+}
+
+#[tactic(auto, unfolding(crate::specs::Refusal::waits_for_draw))]
+pub fn waits_for_draw<'a>() -> &'a [u8]
+    ensures { result.now ≡ waits_for_draw }
+{
+    b"waits for a draw"
 }

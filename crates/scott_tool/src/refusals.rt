@@ -2,17 +2,19 @@
 ghost use Rattle.std.specs.Prelude.{◌≡◌, ◌≤◌, [], ◌∷◌, ◌++◌, map, MatchResult};
 ghost use Rattle.adv_io.specs.History.{says};
 ghost use Rattle.adv_io.specs.Console.{Speaks};
-ghost use Rattle.scott_tool.specs.declared.refusals.ContentFault.TheVariants.{NoDatabase, NoSource, NoMeaning, NoDraws, NoProgram, NoTranslation};
+ghost use Rattle.scott_tool.specs.declared.refusals.ContentFault.TheVariants.{NoDatabase, NoSource, NoMeaning, NoDraws, NoPosition, NotAtPrompt, NoProgram, NoTranslation};
 ghost use Rattle.scott_tool.specs.Views.{number_of};
 ghost use Rattle.scott_tool.specs.Refusal.{no_request, unread, too_long, unfit, unfit_by, unwritten, whole, after_name, line_end, line_of};
 
 use crate::refusal_texts::{
-    after_name, bytes_end, cannot_read, cannot_write, line_end, longer_than, usage,
+    after_name, bytes_end, cannot_read, cannot_write, line_end, longer_than, no_position, usage,
+    waits_for_draw,
 };
 use crate::status::Status;
 use adv_compiler::CompileFault;
 use adv_draws::DrawFault;
 use adv_io::{Console, ConsoleFault, say_all};
+use adv_position::PositionFault;
 use inform_reader::ProgramFault;
 use itoa::Buffer;
 use scott_format::FormatFault;
@@ -20,14 +22,16 @@ use source_reader::SourceFault;
 use translator::TransFault;
 
 /// What is wrong with the content of a file: it is no database, no source or one that means none,
-/// no list of draws, no accepted Inform program, or it isn't translated. `Memory` is no fault of
-/// it.
+/// no list of draws, no position or one that waits for a draw, no accepted Inform program, or it
+/// isn't translated. `Memory` is no fault of it.
 #[derive(Drop)]
 pub enum ContentFault {
     NoDatabase(FormatFault),
     NoSource(SourceFault),
     NoMeaning(CompileFault),
     NoDraws(DrawFault),
+    NoPosition(PositionFault),
+    NotAtPrompt,
     NoProgram(ProgramFault),
     NoTranslation(TransFault),
 }
@@ -162,6 +166,38 @@ fn say_no_draws<C: Console>(
     )
 }
 
+fn say_no_position<C: Console>(
+    name: &str,
+    fault: PositionFault,
+    console: &mut C,
+) -> Result<(), ConsoleFault>
+    ensures { Speaks (C.seen console.old) (C.seen console.new) result
+        (says (line_of (unfit (unfit_by name.now (NoPosition fault))))) }
+{
+    let mut digits = Buffer::new();
+    let number = digits.format(fault.0).as_bytes();
+    say_all(
+        console,
+        &[
+            name.as_bytes(),
+            after_name(),
+            no_position(),
+            number,
+            line_end(),
+        ],
+    )
+}
+
+fn say_not_at_prompt<C: Console>(name: &str, console: &mut C) -> Result<(), ConsoleFault>
+    ensures { Speaks (C.seen console.old) (C.seen console.new) result
+        (says (line_of (unfit (unfit_by name.now NotAtPrompt)))) }
+{
+    say_all(
+        console,
+        &[name.as_bytes(), after_name(), waits_for_draw(), line_end()],
+    )
+}
+
 // Says a file's name, and what is wrong with its program in these pieces.
 fn say_pieces<C: Console>(
     name: &str,
@@ -253,6 +289,8 @@ impl ContentFault {
             ContentFault::NoSource(_) => Status::NoText,
             ContentFault::NoMeaning(_) => Status::NoText,
             ContentFault::NoDraws(_) => Status::NoText,
+            ContentFault::NoPosition(_) => Status::NoText,
+            ContentFault::NotAtPrompt => Status::NoText,
             ContentFault::NoProgram(_) => Status::NoProgram,
             ContentFault::NoTranslation(_) => Status::TooWide,
         }
@@ -268,6 +306,8 @@ impl ContentFault {
             ContentFault::NoSource(fault) => say_no_source(name, *fault, console),
             ContentFault::NoMeaning(fault) => say_no_meaning(name, *fault, console),
             ContentFault::NoDraws(fault) => say_no_draws(name, *fault, console),
+            ContentFault::NoPosition(fault) => say_no_position(name, *fault, console),
+            ContentFault::NotAtPrompt => say_not_at_prompt(name, console),
             ContentFault::NoProgram(fault) => say_no_program(name, fault, console),
             ContentFault::NoTranslation(fault) => say_no_translation(name, *fault, console),
         }

@@ -5,7 +5,9 @@ use crate::refusals::{self, USAGE};
 use crate::trying::{
     Case, File, NOTHING, Translated, answer_of, console_of, expect, expect_translated, steps_needed,
 };
-use crate::{expect, halls, lines, runs, sources, translations};
+use crate::{
+    coverage, expect, halls, lines, positions, runs, simplifications, sources, translations,
+};
 use adv_io::{MemoryConsole, MemoryShelf};
 use scott_tool::{scott, status_without_words};
 use std::io::ErrorKind;
@@ -41,8 +43,43 @@ fn halls_are_answered(rt: HostRuntime) {
 }
 
 #[test]
+fn positions_are_answered(rt: HostRuntime) {
+    expect_all(&rt, &positions::PLAYED);
+}
+
+#[test]
+fn refused_positions_are_answered(rt: HostRuntime) {
+    expect_all(&rt, &positions::ALL_REFUSED);
+}
+
+#[test]
+fn positions_open_programs(rt: HostRuntime) {
+    expect_all_translated(&rt, positions::OPENED);
+}
+
+#[test]
+fn covered_plays_are_answered(rt: HostRuntime) {
+    expect_all(&rt, &coverage::ALL);
+}
+
+#[test]
+fn calls_are_answered(rt: HostRuntime) {
+    expect_all(&rt, &coverage::ALL_CALLS);
+}
+
+#[test]
+fn both_sides_count_alike(rt: HostRuntime) {
+    expect_all_translated(&rt, coverage::ALIKE);
+}
+
+#[test]
 fn refused_commands_are_answered(rt: HostRuntime) {
     expect_all(&rt, &refusals::ALL);
+}
+
+#[test]
+fn simplifications_are_answered(rt: HostRuntime) {
+    expect_all(&rt, &simplifications::ALL);
 }
 
 #[test]
@@ -200,6 +237,34 @@ fn long_files_are_refused(rt: HostRuntime) {
         game: File::Bytes(&long),
         status: 11,
         said: &["t.dat: longer than 1048576 bytes\n"],
+        ..NOTHING
+    };
+    expect(&rt, &case);
+}
+
+#[test]
+fn long_positions_are_refused(rt: HostRuntime) {
+    let long = vec![in rt.alloc(); b'p'; 65_537].expect(&rt, "memory");
+    let case = Case {
+        command: "play t.dat from=p.pos",
+        game: File::Of(T),
+        position: Some(&long),
+        status: 11,
+        said: &["p.pos: longer than 65536 bytes\n"],
+        ..NOTHING
+    };
+    expect(&rt, &case);
+}
+
+#[test]
+fn long_programs_are_refused(rt: HostRuntime) {
+    let long = vec![in rt.alloc(); b'!'; 33_554_433].expect(&rt, "memory");
+    let case = Case {
+        command: "simplify g.inf h.inf",
+        program: File::Bytes(&long),
+        status: 11,
+        said: &["g.inf: longer than 33554432 bytes\n"],
+        after: &[("h.inf", File::Absent)],
         ..NOTHING
     };
     expect(&rt, &case);

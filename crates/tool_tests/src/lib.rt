@@ -14,15 +14,21 @@ mod trying;
 
 // What is expected, as tables.
 #[cfg(test)]
+mod coverage;
+#[cfg(test)]
 mod halls;
 #[cfg(test)]
 mod lines;
 #[cfg(test)]
 mod plays;
 #[cfg(test)]
+mod positions;
+#[cfg(test)]
 mod refusals;
 #[cfg(test)]
 mod runs;
+#[cfg(test)]
+mod simplifications;
 #[cfg(test)]
 mod sources;
 #[cfg(test)]

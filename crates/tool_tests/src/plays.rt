@@ -109,8 +109,8 @@ pub const ODD_MESSAGE: Case<'static> = Case {
 /// Lines that a command finds.
 pub const LINES: [Case<'static>; 3] = [REFUSED_GET, COUNTED, ODD_MESSAGE];
 
-// Draws that choose among automatic groups.
-const CHOOSING: Game<'static> = Game {
+/// Draws that choose among automatic groups.
+pub const CHOOSING: Game<'static> = Game {
     actions: &[
         "0 0 0 0 0 0 600 0",
         "1 0 0 0 0 0 150 0",

@@ -15,8 +15,8 @@ pub enum File<'a> {
     Of(Game<'a>),
 }
 
-/// A command, the files `t.dat`, `t.adv`, `g.inf` and `d.txt` before it, and what is expected: its
-/// status, what is said, piece by piece, and files after it.
+/// A command, the files `t.dat`, `t.adv`, `g.inf`, `d.txt` and `p.pos` before it, and what is
+/// expected: its status, what is said, piece by piece, and files after it.
 #[derive(Clone, Copy)]
 pub struct Case<'a> {
     pub command: &'a str,
@@ -24,6 +24,7 @@ pub struct Case<'a> {
     pub source: File<'a>,
     pub program: File<'a>,
     pub draws: Option<&'a [u8]>,
+    pub position: Option<&'a [u8]>,
     pub lines: &'a [&'a [u8]],
     pub failing_loads: &'a [u64],
     pub failing_calls: &'a [u64],
@@ -39,6 +40,7 @@ pub const NOTHING: Case<'static> = Case {
     source: File::Absent,
     program: File::Absent,
     draws: None,
+    position: None,
     lines: &[],
     failing_loads: &[],
     failing_calls: &[],
@@ -93,6 +95,9 @@ fn shelf_of<R: Abort + AllocGlobal>(rt: &R, case: &Case<'_>) -> MemoryShelf {
     put(rt, &mut shelf, "g.inf", &case.program);
     if let Some(draws) = case.draws {
         let _ = shelf.store(rt.alloc(), "d.txt", draws);
+    }
+    if let Some(position) = case.position {
+        let _ = shelf.store(rt.alloc(), "p.pos", position);
     }
     shelf
 }

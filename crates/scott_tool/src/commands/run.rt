@@ -12,7 +12,7 @@ ghost use Rattle.scott_tool.specs.Work.{run_task};
 ghost use Rattle.scott_tool.specs.Plan.{running_from, work};
 ghost use Rattle.scott_tool.specs.Views.{texts_in, number_of};
 ghost use Rattle.scott_tool.specs.Obeying.{ObeysAlone};
-ghost use Rattle.scott_tool.specs.Play.{draws_from};
+ghost use Rattle.scott_tool.specs.Draws.{draws_from};
 
 use crate::contents::{draws_from, program};
 use crate::loads::Texts;
@@ -86,8 +86,8 @@ fn say_trap<C: Console>(
     )
 }
 
-// Says the line of a run that stopped so, if it has one.
-fn say_stop<C: Console>(
+/// Says the line of a run that stopped so, if it has one.
+pub fn say_stop<C: Console>(
     accepted: &Accepted,
     stop: Stop,
     console: &mut C,

@@ -1,10 +1,10 @@
 //! Storing what a command has made.
-ghost use Rattle.std.specs.Prelude.{◌≡◌, ◌≤◌, IfErr, OnOk, Result};
+ghost use Rattle.std.specs.Prelude.{◌≡◌, ◌≤◌, IfErr, OnOk, Some, Result};
 ghost use Rattle.adv_io.specs.Shelf.{with_file};
 ghost use Rattle.scott_tool.specs.Refusal.{Unfit, refusing};
 ghost use Rattle.scott_tool.specs.Work.{Task};
 ghost use Rattle.scott_tool.specs.Views.{refusal_of, number_of};
-ghost use Rattle.scott_tool.specs.Obeying.{MakesFile, FailsToStore, Obeys};
+ghost use Rattle.scott_tool.specs.Obeying.{MakesFile, FailsToStore, KeepsAfter, Obeys};
 
 use crate::refusals::Refusal;
 use crate::status::Status;
@@ -51,6 +51,24 @@ pub fn store_made<S: Shelf, C: Console>(
             Ok(()) => Status::Done,
             Err(refusal) => refusal.end(console),
         },
+        Err(refusal) => refusal.end(console),
+    }
+}
+
+/// Stores bytes as the file of this name after the console's work, or says why it wasn't done.
+pub fn store_after<S: Shelf, C: Console>(
+    alloc: Global,
+    name: &str,
+    bytes: &[u8],
+    shelf: &mut S,
+    console: &mut C,
+) -> Status
+    ensures { KeepsAfter (S.seen shelf.old) (S.seen shelf.new) (C.seen console.old)
+        (C.seen console.new) (Some (record { name = name.now; bytes = bytes.now }))
+        (number_of result) }
+{
+    match store_file(alloc, name, bytes, shelf) {
+        Ok(()) => Status::Done,
         Err(refusal) => refusal.end(console),
     }
 }

@@ -24,5 +24,5 @@ pub fn program_text<'a>(
         (work (translate (asked_translation asked.entry)) (texts_in texts.now)) }
 {
     let db = database(alloc, asked.game, &texts.main)?;
-    translated(alloc, asked.game, &db, asked.style, asked.width)
+    translated(alloc, asked.game, &db, asked.style, asked.width, None)
 }

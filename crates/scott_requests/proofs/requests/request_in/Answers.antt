@@ -49,11 +49,3 @@ returns-in-run c = record {
       c.as_str.ensures.value c.in-run.is;
   sized = c.run_form.ensures.sized;
 }
-
-pub returns-in-hall : goal.returns-in-hall
-returns-in-hall c = record {
-  value = c.hall_form.ensures.value ∙ asked_as c.args.words.now c.in_ok-command.command.now
-      c.in_ok-command.rest.now c.as_str.result.now c.in_ok-command.ensures.cases.0
-      c.as_str.ensures.value c.in-hall.is;
-  sized = c.hall_form.ensures.sized;
-}

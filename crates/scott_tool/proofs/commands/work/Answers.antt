@@ -9,10 +9,13 @@ returns-in-Check g c =
     (rw c.in-Check.is c.report_on.ensures) (g.S.Shelf.seen c.args.shelf.now)
 
 pub returns-in-Play : goal.returns-in-Play
-returns-in-Play g c = rw c.in-Play.is (c.play.ensures (g.S.Shelf.seen c.args.shelf.now))
+returns-in-Play g c = rw c.in-Play.is c.play.ensures
 
 pub returns-in-Run : goal.returns-in-Run
 returns-in-Run g c = rw c.in-Run.is (c.run.ensures (g.S.Shelf.seen c.args.shelf.now))
+
+pub returns-in-Calls : goal.returns-in-Calls
+returns-in-Calls g c = rw c.in-Calls.is (c.calls.ensures (g.S.Shelf.seen c.args.shelf.now))
 
 pub returns-in-Compile : goal.returns-in-Compile
 returns-in-Compile g c =
@@ -29,6 +32,19 @@ returns-in-Translate g c =
     c.store_made-in-Translate.ensures (work (request_of c.args.request) (texts_in c.args.texts.now))
     (rw c.in-Translate.is c.program_text-made.ensures)
 
+pub returns-in-Simplify : goal.returns-in-Simplify
+returns-in-Simplify g c =
+    c.store_made-in-Simplify.ensures (work (request_of c.args.request) (texts_in c.args.texts.now))
+    (rw c.in-Simplify.is c.simpler_text-made.ensures)
+
 pub returns-in-Hall : goal.returns-in-Hall
 returns-in-Hall g c =
     rw c.in-Hall.is (c.play_hall.ensures (g.S.Shelf.seen c.args.shelf.now))
+
+pub returns-in-Cover : goal.returns-in-Cover
+returns-in-Cover g c = rw c.in-Cover.is (c.cover.ensures (g.S.Shelf.seen c.args.shelf.now))
+
+pub returns-in-Transfer : goal.returns-in-Transfer
+returns-in-Transfer g c =
+    c.store_made-in-Transfer.ensures (work (request_of c.args.request) (texts_in c.args.texts.now))
+    (rw c.in-Transfer.is c.opened_program_text-made.ensures)

@@ -8,4 +8,6 @@ returns c = record {
   source_fault = c.fault_in-2.ensures;
   program = c.program_in.ensures;
   program_fault = c.fault_in-3.ensures;
+  position = c.text_is_read.ensures;
+  bad_line = c.bad_line_is_found.ensures;
 }

@@ -18,8 +18,12 @@ returns g c =
       decompiled = means.decompiled_is;
       played = means.played_is;
       translated = means.translated_is;
+      transferred = means.transferred_is;
+      simplified = means.simplified_is;
       ran = means.ran_is;
       replayed = means.replayed_is;
       played_hall = means.played_hall_is;
+      covered = means.covered_is;
+      called = means.called_is;
       counts = all.counts;
     }

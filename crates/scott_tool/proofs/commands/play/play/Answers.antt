@@ -1,36 +1,42 @@
-use Rattle.std.proofs.Common.{Result, sym, ap, subst}
+use Rattle.std.proofs.Common.{◌∙◌, Result, sym, ap, subst}
 use Rattle.scott_types.specs.Database.{Database}
 use Rattle.scott_requests.specs.Request.{play}
 use Rattle.scott_requests.specs.Views.{asked_play, source_of}
 use Rattle.scott_tool.specs.Steps.{◌>>=◌}
 use Rattle.scott_tool.specs.Refusal.{Unfit, refusing}
 use Rattle.scott_tool.specs.Check.{database_of_file}
-use Rattle.scott_tool.specs.Play.{draws_from}
+use Rattle.scott_tool.specs.Draws.{draws_from}
 use Rattle.scott_tool.specs.Work.{Task}
 use Rattle.scott_tool.specs.Plan.{playing_from, work}
 use Rattle.scott_tool.specs.Views.{refusal_of, texts_in, number_of}
-use Rattle.scott_tool.specs.Obeying.{Obeys}
+use Rattle.scott_tool.specs.Obeying.{Declines, Obeys}
 use Rattle.scott_tool.proofs.Declining.{declined-first}
 use Rattle.scott_tool.proofs.Obeying.{obeys-declined}
+use Rattle.scott_tool.proofs.Opening.{work-play}
 use Rattle.scott_tool.proofs.commands.play.play.Goals as goal
 
 pub returns : goal.returns
-returns g c = λ shelf.
+returns g c =
     let drawn = draws_from (source_of c.args.asked.source) c.args.texts.now.draws.items in
-    let given = ap (λ r. r >>= λ db. playing_from c.args.asked.style db drawn)
+    let texts = texts_in c.args.texts.now in
+    let whole = work-play (asked_play c.args.asked) texts in
+    let given = ap (λ r. r >>= λ db. playing_from (asked_play c.args.asked) db texts drawn)
     (rw c.deref.ensures.value at c.in-Ok.ensures) in
-    subst (λ (r : Result Task Unfit). Obeys shelf shelf (g.C.Console.seen c.args.console.now)
+    subst (λ (r : Result Task Unfit). Obeys (g.S.Shelf.seen c.args.shelf.now)
+    (g.S.Shelf.seen c.play_from-status.new.shelf) (g.C.Console.seen c.args.console.now)
     (g.C.Console.seen c.play_from-status.new.console) (refusing r)
     (number_of c.play_from-status.result))
-    (sym given) (c.play_from-status.ensures shelf)
+    (sym (whole ∙ given)) c.play_from-status.ensures
 
 pub returns-in-Err : goal.returns-in-Err
-returns-in-Err g c = λ shelf.
+returns-in-Err g c =
     let drawn = draws_from (source_of c.args.asked.source) c.args.texts.now.draws.items in
+    let texts = texts_in c.args.texts.now in
     obeys-declined (g.C.Console.seen c.args.console.now)
-    (g.C.Console.seen c.end.new.console) (number_of c.end.result) shelf
-    (work (play (asked_play c.args.asked)) (texts_in c.args.texts.now))
-    (refusal_of c.in-Err.refusal)
+    (g.C.Console.seen c.end.new.console) (number_of c.end.result) (g.S.Shelf.seen c.args.shelf.now)
+    (work (play (asked_play c.args.asked)) texts) (refusal_of c.in-Err.refusal)
+    (subst (λ (r : Result Task Unfit). Declines r (refusal_of c.in-Err.refusal))
+    (sym (work-play (asked_play c.args.asked) texts))
     (declined-first (database_of_file c.args.asked.game.now c.args.texts.now.main.items)
-    (λ (db : Database). playing_from c.args.asked.style db drawn) (refusal_of c.in-Err.refusal)
-    (rw c.deref.ensures.value at c.in-Err.ensures)) c.end.ensures
+    (λ (db : Database). playing_from (asked_play c.args.asked) db texts drawn)
+    (refusal_of c.in-Err.refusal) (rw c.deref.ensures.value at c.in-Err.ensures))) c.end.ensures

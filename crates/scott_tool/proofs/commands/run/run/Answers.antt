@@ -7,7 +7,7 @@ use Rattle.scott_requests.specs.Views.{asked_run, source_of}
 use Rattle.scott_tool.specs.Steps.{◌>>=◌}
 use Rattle.scott_tool.specs.Refusal.{Unfit, refusing}
 use Rattle.scott_tool.specs.Run.{program_of_file}
-use Rattle.scott_tool.specs.Play.{draws_from}
+use Rattle.scott_tool.specs.Draws.{draws_from}
 use Rattle.scott_tool.specs.Work.{Task}
 use Rattle.scott_tool.specs.Plan.{running_from, work}
 use Rattle.scott_tool.specs.Views.{refusal_of, texts_in, number_of}

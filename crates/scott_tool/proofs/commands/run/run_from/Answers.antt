@@ -2,7 +2,7 @@ use Rattle.std.proofs.Common.{Result, Ok, sym, ap, subst}
 use Rattle.inform_names.specs.Views.{directives_of}
 use Rattle.scott_requests.specs.Views.{source_of}
 use Rattle.scott_tool.specs.Refusal.{Unfit, refusing}
-use Rattle.scott_tool.specs.Play.{draws_from}
+use Rattle.scott_tool.specs.Draws.{draws_from}
 use Rattle.scott_tool.specs.Work.{Task, run_task}
 use Rattle.scott_tool.specs.Plan.{running_from}
 use Rattle.scott_tool.specs.Views.{refusal_of, number_of}
@@ -15,7 +15,7 @@ pub returns-in-Ok : goal.returns-in-Ok
 returns-in-Ok g c = λ shelf.
     let accepted = c.args.accepted.now in
     let given = ap (running_from accepted.width (directives_of accepted) c.args.steps)
-    (rw c.deref.ensures.value at c.in-Ok.ensures) in
+    (rw c.deref.ensures.value at c.in-Ok.ensures.given) in
     subst (λ (r : Result Task Unfit). Obeys shelf shelf (g.C.Console.seen c.args.console.now)
     (g.C.Console.seen c.run_with.new.console) (refusing r) (number_of c.run_with.result))
     (sym given) (c.run_with.ensures shelf)
@@ -30,4 +30,4 @@ returns-in-Err g c = λ shelf.
     (refusal_of c.in-Err.refusal)
     (declined-first drawn (λ draws. Ok (run_task accepted.width
     (directives_of accepted) c.args.steps draws)) (refusal_of c.in-Err.refusal)
-    (rw c.deref.ensures.value at c.in-Err.ensures)) c.end.ensures
+    (rw c.deref.ensures.value at c.in-Err.ensures.given)) c.end.ensures

@@ -1,4 +1,4 @@
-use Rattle.std.proofs.Common.{Result, sym, ap, subst}
+use Rattle.std.proofs.Common.{None, Result, sym, ap, subst}
 use Rattle.scott_tool.specs.Steps.{◌>>=◌}
 use Rattle.scott_tool.specs.Refusal.{Unfit}
 use Rattle.scott_tool.specs.Translate.{translatable}
@@ -16,6 +16,6 @@ returns c =
     let db = c.in_ok-db.db in
     subst (λ (r : Result Task Unfit). MakesFile program c.translated.result r)
     (sym (ap (λ r. r >>= λ d. translatable game width d >>= λ _. translation_of program style width
-    d) (rw c.deref.ensures.value at c.in_ok-db.ensures)))
-    (made_translation program style width db (translatable game width db) c.translated.result
+    d None) (rw c.deref.ensures.value at c.in_ok-db.ensures)))
+    (made_translation program style width db None (translatable game width db) c.translated.result
     c.translated.ensures.given c.translated.ensures.faithful)
