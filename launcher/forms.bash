@@ -27,6 +27,9 @@ scott: the forms, with examples for the folder that ./scott stands in; docs/GUID
       ./scott cover games/lighthouse.dat <games/lighthouse.walk
   simplify PROGRAM SIMPLER [words=W]                writes a program as a simpler one that runs alike
       ./scott simplify games/inform/dice.inf dice.inf
+  step PROGRAM at=ROUTINE | every=N [draws=FILE | seed=N] [steps=N] [words=W]
+                                                    runs it, and shows its globals at each pause
+      ./scott step games/inform/dice.inf at=double
   calls PROGRAM [draws=FILE | seed=N] [steps=N] [words=W]
                                                     runs a game's program, and then says which of its
                                                     lines were tried
@@ -34,7 +37,7 @@ scott: the forms, with examples for the folder that ./scott stands in; docs/GUID
 
 END
     local name
-    for name in draws seed style from save steps words; do
+    for name in draws seed style from save steps words at every; do
         printf '  %-6s  %s\n' "$name=" "$(values_of "$name")" >&2
     done
     echo >&2
@@ -59,6 +62,8 @@ values_of() {
         save) echo 'the name of a file, in which the position is kept where the play stops' ;;
         steps) echo 'a number from 1 to 1000000000000000000; without it 1000000000' ;;
         words) echo '16 or 32, the bits of a word; without it 16' ;;
+        at) echo 'the name of a routine: the run pauses each time that it is entered' ;;
+        every) echo 'a number of steps from 1 to 1000000000000000000, after which the run pauses each time' ;;
     esac
 }
 
@@ -75,10 +80,10 @@ is_between() {
 # Whether a setting of this name may have this value.
 may_be() {
     case $1 in
-        draws | from | save) [ -n "$2" ] ;;
+        draws | from | save | at) [ -n "$2" ] ;;
         seed) is_between "$2" 0 18446744073709551615 ;;
         style) [[ $2 =~ ^(y|c|v|yc|yv|cv|ycv)$ ]] ;;
-        steps) is_between "$2" 1 1000000000000000000 ;;
+        steps | every) is_between "$2" 1 1000000000000000000 ;;
         words) [[ $2 == 16 || $2 == 32 ]] ;;
     esac
 }
@@ -89,6 +94,7 @@ form_of() {
         check) echo 1 ;;
         play) echo 1 draws seed style from save ;;
         run | calls) echo 1 draws seed steps words ;;
+        step) echo 1 at every draws seed steps words ;;
         compile | decompile) echo 2 ;;
         translate) echo 2 style words ;;
         hall) echo 2 ;;
@@ -135,6 +141,7 @@ name_faults() {
         fault=$(fault_of "$word" "$command" ${form#?})
         place=${word%%=*}
         place=${place/seed/draws}
+        place=${place/every/at}
         if [ -n "$fault" ]; then
             say "$word $fault"
         elif [[ $seen == *" $place "* ]]; then
@@ -142,4 +149,7 @@ name_faults() {
         fi
         seen+="$place "
     done
+    if [[ $command == step && $seen != *' at '* ]]; then
+        say "step takes at= or every=, where it pauses; ./scott --help has an example"
+    fi
 }

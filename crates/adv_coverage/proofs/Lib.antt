@@ -2,3 +2,4 @@ mod Pieces
 pub mod Known
 pub mod LineByLine
 mod Opening
+mod Alike

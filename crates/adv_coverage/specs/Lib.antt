@@ -2,3 +2,4 @@
 pub mod Report
 pub mod Calls
 pub mod Lines
+pub mod Alike

@@ -9,7 +9,7 @@ mod reports;
 mod calls;
 mod lines;
 
-// What is entered from the opening of a program.
+// What is entered from the opening of a program, and that a game and its program count alike.
 pub mod laws;
 
 pub use calls::count_calls;

@@ -4,7 +4,7 @@ use Rattle.std.specs.Prelude.{option_map}
 use Rattle.std.specs.Str.Pattern.{FindsTextPrefix}
 use Rattle.std.proofs.lemmas.Str.Pattern.{starts_text}
 use Rattle.scott_requests.specs.Parts.{file_name, after_prefix, number_of}
-use Rattle.scott_requests.specs.Settings.{draws, listed, seeded, style, style_named, play_setting, opening, saving, position_setting, most_steps, steps_of, word_width, width_of, run_setting}
+use Rattle.scott_requests.specs.Settings.{draws, listed, seeded, style, style_named, play_setting, opening, saving, position_setting, pausing, entering, each, pause_setting, most_steps, steps_of, word_width, width_of, run_setting}
 
 -- a text that begins otherwise
 pub prefix_missing : (p s : List ℕ) → FindsTextPrefix p s None → after_prefix p s ≡ None
@@ -43,6 +43,17 @@ module _ (a b : Option (List ℕ)) where
 
   pub by_neither_file : a ≡ None → b ≡ None → None ≡ position_setting a b
   by_neither_file first second = rw (first, second) refl
+
+  pub by_routine : (name : List ℕ) → a ≡ Some name
+      → option_map (λ n. pausing (entering n)) (file_name name) ≡ pause_setting a b
+  by_routine name first = rw first refl
+
+  pub by_count : (digits : List ℕ) → a ≡ None → b ≡ Some digits
+      → option_map (λ n. pausing (each n)) (steps_of digits) ≡ pause_setting a b
+  by_count digits first second = rw (first, second) refl
+
+  pub by_no_pause : a ≡ None → b ≡ None → None ≡ pause_setting a b
+  by_no_pause first second = rw (first, second) refl
 
   pub by_steps : (digits : List ℕ) → a ≡ Some digits
       → option_map most_steps (steps_of digits) ≡ run_setting a b

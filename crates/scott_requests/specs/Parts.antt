@@ -4,7 +4,7 @@ use Rattle.std.specs.List.{starts_with, list_all}
 use Rattle.std.specs.Char.{is_ascii_digit}
 use Rattle.std.specs.Str.Parse.{digits_value}
 
--- the name of a file has a byte
+-- the name of a file or of a routine has a byte
 abbrev pub file_name : List ℕ → Option (List ℕ)
 file_name [] = None
 file_name (byte ∷ bytes) = Some (byte ∷ bytes)

@@ -9,7 +9,7 @@ use Rattle.inform_tree.specs.declared.widths.Width.TheVariants.{W16}
 use Rattle.scott_types.specs.declared.styles.Style.{Style}
 use Rattle.scott_types.specs.Style.{plain_style}
 use Rattle.scott_requests.specs.Parts.{file_name, number_of}
-use Rattle.scott_requests.specs.Settings.{DrawSource, seeded, Settings, no_kinds, no_settings, settings_from}
+use Rattle.scott_requests.specs.Settings.{DrawSource, seeded, AreSteps, Pause, PauseFits, Settings, no_kinds, no_settings, settings_from}
 
 -- what is to be played: the database of this name, with these draws, in this style; from its
 -- beginning, or from the position in a file; and the file in which the position is kept where the
@@ -37,6 +37,11 @@ pub record RunRequest : Type 0 where
   pub steps : ℕ
   pub width : Width
 
+-- what is to be run step by step: it pauses there
+pub record StepRequest : Type 0 where
+  pub run : RunRequest
+  pub pause : Pause
+
 -- what is to be played, and then told which lines were tried: the database of this name, with
 -- these draws, in this style
 pub record CoverRequest : Type 0 where
@@ -59,9 +64,9 @@ pub record SimplifyRequest : Type 0 where
 -- the database of this name is to be checked; a source is to be compiled to a database, or a
 -- database decompiled to a source, from the file of the first name to that of the second; a
 -- database is to be played or translated, or a program run; so many sessions of a database are to
--- be played from one list of lines; a database is to be translated as it stands at a position; or
--- played, and then told which of its lines were tried; a program is to be simplified; or run, and
--- then told which of a game's lines it entered
+-- be played from one list of lines; a database is to be translated as it stands at a position; a
+-- program is to be simplified; or run step by step; a database is to be played, and then told which
+-- of its lines were tried; a program is to be run, and then told which of a game's lines it entered
 pub data Request : Type 0 where
   check : List ℕ → Request
   compile : List ℕ → List ℕ → Request
@@ -71,8 +76,9 @@ pub data Request : Type 0 where
   run : RunRequest → Request
   hall : List ℕ → ℕ → Request
   transfer : TransferRequest → Request
-  cover : CoverRequest → Request
   simplify : SimplifyRequest → Request
+  step : StepRequest → Request
+  cover : CoverRequest → Request
   calls : RunRequest → Request
 
 -- ---- the forms of the commands: what the words after a command ask for
@@ -208,6 +214,18 @@ run_of name settings =
 abbrev pub run_form : List (List ℕ) → Option Request
 run_form words = option_map (λ p. run (run_of p.0 p.1)) (file_and_settings run_kinds words)
 
+-- a run that goes on step by step is given the same, and where it pauses
+abbrev pub step_kinds : Kinds
+step_kinds = record run_kinds { pauses = true }
+
+abbrev pub step_of : List ℕ → Settings → Pause → StepRequest
+step_of name settings pause = record { run = run_of name settings; pause = pause }
+
+abbrev pub step_form : List (List ℕ) → Option Request
+step_form words =
+    option_and_then (λ p. option_map (λ pause. step (step_of p.0 p.1 pause)) p.1.pause)
+    (file_and_settings step_kinds words)
+
 -- a run that counts what it enters is given the same
 abbrev pub calls_form : List (List ℕ) → Option Request
 calls_form words = option_map (λ p. calls (run_of p.0 p.1)) (file_and_settings run_kinds words)
@@ -239,9 +257,11 @@ hall_form _ = None
 
 -- ---- requests
 
--- the sessions that a hall is asked for are as many as it may have
+-- the sessions that a hall is asked for are as many as it may have, and the steps of a run that
+-- pauses as many as may be given
 abbrev pub IsSized : Request → Type 0
 IsSized (hall game count) = (1 ≤ count) × (count ≤ MOST_SESSIONS)
+IsSized (step s) = AreSteps s.run.steps × PauseFits s.pause
 IsSized _ = Unit {0}
 
 -- the commands beside those that read, write and play one file: their forms
@@ -249,8 +269,9 @@ abbrev pub further_form : List ℕ → List (List ℕ) → Option Request
 further_form command words =
     if bytes_eq command (codes "hall") then hall_form words else
     if bytes_eq command (codes "transfer") then transfer_form words else
-    if bytes_eq command (codes "cover") then cover_form words else
     if bytes_eq command (codes "simplify") then simplify_form words else
+    if bytes_eq command (codes "step") then step_form words else
+    if bytes_eq command (codes "cover") then cover_form words else
     if bytes_eq command (codes "calls") then calls_form words else None
 
 -- what words ask for: a command, and its form

@@ -1,5 +1,5 @@
 -- Settings: what stands after a command's files, in any order, each at most once.
-use Rattle.std.specs.Prelude.{ℕ, Bool, true, false, ◌&&◌, nat_le, List, [], ◌∷◌, Option, Some, None, option_map, bytes_eq, codes, if◌then◌else◌}
+use Rattle.std.specs.Prelude.{ℕ, ⊤, ◌≤◌, IfSome, Bool, true, false, ◌&&◌, nat_le, List, [], ◌∷◌, Option, Some, None, option_map, bytes_eq, codes, if◌then◌else◌}
 use Rattle.std.specs.Option.{option_and_then, option_or}
 use Rattle.inform_tree.specs.declared.widths.Width.{Width}
 use Rattle.inform_tree.specs.declared.widths.Width.TheVariants.{W16, W32}
@@ -12,6 +12,12 @@ use Rattle.scott_requests.specs.Parts.{file_name, after_prefix, number_of}
 pub data DrawSource : Type 0 where
   listed : List ℕ → DrawSource
   seeded : ℕ → DrawSource
+
+-- where a run pauses: at each entering of the routine of this name, or each time that so many
+-- steps more were used
+pub data Pause : Type 0 where
+  entering : List ℕ → Pause
+  each : ℕ → Pause
 
 -- ---- styles by their letters: `y` for you, `c` for counted and `v` for vanish, in this order
 
@@ -36,6 +42,10 @@ steps_of digits =
     option_and_then (λ n. if nat_le 1 n && nat_le n MOST_STEPS then Some n else None)
     (number_of digits)
 
+-- what may be given
+abbrev pub AreSteps : ℕ → Type 0
+AreSteps n = (1 ≤ n) × (n ≤ MOST_STEPS)
+
 -- a width of words
 abbrev pub width_of : List ℕ → Option Width
 width_of text =
@@ -50,6 +60,7 @@ pub data Setting : Type 0 where
   style : Style → Setting
   opening : List ℕ → Setting
   saving : List ℕ → Setting
+  pausing : Pause → Setting
   most_steps : ℕ → Setting
   word_width : Width → Setting
 
@@ -66,6 +77,12 @@ position_setting (Some name) other = option_map opening (file_name name)
 position_setting None (Some name) = option_map saving (file_name name)
 position_setting None None = None
 
+-- a setting that says where a run pauses, by what follows `at=` and what follows `every=`
+abbrev pub pause_setting : Option (List ℕ) → Option (List ℕ) → Option Setting
+pause_setting (Some name) digits = option_map (λ n. pausing (entering n)) (file_name name)
+pause_setting None (Some digits) = option_map (λ n. pausing (each n)) (steps_of digits)
+pause_setting None None = None
+
 -- a setting of a run alone, by what follows `steps=` and what follows `words=`
 abbrev pub run_setting : Option (List ℕ) → Option (List ℕ) → Option Setting
 run_setting (Some digits) text = option_map most_steps (steps_of digits)
@@ -81,6 +98,10 @@ abbrev pub position_setting_in : List ℕ → Option Setting
 position_setting_in word =
     position_setting (after_prefix (codes "from=") word) (after_prefix (codes "save=") word)
 
+abbrev pub pause_setting_in : List ℕ → Option Setting
+pause_setting_in word =
+    pause_setting (after_prefix (codes "at=") word) (after_prefix (codes "every=") word)
+
 abbrev pub run_setting_in : List ℕ → Option Setting
 run_setting_in word =
     run_setting (after_prefix (codes "steps=") word) (after_prefix (codes "words=") word)
@@ -88,7 +109,9 @@ run_setting_in word =
 -- the setting that a word is
 abbrev pub setting_in : List ℕ → Option Setting
 setting_in word =
-    option_or (play_setting_in word) (option_or (position_setting_in word) (run_setting_in word))
+    option_or (play_setting_in word)
+    (option_or (position_setting_in word)
+    (option_or (pause_setting_in word) (run_setting_in word)))
 
 -- ---- which kinds of settings a form allows; what it doesn't name it refuses
 
@@ -99,6 +122,7 @@ no_kinds =
       style = false;
       opening = false;
       saving = false;
+      pauses = false;
       steps = false;
       words = false;
     }
@@ -108,6 +132,7 @@ allows kinds (draws source) = kinds.draws
 allows kinds (style value) = kinds.style
 allows kinds (opening name) = kinds.opening
 allows kinds (saving name) = kinds.saving
+allows kinds (pausing pause) = kinds.pauses
 allows kinds (most_steps n) = kinds.steps
 allows kinds (word_width value) = kinds.words
 
@@ -125,6 +150,7 @@ pub record Settings : Type 0 where
   pub play_style : Option Style
   pub opened_from : Option (List ℕ)
   pub saved_as : Option (List ℕ)
+  pub pause : Option Pause
   pub steps : Option ℕ
   pub width : Option Width
 
@@ -135,9 +161,24 @@ no_settings =
       play_style = None;
       opened_from = None;
       saved_as = None;
+      pause = None;
       steps = None;
       width = None;
     }
+
+-- the numbers of steps that a pause, a setting and settings have may be given
+
+abbrev pub PauseFits : Pause → Type 0
+PauseFits (entering name) = ⊤
+PauseFits (each n) = AreSteps n
+
+abbrev pub SettingFits : Setting → Type 0
+SettingFits (pausing pause) = PauseFits pause
+SettingFits (most_steps n) = AreSteps n
+SettingFits other = ⊤
+
+abbrev pub SettingsFit : Settings → Type 0
+SettingsFit settings = IfSome settings.pause PauseFits × IfSome settings.steps AreSteps
 
 -- a free place is filled; one that is taken refuses
 abbrev pub filled : {X : Type 0} → Option X → X → Option (Option X)
@@ -154,6 +195,8 @@ with_setting settings (opening name) =
     option_map (λ place. record settings { opened_from = place }) (filled settings.opened_from name)
 with_setting settings (saving name) =
     option_map (λ place. record settings { saved_as = place }) (filled settings.saved_as name)
+with_setting settings (pausing pause) =
+    option_map (λ place. record settings { pause = place }) (filled settings.pause pause)
 with_setting settings (most_steps n) =
     option_map (λ place. record settings { steps = place }) (filled settings.steps n)
 with_setting settings (word_width value) =

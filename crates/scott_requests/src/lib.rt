@@ -9,7 +9,7 @@ mod settings;
 mod requests;
 
 pub use requests::{
-    CoverRequest, PlayRequest, Request, RunRequest, SimplifyRequest, TransferRequest,
+    CoverRequest, PlayRequest, Request, RunRequest, SimplifyRequest, StepRequest, TransferRequest,
     TranslationRequest, request_in,
 };
-pub use settings::{DrawSource, FIRST_SEED, MOST_STEPS, USUAL_STEPS};
+pub use settings::{DrawSource, FIRST_SEED, MOST_STEPS, Pause, USUAL_STEPS};

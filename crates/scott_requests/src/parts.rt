@@ -5,7 +5,7 @@ ghost use Rattle.std.specs.List.{list_all};
 ghost use Rattle.std.specs.Char.{is_ascii_digit};
 ghost use Rattle.scott_requests.specs.Parts.{file_name, number_of};
 
-/// The text as the name of a file: it isn't empty.
+/// The text as the name of a file or of a routine: it isn't empty.
 pub fn file_name(text: &str) -> Option<&str>
     ensures { option_copied result ≡ file_name text.now }
 {

@@ -1,11 +1,11 @@
 //! Requests: a command, the names of its files, and its settings.
 ghost use Rattle.std.specs.Prelude.{◌≡◌, ◌≤◌, map, string_bytes, option_map, IfSome};
-ghost use Rattle.scott_requests.specs.Request.{check_form, two_names, compile_form, decompile_form, file_and_settings, source_in, style_in, width_in, steps_in, play_form, cover_form, files_and_settings, three_and_settings, translation_kinds, translation_of, translate_form, transfer_form, run_kinds, run_of, run_form, calls_form, sessions_of, hall_form, further_form, IsSized, asked_by, simplify_form};
+ghost use Rattle.scott_requests.specs.Request.{check_form, two_names, compile_form, decompile_form, file_and_settings, source_in, style_in, width_in, steps_in, play_form, cover_form, files_and_settings, three_and_settings, translation_kinds, translation_of, translate_form, transfer_form, run_kinds, run_of, run_form, step_form, calls_form, sessions_of, hall_form, further_form, IsSized, asked_by, simplify_form};
 ghost use Rattle.scott_requests.specs.Views.{source_of, settings_of, asked_translation, asked_run, request_of};
 
 use crate::parts::{file_name, number_of};
 use crate::settings::{
-    DrawSource, FIRST_SEED, Kinds, Settings, USUAL_STEPS, no_kinds, settings_in,
+    DrawSource, FIRST_SEED, Kinds, Pause, Settings, USUAL_STEPS, no_kinds, settings_in,
 };
 use inform_tree::Width;
 use scott_types::Style;
@@ -61,6 +61,13 @@ pub struct RunRequest<'a> {
     pub width: Width,
 }
 
+/// What is to be run step by step: it pauses there.
+#[derive(Clone, Copy, PartialEq, Eq)]
+pub struct StepRequest<'a> {
+    pub run: RunRequest<'a>,
+    pub pause: Pause<'a>,
+}
+
 /// What is to be simplified: the Inform program of the first name, for words of this width. The
 /// simpler one is stored under the second name.
 #[derive(Clone, Copy, PartialEq, Eq)]
@@ -79,8 +86,9 @@ pub struct SimplifyRequest<'a> {
 /// - `Hall`: so many sessions of the database of this name are to be played from one list of lines,
 ///   1 to `MOST_SESSIONS`.
 /// - `Transfer`: a database is to be translated as it stands at a position.
-/// - `Cover`: a database is to be played, and then told which of its lines were tried.
 /// - `Simplify`: a program is to be simplified.
+/// - `Step`: a program is to be run, with a line at each pause.
+/// - `Cover`: a database is to be played, and then told which of its lines were tried.
 /// - `Calls`: a program is to be run, and then told which of a game's lines it entered.
 #[derive(Clone, Copy, PartialEq, Eq)]
 pub enum Request<'a> {
@@ -92,8 +100,9 @@ pub enum Request<'a> {
     Run(RunRequest<'a>),
     Hall(&'a str, u8),
     Transfer(TransferRequest<'a>),
-    Cover(CoverRequest<'a>),
     Simplify(SimplifyRequest<'a>),
+    Step(StepRequest<'a>),
+    Cover(CoverRequest<'a>),
     Calls(RunRequest<'a>),
 }
 
@@ -321,6 +330,23 @@ fn run_form(words: &[String]) -> Option<Request<'_>>
     Some(Request::Run(run_of(program, settings)))
 }
 
+// `step` with the words after it.
+fn step_form(words: &[String]) -> Option<Request<'_>>
+    ensures value { option_map request_of result ≡ step_form (map string_bytes words.now) }
+    ensures sized { IfSome result (λ r. IsSized (request_of r)) }
+{
+    let kinds = Kinds {
+        pauses: true,
+        ..run_kinds()
+    };
+    let (program, settings) = file_and_settings(words, kinds)?;
+    let pause = settings.pause?;
+    Some(Request::Step(StepRequest {
+        run: run_of(program, settings),
+        pause,
+    }))
+}
+
 // `calls` with the words after it.
 fn calls_form(words: &[String]) -> Option<Request<'_>>
     ensures value { option_map request_of result ≡ calls_form (map string_bytes words.now) }
@@ -380,8 +406,9 @@ fn further_form<'a>(command: &str, rest: &'a [String]) -> Option<Request<'a>>
     match command {
         "hall" => hall_form(rest),
         "transfer" => transfer_form(rest),
-        "cover" => cover_form(rest),
         "simplify" => simplify_form(rest),
+        "step" => step_form(rest),
+        "cover" => cover_form(rest),
         "calls" => calls_form(rest),
         _ => None,
     }

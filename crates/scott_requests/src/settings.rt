@@ -2,8 +2,8 @@
 ghost use Rattle.std.specs.Prelude.{◌≡◌, Some, map, string_bytes, option_map};
 ghost use Rattle.std.specs.Option.{option_and_then};
 ghost use Rattle.scott_requests.specs.Parts.{file_name, number_of};
-ghost use Rattle.scott_requests.specs.Settings.{draws, listed, seeded, style, some_style, style_named, most_steps, word_width, steps_of, width_of, opening, saving, play_setting_in, position_setting_in, run_setting_in, setting_in, no_kinds, allows, allowed_in, no_settings, with_setting, settings_from};
-ghost use Rattle.scott_requests.specs.Views.{source_of, setting_of, settings_of};
+ghost use Rattle.scott_requests.specs.Settings.{draws, listed, seeded, style, some_style, style_named, most_steps, word_width, steps_of, width_of, opening, saving, pausing, entering, each, play_setting_in, position_setting_in, pause_setting_in, run_setting_in, setting_in, no_kinds, allows, allowed_in, no_settings, with_setting, settings_from};
+ghost use Rattle.scott_requests.specs.Views.{source_of, pause_of, setting_of, settings_of};
 
 use crate::parts::{file_name, number_of};
 use inform_tree::Width;
@@ -25,6 +25,14 @@ pub enum DrawSource<'a> {
     Seeded(u64),
 }
 
+/// Where a run pauses: at each entering of the routine of this name, which isn't empty, or each time
+/// that so many steps more were used, 1 to `MOST_STEPS`.
+#[derive(Clone, Copy, PartialEq, Eq)]
+pub enum Pause<'a> {
+    At(&'a str),
+    Every(u64),
+}
+
 /// A setting. Two of one variant are for one place.
 #[derive(Clone, Copy)]
 pub enum Setting<'a> {
@@ -32,6 +40,7 @@ pub enum Setting<'a> {
     Style(Style),
     From(&'a str),
     Save(&'a str),
+    Pauses(Pause<'a>),
     Steps(u64),
     Words(Width),
 }
@@ -43,6 +52,7 @@ pub struct Settings<'a> {
     pub style: Option<Style>,
     pub from: Option<&'a str>,
     pub save: Option<&'a str>,
+    pub pause: Option<Pause<'a>>,
     pub steps: Option<u64>,
     pub width: Option<Width>,
 }
@@ -125,13 +135,45 @@ fn saved(name: &str) -> Option<Setting<'_>>
     }
 }
 
+// The number of steps that digits give.
+fn steps_of(digits: &str) -> Option<u64>
+    ensures { result ≡ steps_of digits.now }
+{
+    match number_of(digits) {
+        Some(steps) if 1 <= steps && steps <= MOST_STEPS => Some(steps),
+        _ => None,
+    }
+}
+
 // The setting that gives the most steps.
 fn steps<'a>(digits: &str) -> Option<Setting<'a>>
     ensures { option_map setting_of result ≡ option_map most_steps (steps_of digits.now) }
 {
-    match number_of(digits) {
-        Some(steps) if 1 <= steps && steps <= MOST_STEPS => Some(Setting::Steps(steps)),
-        _ => None,
+    match steps_of(digits) {
+        Some(steps) => Some(Setting::Steps(steps)),
+        None => None,
+    }
+}
+
+// The setting that names the routine at which a run pauses.
+fn entering(name: &str) -> Option<Setting<'_>>
+    ensures { option_map setting_of result ≡ option_map
+        (λ n. pausing (entering n)) (file_name name.now) }
+{
+    match file_name(name) {
+        Some(name) => Some(Setting::Pauses(Pause::At(name))),
+        None => None,
+    }
+}
+
+// The setting that says after how many steps a run pauses.
+fn each<'a>(digits: &str) -> Option<Setting<'a>>
+    ensures { option_map setting_of result ≡ option_map
+        (λ n. pausing (each n)) (steps_of digits.now) }
+{
+    match steps_of(digits) {
+        Some(steps) => Some(Setting::Pauses(Pause::Every(steps))),
+        None => None,
     }
 }
 
@@ -188,16 +230,32 @@ fn position_setting_in(word: &str) -> Option<Setting<'_>>
     None
 }
 
+// The setting of a pause that a word is.
+fn pause_setting_in(word: &str) -> Option<Setting<'_>>
+    ensures { option_map setting_of result ≡ pause_setting_in word.now }
+{
+    if let Some(name) = word.strip_prefix("at=") {
+        return entering(name);
+    }
+    if let Some(digits) = word.strip_prefix("every=") {
+        return each(digits);
+    }
+    None
+}
+
 // The setting that a word is.
 fn setting_in(word: &str) -> Option<Setting<'_>>
     ensures { option_map setting_of result ≡ setting_in word.now }
 {
-    match play_setting_in(word) {
+    if let Some(setting) = play_setting_in(word) {
+        return Some(setting);
+    }
+    if let Some(setting) = position_setting_in(word) {
+        return Some(setting);
+    }
+    match pause_setting_in(word) {
         Some(setting) => Some(setting),
-        None => match position_setting_in(word) {
-            Some(setting) => Some(setting),
-            None => run_setting_in(word),
-        },
+        None => run_setting_in(word),
     }
 }
 
@@ -208,6 +266,7 @@ pub struct Kinds {
     pub style: bool,
     pub opening: bool,
     pub saving: bool,
+    pub pauses: bool,
     pub steps: bool,
     pub words: bool,
 }
@@ -221,6 +280,7 @@ pub fn no_kinds() -> Kinds
         style: false,
         opening: false,
         saving: false,
+        pauses: false,
         steps: false,
         words: false,
     }
@@ -235,6 +295,7 @@ fn allows(kinds: Kinds, setting: Setting<'_>) -> bool
         Setting::Style(_) => kinds.style,
         Setting::From(_) => kinds.opening,
         Setting::Save(_) => kinds.saving,
+        Setting::Pauses(_) => kinds.pauses,
         Setting::Steps(_) => kinds.steps,
         Setting::Words(_) => kinds.words,
     }
@@ -307,6 +368,20 @@ impl<'a> Settings<'a> {
         }
     }
 
+    // Where a run pauses, where that isn't there.
+    fn with_pause(self, value: Pause<'a>) -> Option<Settings<'a>>
+        ensures { option_map settings_of result ≡ with_setting (settings_of self.entry)
+            (pausing (pause_of value.entry)) }
+    {
+        match self.pause {
+            None => Some(Settings {
+                pause: Some(value),
+                ..self
+            }),
+            Some(_) => None,
+        }
+    }
+
     // The most steps, where they aren't there.
     fn with_steps(self, most: u64) -> Option<Settings<'a>>
         ensures { option_map settings_of result ≡ with_setting (settings_of self.entry)
@@ -345,6 +420,7 @@ impl<'a> Settings<'a> {
             Setting::Style(style) => self.with_style(style),
             Setting::From(name) => self.with_from(name),
             Setting::Save(name) => self.with_save(name),
+            Setting::Pauses(pause) => self.with_pause(pause),
             Setting::Steps(steps) => self.with_steps(steps),
             Setting::Words(width) => self.with_width(width),
         }
@@ -361,6 +437,7 @@ pub fn settings_in(words: &[String], kinds: Kinds) -> Option<Settings<'_>>
         style: None,
         from: None,
         save: None,
+        pause: None,
         steps: None,
         width: None,
     };

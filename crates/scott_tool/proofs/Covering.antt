@@ -1,5 +1,5 @@
 -- That a play of which it is told what was tried does what is expected.
-use Rattle.std.proofs.Common.{◌≡◌, ◌∙◌, ℕ, List, [], ◌∷◌, ◌++◌, length, Option, Some, None, IfSome, Result, Ok, Err, MatchResult, refl, sym, ap, subst, inl, inr, arith, lit<}
+use Rattle.std.proofs.Common.{◌≡◌, ◌∙◌, ℕ, List, [], ◌∷◌, ◌++◌, length, None, IfSome, Result, Ok, Err, MatchResult, refl, sym, ap, subst, inl, inr, arith, lit<}
 use Rattle.std.specs.Prelude.{Contains}
 use Rattle.adv_coverage.specs.Report.{report_text}
 use Rattle.adv_draws.specs.Supply.{Supply}

@@ -4,7 +4,7 @@ use Rattle.std.specs.Prelude.{option_map}
 use Rattle.adv_io.specs.Console.{ConsoleView}
 use Rattle.adv_io.specs.History.{says, grown}
 use Rattle.adv_io.specs.Shelf.{Files, ShelfView, with_file}
-use Rattle.scott_requests.specs.Request.{Request, check, compile, decompile, play, translate, run, hall, transfer, cover, simplify, calls}
+use Rattle.scott_requests.specs.Request.{Request, check, compile, decompile, play, translate, run, hall, transfer, simplify, step, cover, calls}
 use Rattle.scott_types.specs.Database.{Database}
 use Rattle.scott_tool.specs.Outcome as outcome
 use Rattle.scott_tool.specs.Play.{OpensAt, position_kept}
@@ -12,10 +12,12 @@ use Rattle.scott_tool.specs.Position.{beginning, stopped_text}
 use Rattle.scott_tool.specs.Work.{Task, kept_as, saved, play_from}
 use Rattle.scott_tool.specs.Plan.{doing, opened, plan, Reaches}
 use Rattle.adv_position.specs.declared.saved.Saved.{Saved}
-use Rattle.scott_tool.specs.Promises.{IsEnd, WasDone, HasDone, HasChecked, HasCompiled, HasDecompiled, HasPlayed, HasTranslated, HasTransferred, HasRun, HasReplayed, HasPlayedHall, HasCovered, HasCalled, HasSimplified}
+use Rattle.scott_tool.specs.Promises.{IsEnd, WasDone, HasDone, HasChecked, HasCompiled, HasDecompiled, HasPlayed, HasTranslated, HasTransferred, HasRun, HasStepped, HasReplayed, HasPlayedHall, HasCovered, HasCalled, HasRecounted, HasSimplified}
 use Rattle.scott_tool.specs.Laws.{Laws}
 use Rattle.scott_tool.proofs.Promised.{Promises, from_lines}
 use Rattle.scott_tool.proofs.Replaying.{replays}
+use Rattle.scott_tool.proofs.Recounting.{recounts}
+use Rattle.scott_tool.proofs.Stepping.{without_lines}
 
 -- what was done by the files that are known
 by_files : (known : Option Files) (P Q : Files → Type 0)
@@ -185,6 +187,23 @@ module _ (shelf shelf' : ShelfView) (console console' : ConsoleView) (asked : Op
         seen = grew ∙ ap (λ x. grown console.history x.events) does;
       }) d.seen)
 
+  pub stepped : Laws → HasStepped shelf console console' asked status
+  stepped laws s is = done_for (step s) is _
+      (λ files known (bytes, p, there, text, (pausing, found, (draws, are, d))).
+      from_lines console.left _ _ (λ lines (o, does, ends, grew, kept). record {
+        bytes = bytes;
+        program = p;
+        pausing = pausing;
+        draws = draws;
+        there = there;
+        text = text;
+        pauses = found;
+        draws_are = are;
+        ends = ends ∙ ap (λ x. x.status) does;
+        seen = grew ∙ ap (λ x. grown console.history x.events) does;
+        runs = without_lines laws.steps s.run.width p s.run.steps draws lines;
+      }) d.seen)
+
   pub called : HasCalled shelf console console' asked status
   called r is = done_for (calls r) is _ (λ files known (bytes, p, there, text, (draws, are, d)).
       from_lines console.left _ _ (λ lines (o, does, ends, grew, kept). record {
@@ -232,10 +251,12 @@ pub record Meanings (shelf shelf' : ShelfView) (console console' : ConsoleView)
   pub transferred_is : status ≡ 0 → HasTransferred shelf shelf' asked
   pub simplified_is : status ≡ 0 → HasSimplified shelf shelf' asked
   pub ran_is : IsEnd status → HasRun shelf console console' asked status
+  pub stepped_is : IsEnd status → HasStepped shelf console console' asked status
   pub replayed_is : HasReplayed shelf console console' asked status
   pub played_hall_is : status ≡ 0 → HasPlayedHall shelf console console' asked
   pub covered_is : status ≡ 0 → HasCovered shelf console console' asked
   pub called_is : IsEnd status → HasCalled shelf console console' asked status
+  pub recounted_is : HasRecounted shelf console console' asked status
 
 pub meanings : (laws : Laws) (shelf shelf' : ShelfView) (console console' : ConsoleView)
     (asked : Option Request) (status : ℕ)
@@ -255,10 +276,13 @@ meanings laws shelf shelf' console console' asked status all = record {
   simplified_is = λ zero. simplified shelf shelf' console console' asked status
       (all.done (inl zero)) zero;
   ran_is = λ end. ran shelf shelf' console console' asked status (all.done end);
+  stepped_is = λ end. stepped shelf shelf' console console' asked status (all.done end) laws;
   replayed_is = replays laws shelf console console' asked status
       (λ end. ran shelf shelf' console console' asked status (all.done end));
   played_hall_is = λ zero. played_hall shelf shelf' console console' asked status
       (all.done (inl zero));
   covered_is = λ zero. covered shelf shelf' console console' asked status (all.done (inl zero));
   called_is = λ end. called shelf shelf' console console' asked status (all.done end);
+  recounted_is = recounts laws shelf console console' asked status
+      (λ end. called shelf shelf' console console' asked status (all.done end));
 }

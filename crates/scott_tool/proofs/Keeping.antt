@@ -11,7 +11,7 @@ use Rattle.scott_tool.specs.Outcome as outcome
 use Rattle.scott_tool.specs.Outcome.{File, Outcome, unkept, Concludes, Loses, whole, unsaid, unstored, cut_short}
 use Rattle.scott_tool.specs.Work.{Show, Save, kept_as, saved, Task, playing, shown_as, Does}
 use Rattle.scott_tool.specs.Obeying as o
-use Rattle.scott_tool.specs.Obeying.{Stands, Answers, NameKeeps, MayTake, KeepsAfter, FailsToStore, Refuses, Obeys}
+use Rattle.scott_tool.specs.Obeying.{Answers, NameKeeps, KeepsAfter, FailsToStore, Refuses, Obeys}
 use Rattle.scott_tool.proofs.Statuses.{first}
 use Rattle.scott_tool.proofs.Obeying.{where_known, nothing_done}
 

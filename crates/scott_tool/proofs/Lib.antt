@@ -13,6 +13,7 @@ pub mod Working
 pub mod Promises
 pub mod Done
 pub mod Replaying
+pub mod Recounting
 pub mod Hill
 pub mod Opening
 pub mod Playing
@@ -21,6 +22,7 @@ pub mod Halls
 pub mod Programs
 pub mod Routines
 pub mod Running
+pub mod Stepping
 pub mod Calling
 pub mod Translating
 pub mod Simplifying

@@ -13,9 +13,11 @@ use Rattle.source_reader.specs.Text.{source_in}
 use Rattle.source_reader.specs.declared.tree.Source.{Source}
 use Rattle.inform_tree.specs.Programs.{DirectiveTree}
 use Rattle.inform_reader.specs.Reading as reader
-use Rattle.inform_reader.specs.Reading.{IsProgram, program_in}
-use Rattle.scott_requests.specs.Settings.{DrawSource, listed, seeded}
-use Rattle.scott_requests.specs.Request.{PlayRequest, Request, check, compile, decompile, play, translate, run, hall, transfer, cover, simplify, calls}
+use Rattle.inform_reader.specs.Reading.{program_in}
+use Rattle.scott_requests.specs.Settings.{DrawSource, listed, seeded, Pause}
+use Rattle.inform_stepper.specs.declared.repeats.Pausing.{Pausing}
+use Rattle.scott_tool.specs.Step.{pausing_in, pausing_or_unfit, pausing_of_program}
+use Rattle.scott_requests.specs.Request.{PlayRequest, Request, check, compile, decompile, play, translate, run, hall, transfer, simplify, step, cover, calls}
 use Rattle.scott_types.specs.Database.{Database}
 use Rattle.scott_tool.specs.Laws.{Laws}
 use Rattle.scott_tool.specs.Steps.{◌>>=◌}
@@ -31,7 +33,7 @@ use Rattle.adv_position.specs.declared.saved.Saved.{Saved}
 use Rattle.scott_tool.specs.Position.{beginning, position_or_unfit, position_of_file, is_at_prompt, prompt_or_unfit, at_prompt_of_file, HasPosition, HasBadLine}
 use Rattle.scott_tool.specs.Run.{program_or_unfit, program_of_file}
 use Rattle.scott_tool.specs.Work.{Task, stored_by, late_of, play_task}
-use Rattle.scott_tool.specs.Plan.{Plan, of_game, of_source, of_program, with_draws, of_position, at_prompt, narrow, doing, opened, plan, followed, work, Reaches, IsRefused, expected}
+use Rattle.scott_tool.specs.Plan.{Plan, of_game, of_source, of_program, pausing_at, with_draws, of_position, at_prompt, narrow, doing, opened, plan, followed, work, Reaches, IsRefused, expected}
 use Rattle.scott_tool.specs.Causes.{IsLoadable, EndsWith0, IsAccepted}
 use Rattle.scott_tool.proofs.Files.{bind-ok, bind-err, there-loaded, loaded-there}
 
@@ -102,6 +104,17 @@ program_unfit : (name : List ℕ) (read : Result (List DirectiveTree) reader.Fau
 program_unfit name (Ok p) u e = absurd cc
 program_unfit name (Err fault) u e = (fault, refl, sym (ap status_in e))
 
+-- a program without the routine
+pausing_unfit : (file : List ℕ) (pause : Pause) (found : Option Pausing) (u : Unfit)
+    → pausing_or_unfit file pause found ≡ Err u → (found ≡ None) × (flaw_status u.flaw ≡ 6)
+pausing_unfit file pause None u e = (refl, sym (ap status_in e))
+pausing_unfit file pause (Some pausing) u e = absurd cc
+
+pausing_fit : (file : List ℕ) (pause : Pause) (found : Option Pausing) (pausing : Pausing)
+    → pausing_or_unfit file pause found ≡ Ok pausing → found ≡ Some pausing
+pausing_fit file pause None pausing e = absurd cc
+pausing_fit file pause (Some other) pausing e = let same : other ≡ pausing = cc in ap Some same
+
 -- why a database isn't translated
 translatable_unfit : (name : List ℕ) (db : Database) (wide : Option Placed) (u : Unfit)
     → translatable_or_unfit name db wide ≡ Err u
@@ -164,6 +177,8 @@ IsMade loads name late (of_source file next) =
 IsMade loads name late (of_program width file next) =
     (loads.main ≡ Some (program_load file))
     × ((p : List DirectiveTree) → IsMade loads name late (next p))
+IsMade loads name late (pausing_at width file p pause next) =
+    (pausing : Pausing) → IsMade loads name late (next pausing)
 IsMade loads name late (with_draws source next) =
     (loads.draws ≡ draws_load source) × ((ds : List ℕ) → IsMade loads name late (next ds))
 IsMade loads name late (of_position file db next) =
@@ -208,6 +223,7 @@ made (hall game count) = (refl, λ db. (refl, refl))
 made (cover c) = (refl, λ db. (refl, λ ds. (refl, refl)))
 made (transfer t) = (refl, λ db. (refl, λ from. (refl, refl)))
 made (simplify s) = (refl, λ p. (refl, refl))
+made (step s) = (refl, λ p pausing. (refl, λ ds. (refl, refl)))
 made (calls r) = (refl, λ p. (refl, λ ds. (refl, refl)))
 
 -- the task of a plan that was followed stores under its name, and has its other statuses
@@ -223,6 +239,9 @@ task_made loads name late texts (of_source file next) (m, more) task w =
     task_made loads name late texts (next d.0) (more d.0) task d.2
 task_made loads name late texts (of_program width file next) (m, more) task w =
     let d = bind-ok (program_of_file width file texts.main) (λ p. followed (next p) texts) task w in
+    task_made loads name late texts (next d.0) (more d.0) task d.2
+task_made loads name late texts (pausing_at width file p pause next) more task w =
+    let d = bind-ok (pausing_of_program width file p pause) (λ q. followed (next q) texts) task w in
     task_made loads name late texts (next d.0) (more d.0) task d.2
 task_made loads name late texts (with_draws source next) (m, more) task w =
     let d = bind-ok (draws_from source texts.draws) (λ ds. followed (next ds) texts) task w in
@@ -317,6 +336,13 @@ module _ (laws : Laws) (files : Files) (texts : Texts) (loads : Loads)
             (program_fit file (program_in width texts.main) d.0 d.1),
         reached P (next d.0) (more d.0) task d.2 h,
       )
+  reached P (pausing_at width file p pause next) more task w h =
+      let d = bind-ok (pausing_of_program width file p pause) (λ q. followed (next q) texts) task w
+      in (
+        d.0,
+        pausing_fit file pause (pausing_in width p pause) d.0 d.1,
+        reached P (next d.0) (more d.0) task d.2 h,
+      )
   reached P (with_draws source next) (m, more) task w h =
       let d = bind-ok (draws_from source texts.draws) (λ ds. followed (next ds) texts) task w in (
         d.0,
@@ -403,6 +429,16 @@ module _ (laws : Laws) (files : Files) (texts : Texts) (loads : Loads)
       )
     ],
   )
+  refused_first (pausing_at width file p pause next) more u w =
+      elim (bind-err (pausing_of_program width file p pause) (λ q. followed (next q) texts) u w) [
+        | inl d ↦ (let f = pausing_unfit file pause (pausing_in width p pause) u d in
+            inl (f.1, f.0))
+        | inr d ↦ inr (
+          d.0,
+          pausing_fit file pause (pausing_in width p pause) d.0 d.1,
+          refused_first (next d.0) (more d.0) u d.2,
+        )
+      ]
   refused_first (with_draws source next) (m, more) u w =
       elim (bind-err (draws_from source texts.draws) (λ ds. followed (next ds) texts) u w) [
         | inl d ↦ inl (no_draws source m u d)
@@ -478,6 +514,12 @@ module _ (laws : Laws) (files : Files) (texts : Texts) (loads : Loads)
       same ∙ ap (program_or_unfit file) ((laws.program width bytes p).1 text) in
       let rest = comes P (next p) (more p) h in
       (rest.0, ap (λ r. r >>= λ q. followed (next q) texts) reads ∙ rest.1, rest.2)
+  comes P (pausing_at width file p pause next) more (pausing, found, h) =
+      let rest = comes P (next pausing) (more pausing) h in (
+        rest.0,
+        ap (λ o. pausing_or_unfit file pause o >>= λ q. followed (next q) texts) found ∙ rest.1,
+        rest.2,
+      )
   comes P (with_draws source next) (m, more) (ds, are, h) =
       let rest = comes P (next ds) (more ds) h in (
         rest.0,
@@ -513,6 +555,8 @@ reaches_more files P Q f (of_source file next) (bytes, tree, db, there, text, is
     (bytes, tree, db, there, text, is, reaches_more files P Q f (next db) h)
 reaches_more files P Q f (of_program width file next) (bytes, p, there, text, h) =
     (bytes, p, there, text, reaches_more files P Q f (next p) h)
+reaches_more files P Q f (pausing_at width file p pause next) (pausing, found, h) =
+    (pausing, found, reaches_more files P Q f (next pausing) h)
 reaches_more files P Q f (with_draws source next) (ds, are, h) =
     (ds, are, reaches_more files P Q f (next ds) h)
 reaches_more files P Q f (of_position file db next) (bytes, from, there, has, h) =

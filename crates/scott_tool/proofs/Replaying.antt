@@ -83,7 +83,7 @@ source_draws files (seeded seed) draws is = subst AllDraws (sym is)
 
 -- ---- how a play ends
 
-ends_0 : (ending : Ending) (stop : Stop) (over : _) → EndingIs ending stop over
+pub ends_0 : (ending : Ending) (stop : Stop) (over : _) → EndingIs ending stop over
     → stop_status stop ≡ 0
 ends_0 (Over n) stop over is = ap stop_status is.0
 ends_0 NeedsLine stop over is = ap stop_status is.0
@@ -101,7 +101,7 @@ module _ (laws : Laws) (files : Files) (lines : List (List ℕ)) (name : List �
     (steps : ℕ) (width : Width) (style : Style) (db : Database)
     (h : IsReplay files lines name steps width style db) where
   -- a text has one program
-  same_program : (bytes : List ℕ) (p : List DirectiveTree) → get files name ≡ Some bytes
+  pub same_program : (bytes : List ℕ) (p : List DirectiveTree) → get files name ≡ Some bytes
       → IsProgram width bytes p → h.faithful.program ≡ p
   same_program bytes p there text =
       let found = sym h.there ∙ there in
@@ -113,7 +113,7 @@ module _ (laws : Laws) (files : Files) (lines : List (List ℕ)) (name : List �
       let both = sym own ∙ (laws.program width bytes p).1 text in
       cc
 
-  alike : (bytes : List ℕ) (p : List DirectiveTree) (draws : List ℕ) → get files name ≡ Some bytes
+  pub alike : (bytes : List ℕ) (p : List DirectiveTree) (draws : List ℕ) → get files name ≡ Some bytes
       → IsProgram width bytes p → DrawsAre files source draws
       → PlaysAlike width p steps lines draws (rules.play (in_style style db) lines draws)
   alike bytes p draws there text are =

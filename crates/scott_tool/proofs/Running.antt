@@ -26,8 +26,8 @@ use Rattle.adv_io.specs.Shelf.{ShelfView}
 use Rattle.inform_tree.specs.declared.widths.Width.{Width}
 use Rattle.inform_tree.specs.Programs.{DirectiveTree}
 use Rattle.scott_tool.specs.Outcome.{ended, whole, unsaid}
-use Rattle.scott_tool.specs.Run.{ran, stop_after, stop_status, stop_line, run_events}
-use Rattle.scott_tool.specs.Work.{run_task}
+use Rattle.scott_tool.specs.Run.{ran, stop_after, stop_status, stop_line}
+use Rattle.scott_tool.specs.Work.{Task, running, showing, run_task}
 use Rattle.scott_tool.specs.Obeying.{Obeys, Answers}
 use Rattle.scott_tool.specs.Promises.{IsEnd}
 use Rattle.scott_tool.proofs.Statuses.{end_is, not_end}
@@ -41,23 +41,27 @@ end_of_stop (Lacking f.NeedsLine) = inl refl
 end_of_stop (Lacking f.NeedsDraw) = inl refl
 end_of_stop (Lacking f.Spent) = inr (inr refl)
 
+-- what is shown of a run, by its lines, and after that its line
 module _ (shelf : ShelfView) (old new : ConsoleView) (status : ℕ) (width : Width)
-    (p : List DirectiveTree) (draws : List ℕ) (steps : ℕ) where
+    (p : List DirectiveTree) (draws : List ℕ) (steps : ℕ)
+    (seen_of : List (List ℕ) → List Event) where
   abbrev events : List (List ℕ) → List Event
-  events lines = run_events p (ran width p steps lines draws)
+  events lines = seen_of lines ++ says (stop_line p (stop_after width p steps lines draws))
 
   abbrev ending : List (List ℕ) → ℕ
   ending lines = stop_status (stop_after width p steps lines draws)
 
+  abbrev task : Task
+  task = running ending (showing events)
+
   -- all was shown
   pub obeys-ran : IsEnd status → IfSome old.left (λ lines. (status ≡ ending lines) ×
       (new.history ≡ grown old.history (events lines)))
-      → new.faults ≡ old.faults → Obeys shelf shelf old new
-      (Ok (run_task width p steps draws)) status
+      → new.faults ≡ old.faults → Obeys shelf shelf old new (Ok task) status
   obeys-ran end shown same = record {
     answered = where_known (λ lines. (status ≡ ending lines) ×
         (new.history ≡ grown old.history (events lines)))
-        (λ lines. Answers shelf shelf old new lines (Ok (run_task width p steps draws)) status)
+        (λ lines. Answers shelf shelf old new lines (Ok task) status)
         (λ lines h. inl (ended (ending lines) (events lines), refl, whole h.0 h.1 refl))
         old.left shown;
     stands = inl (end_is status end);
@@ -79,10 +83,10 @@ module _ (shelf : ShelfView) (old new : ConsoleView) (status : ℕ) (width : Wid
   -- the console failed
   pub obeys-broke : status ≡ 3 → Rose old.faults new.faults → old.faults ≤ new.faults
       → IfSome old.left (λ lines. GrewByPrefix old.history new.history (events lines))
-      → Obeys shelf shelf old new (Ok (run_task width p steps draws)) status
+      → Obeys shelf shelf old new (Ok task) status
   obeys-broke three failed later part = record {
     answered = where_known (λ lines. GrewByPrefix old.history new.history (events lines))
-        (λ lines. Answers shelf shelf old new lines (Ok (run_task width p steps draws)) status)
+        (λ lines. Answers shelf shelf old new lines (Ok task) status)
         (λ lines h. inl (
           ended (ending lines) (events lines),
           refl,
@@ -101,9 +105,6 @@ module _ (shelf : ShelfView) (old new : ConsoleView) (status : ℕ) (width : Wid
 
   -- ---- a run, and then its line
 
-  abbrev seen_of : List (List ℕ) → List Event
-  seen_of lines = shown (trace_of (ran width p steps lines draws).1.past)
-
   module _ (mid : ConsoleView) (stop : Stop) where
     -- what the run has shown, and why it stopped
     abbrev Showed : List (List ℕ) → Type 0
@@ -116,7 +117,7 @@ module _ (shelf : ShelfView) (old new : ConsoleView) (status : ℕ) (width : Wid
     pub obeys-concluded : {T E : Type 0} (said : Result T E) → IfSome old.left Showed → mid.faults
         ≡ old.faults → Speaks mid new said line
         → MatchResult said (λ _. status ≡ stop_status stop) (λ _. status ≡ 3)
-        → Obeys shelf shelf old new (Ok (run_task width p steps draws)) status
+        → Obeys shelf shelf old new (Ok task) status
     obeys-concluded (Ok x) showed same speaks is =
         obeys-ran (subst IsEnd (sym is) (end_of_stop stop))
         (where_known Showed (λ lines. (status ≡ ending lines) ×
@@ -139,7 +140,7 @@ module _ (shelf : ShelfView) (old new : ConsoleView) (status : ℕ) (width : Wid
   -- the console failed as it ran
   pub obeys-failed : status ≡ 3 → Rose old.faults new.faults → old.faults ≤ new.faults
       → IfSome old.left (λ lines. GrewByPrefix old.history new.history (seen_of lines))
-      → Obeys shelf shelf old new (Ok (run_task width p steps draws)) status
+      → Obeys shelf shelf old new (Ok task) status
   obeys-failed three failed later part =
       obeys-broke three failed later
       (where_known (λ lines. GrewByPrefix old.history new.history (seen_of lines))
@@ -176,6 +177,9 @@ module _ (shelf : ShelfView) (old mid : ConsoleView) (status : ℕ) (a : Accepte
   abbrev of_lines : List (List ℕ) → f.Outcome × w.Config
   of_lines lines = ran a.width p steps lines before.left
 
+  abbrev seen : List (List ℕ) → List Event
+  seen lines = shown (trace_of (of_lines lines).1.past)
+
   same : (lines : List (List ℕ)) → resumed r steps lines before.left ≡ of_lines lines
   same lines = resumed_is r a steps lines before.left program begun world
 
@@ -193,9 +197,9 @@ module _ (shelf : ShelfView) (old mid : ConsoleView) (status : ℕ) (a : Accepte
       → MatchResult said (λ _. status ≡ stop_status (stop_seen stop)) (λ _. status ≡ 3)
       → Obeys shelf shelf old new (Ok (run_task a.width p steps before.left)) status
   obeys-stopped new stop said went cause speaks is =
-      obeys-concluded shelf old new status a.width p before.left steps mid (stop_seen stop) said
+      obeys-concluded shelf old new status a.width p before.left steps seen mid (stop_seen stop) said
       (where_known (Went (Ok stop))
-      (λ lines. (mid.history ≡ grown old.history (shown (trace_of (of_lines lines).1.past))) ×
+      (λ lines. (mid.history ≡ grown old.history (seen lines)) ×
       (stop_seen stop ≡ stop_of (of_lines lines).0))
       (λ lines h. (
         h.shows ∙ ap (λ (t : f.Outcome × w.Config). grown old.history (shown (trace_of t.1.past)))
@@ -209,9 +213,9 @@ module _ (shelf : ShelfView) (old mid : ConsoleView) (status : ℕ) (a : Accepte
       (Err fault) → status ≡ 3
       → Obeys shelf shelf old mid (Ok (run_task a.width p steps before.left)) status
   obeys-broken fault went cause three =
-      obeys-failed shelf old mid status a.width p before.left steps three cause.failed cause.later
-      (where_known (Went (Err fault)) (λ lines. GrewByPrefix old.history mid.history
-      (shown (trace_of (of_lines lines).1.past)))
+      obeys-failed shelf old mid status a.width p before.left steps seen three cause.failed
+      cause.later
+      (where_known (Went (Err fault)) (λ lines. GrewByPrefix old.history mid.history (seen lines))
       (λ lines h. subst (λ (t : f.Outcome × w.Config). GrewByPrefix old.history mid.history
       (shown (trace_of t.1.past))) (same lines) h.part)
       old.left went)

@@ -12,6 +12,7 @@ pub mod Translate
 pub mod Transfer
 pub mod Simplify
 pub mod Run
+pub mod Step
 pub mod Hall
 pub mod Cover
 pub mod Calls

@@ -4,7 +4,7 @@ use Rattle.std.specs.FinMap.{get}
 use Rattle.adv_io.specs.Shelf.{Files}
 use Rattle.scott_format.specs.declared.readers.TheConstants.{DATABASE_LIMIT}
 use Rattle.scott_requests.specs.Settings.{DrawSource, listed, seeded}
-use Rattle.scott_requests.specs.Request.{Request, check, compile, decompile, play, translate, run, hall, transfer, cover, simplify, calls}
+use Rattle.scott_requests.specs.Request.{Request, check, compile, decompile, play, translate, run, hall, transfer, simplify, step, cover, calls}
 use Rattle.inform_reader.specs.declared.reading.TheConstants.{PROGRAM_LIMIT}
 use Rattle.scott_tool.specs.declared.loads.TheConstants.{SOURCE_LIMIT, DRAWS_LIMIT, POSITION_LIMIT}
 use Rattle.scott_tool.specs.Steps.{◌>>=◌}
@@ -55,6 +55,7 @@ loads_of (play p) =
     }
 loads_of (translate t) = only (database_load t.game)
 loads_of (run r) = record (only (program_load r.program)) { draws = draws_load r.source }
+loads_of (step s) = record (only (program_load s.run.program)) { draws = draws_load s.run.source }
 loads_of (calls r) = record (only (program_load r.program)) { draws = draws_load r.source }
 loads_of (hall game count) = only (database_load game)
 loads_of (cover c) = record (only (database_load c.game)) { draws = draws_load c.source }
@@ -84,6 +85,7 @@ stores (hall game count) = None
 stores (transfer t) = Some t.translation.program
 stores (cover c) = None
 stores (simplify s) = Some s.simpler
+stores (step s) = None
 stores (calls r) = None
 
 -- the statuses, besides 0, 3, 8 and 10, with which a request may have worked on the console: 2

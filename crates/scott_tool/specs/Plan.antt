@@ -7,13 +7,14 @@ use Rattle.adv_decompiler.specs.Plain.{plain}
 use Rattle.adv_io.specs.Shelf.{Files}
 use Rattle.adv_position.specs.declared.saved.Saved.{Saved}
 use Rattle.inform_reader.specs.Reading.{Fault as ProgramFault, IsProgram, IsFaulty}
+use Rattle.inform_stepper.specs.declared.repeats.Pausing.{Pausing}
 use Rattle.inform_tree.specs.declared.widths.Width.{Width}
 use Rattle.inform_tree.specs.Programs.{DirectiveTree}
 use Rattle.scott_format.specs.Canon.{canon}
 use Rattle.scott_format.specs.Faults.{Fault}
 use Rattle.scott_format.specs.File.{DatText, DatFault}
-use Rattle.scott_requests.specs.Settings.{DrawSource}
-use Rattle.scott_requests.specs.Request.{PlayRequest, Request, check, compile, decompile, play, translate, run, hall, transfer, cover, simplify, calls}
+use Rattle.scott_requests.specs.Settings.{DrawSource, Pause}
+use Rattle.scott_requests.specs.Request.{PlayRequest, RunRequest, StepRequest, Request, check, compile, decompile, play, translate, run, hall, transfer, simplify, step, cover, calls}
 use Rattle.scott_types.specs.declared.styles.Style.{Style}
 use Rattle.scott_types.specs.Database.{Database}
 use Rattle.source_reader.specs.Text.{SourceText}
@@ -29,16 +30,19 @@ use Rattle.scott_tool.specs.Draws.{draws_from, DrawsAre, AreNoDraws}
 use Rattle.scott_tool.specs.Position.{beginning, position_of_file, is_at_prompt, at_prompt_of_file, HasPosition, HasBadLine}
 use Rattle.scott_tool.specs.Translate.{translatable}
 use Rattle.scott_tool.specs.Run.{program_of_file}
-use Rattle.scott_tool.specs.Work.{exactly, translation, Task, saying, storing, Does, task_statuses, late_of, play_task, run_task, hall_task, cover_task, calls_task, simplification}
+use Rattle.scott_tool.specs.Step.{pausing_in, pausing_of_program}
+use Rattle.scott_tool.specs.Work.{exactly, translation, Task, saying, storing, Does, task_statuses, late_of, play_task, run_task, step_task, hall_task, cover_task, calls_task, simplification}
 
 -- The file of this name is read as a database, as a source of one, or as a program for words of
--- this width; the draws are read; the file of this name is read as a position of a play of the
--- database; that the position is at a prompt, or that no number of the database is too wide for
--- words of this width, is found out; or all is read, and this is to be done.
+-- this width; at what a run of the program pauses is found out; the draws are read; the file of this
+-- name is read as a position of a play of the database; that the position is at a prompt, or that no
+-- number of the database is too wide for words of this width, is found out; or all is read, and this
+-- is to be done.
 pub data Plan : Type 0 where
   of_game : List ℕ → (Database → Plan) → Plan
   of_source : List ℕ → (Database → Plan) → Plan
   of_program : Width → List ℕ → (List DirectiveTree → Plan) → Plan
+  pausing_at : Width → List ℕ → List DirectiveTree → Pause → (Pausing → Plan) → Plan
   with_draws : DrawSource → (List ℕ → Plan) → Plan
   of_position : List ℕ → Database → (Saved → Plan) → Plan
   at_prompt : List ℕ → Saved → Plan → Plan
@@ -67,6 +71,12 @@ plan (translate t) =
 plan (run r) =
     of_program r.width r.program
     (λ p. with_draws r.source (λ draws. doing (run_task r.width p r.steps draws)))
+plan (step s) =
+    let asked = s.run in
+    of_program asked.width asked.program
+    (λ p. pausing_at asked.width asked.program p s.pause
+    (λ pausing. with_draws asked.source
+    (λ draws. doing (step_task asked.width p asked.steps pausing draws))))
 plan (calls r) =
     of_program r.width r.program
     (λ p. with_draws r.source (λ draws. doing (calls_task r.width p r.steps draws)))
@@ -93,6 +103,8 @@ followed (of_source name next) texts =
     compiled_from name texts.main >>= λ db. followed (next db) texts
 followed (of_program width name next) texts =
     program_of_file width name texts.main >>= λ p. followed (next p) texts
+followed (pausing_at width name p pause next) texts =
+    pausing_of_program width name p pause >>= λ pausing. followed (next pausing) texts
 followed (with_draws source next) texts =
     draws_from source texts.draws >>= λ draws. followed (next draws) texts
 followed (of_position name db next) texts =
@@ -129,6 +141,16 @@ covering_from style db drawn = drawn >>= λ draws. Ok (cover_task style db draws
 abbrev pub running_from : Width → List DirectiveTree → ℕ → Result (List ℕ) Unfit → Result Task Unfit
 running_from width p steps drawn = drawn >>= λ draws. Ok (run_task width p steps draws)
 
+-- the same of a run that pauses, and before that where the program has the routine
+abbrev pub stepping_from : RunRequest → List DirectiveTree → Pausing → Result (List ℕ) Unfit
+    → Result Task Unfit
+stepping_from r p pausing drawn = drawn >>= λ draws. Ok (step_task r.width p r.steps pausing draws)
+
+abbrev pub stepping_with : StepRequest → List DirectiveTree → List ℕ → Result Task Unfit
+stepping_with s p bytes =
+    pausing_of_program s.run.width s.run.program p s.pause >>= λ pausing.
+    stepping_from s.run p pausing (draws_from s.run.source bytes)
+
 -- the same of a run of which it is told what it entered
 abbrev pub calling_from : Width → List DirectiveTree → ℕ → Result (List ℕ) Unfit → Result Task Unfit
 calling_from width p steps drawn = drawn >>= λ draws. Ok (calls_task width p steps draws)
@@ -146,6 +168,9 @@ Reaches files (of_source name next) P =
 Reaches files (of_program width name next) P =
     (bytes : List ℕ) × (p : List DirectiveTree) × (get files name ≡ Some bytes)
     × IsProgram width bytes p × Reaches files (next p) P
+Reaches files (pausing_at width name p pause next) P =
+    (pausing : Pausing) × (pausing_in width p pause ≡ Some pausing)
+    × Reaches files (next pausing) P
 Reaches files (with_draws source next) P =
     (draws : List ℕ) × DrawsAre files source draws × Reaches files (next draws) P
 Reaches files (of_position name db next) P =
@@ -171,6 +196,10 @@ IsRefused files (of_program width name next) status =
     (bytes : List ℕ) × (get files name ≡ Some bytes)
     × (((status ≡ 6) × ((fault : ProgramFault) × IsFaulty width bytes fault))
     ⊎ ((p : List DirectiveTree) × IsProgram width bytes p × IsRefused files (next p) status))
+IsRefused files (pausing_at width name p pause next) status =
+    ((status ≡ 6) × (pausing_in width p pause ≡ None))
+    ⊎ ((pausing : Pausing) × (pausing_in width p pause ≡ Some pausing)
+    × IsRefused files (next pausing) status)
 IsRefused files (with_draws source next) status =
     ((status ≡ 5) × AreNoDraws files source)
     ⊎ ((draws : List ℕ) × DrawsAre files source draws × IsRefused files (next draws) status)

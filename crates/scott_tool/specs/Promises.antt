@@ -1,10 +1,10 @@
 -- What the program promises, whatever words, files and lines it is given.
-use Rattle.std.specs.Prelude.{◌≡◌, ◌⊎◌, ◌≤◌, ℕ, List, [], ◌∷◌, Option, Some, None, IfSome, Ok, Contains}
+use Rattle.std.specs.Prelude.{◌≡◌, ◌⊎◌, ◌≤◌, ℕ, List, [], ◌∷◌, length, Option, Some, None, IfSome, Ok, Contains}
 use Rattle.adv_io.specs.Console.{ConsoleView}
 use Rattle.adv_io.specs.Faults.{Rose}
 use Rattle.adv_io.specs.History.{grown}
 use Rattle.adv_io.specs.Shelf.{Files, ShelfView}
-use Rattle.scott_requests.specs.Request.{PlayRequest, TranslationRequest, RunRequest, TransferRequest, CoverRequest, Request, check, compile, decompile, play, translate, run, hall, transfer, cover, SimplifyRequest, simplify, calls}
+use Rattle.scott_requests.specs.Request.{PlayRequest, TranslationRequest, RunRequest, TransferRequest, CoverRequest, Request, check, compile, decompile, play, translate, run, hall, transfer, SimplifyRequest, simplify, StepRequest, step, cover, calls}
 use Rattle.scott_types.specs.declared.styles.Style.{Style}
 use Rattle.scott_types.specs.Database.{Database}
 use Rattle.scott_tool.specs.Refusal.{no_request, unread}
@@ -22,9 +22,11 @@ use Rattle.scott_tool.specs.Translate.{Translated}
 use Rattle.scott_tool.specs.Transfer.{Transferred}
 use Rattle.scott_tool.specs.Simplify.{Simplified}
 use Rattle.scott_tool.specs.Run.{Ran}
-use Rattle.scott_tool.specs.Replay.{IsReplay, Replayed}
+use Rattle.scott_tool.specs.Replay.{IsReplay, Replayed, Recounted}
+use Rattle.adv_coverage.specs.declared.reports.TheConstants.{LINE_LIMIT}
 use Rattle.scott_tool.specs.Hall.{HallPlayed}
 use Rattle.scott_tool.specs.Cover.{Covered}
+use Rattle.scott_tool.specs.Step.{Stepped}
 use Rattle.scott_tool.specs.Calls.{Called}
 
 -- where the files and the lines are known, this holds of both
@@ -162,6 +164,13 @@ HasRun shelf console console' asked status =
     → IfKnown shelf console
     (λ files lines. Ran files lines r.program r.source r.steps r.width console console' status)
 
+-- with 0, and with the statuses of a run that ends otherwise
+abbrev pub HasStepped : ShelfView → (console console' : ConsoleView) → Option Request
+    → (status : ℕ) → Type 0
+HasStepped shelf console console' asked status =
+    (s : StepRequest) → asked ≡ Some (step s)
+    → IfKnown shelf console (λ files lines. Stepped files lines s console console' status)
+
 -- where the program is faithful to a database, the lines are typed and the steps enough
 abbrev pub HasReplayed : ShelfView → (console console' : ConsoleView) → Option Request
     → (status : ℕ) → Type 0
@@ -187,6 +196,17 @@ abbrev pub HasCalled : ShelfView → (console console' : ConsoleView) → Option
 HasCalled shelf console console' asked status =
     (r : RunRequest) → asked ≡ Some (calls r)
     → IfKnown shelf console (λ files lines. Called files lines r console console' status)
+
+-- where the program is faithful to a database of no more lines than a game has, the lines are typed
+-- and the steps enough
+abbrev pub HasRecounted : ShelfView → (console console' : ConsoleView) → Option Request
+    → (status : ℕ) → Type 0
+HasRecounted shelf console console' asked status =
+    (r : RunRequest) (style : Style) (db : Database) → asked ≡ Some (calls r)
+    → length db.actions ≤ LINE_LIMIT
+    → IfKnown shelf console
+    (λ files lines. IsReplay files lines r.program r.steps r.width style db
+    → Recounted files lines r.source style db console console' status)
 
 -- ---- counts of faults
 

@@ -8,10 +8,11 @@ use Rattle.inform_reader.specs.FaultTexts as program
 use Rattle.source_reader.specs.FaultTexts as source
 use Rattle.translator.specs.FaultTexts as translator
 use Rattle.scott_tool.specs.declared.refusals.ContentFault.{ContentFault}
-use Rattle.scott_tool.specs.declared.refusals.ContentFault.TheVariants.{NoDatabase, NoSource, NoMeaning, NoDraws, NoPosition, NotAtPrompt, NoProgram, NoTranslation}
+use Rattle.scott_tool.specs.declared.refusals.ContentFault.TheVariants.{NoDatabase, NoSource, NoMeaning, NoDraws, NoPosition, NotAtPrompt, NoProgram, NoRoutine, NoTranslation}
 
 -- what is wrong with a content: it is no database; no source of one, no draws, or no position that
--- serves; no program that is accepted; or it has a number that is too wide
+-- serves; no program that is accepted, or one without the routine that is named; or it has a number
+-- that is too wide
 pub data Flaw : Type 0 where
   bad_database : Flaw
   bad_text : Flaw
@@ -59,7 +60,7 @@ status_of (unwritten name) = 2
 unfoldable pub usage : List ℕ
 usage =
     codes "usage: scott check F | compile S F | decompile F S | play F | translate F G | run G"
-    ++ codes " | hall F N | transfer F P G | cover F | simplify G H | calls G\n"
+    ++ codes " | hall F N | transfer F P G | simplify G H | step G | cover F | calls G\n"
 
 unfoldable pub cannot_read : List ℕ
 cannot_read = codes "cannot read "
@@ -85,6 +86,9 @@ no_position = codes "not a position in line "
 unfoldable pub waits_for_draw : List ℕ
 waits_for_draw = codes "waits for a draw"
 
+unfoldable pub no_routine : List ℕ
+no_routine = codes "no routine "
+
 abbrev pub whole : List (List ℕ) → List ℕ
 whole pieces = flat_map (λ piece. piece) pieces
 
@@ -106,6 +110,7 @@ flaw_of (NoDraws fault) = bad_text
 flaw_of (NoPosition fault) = bad_text
 flaw_of NotAtPrompt = bad_text
 flaw_of (NoProgram fault) = bad_program
+flaw_of (NoRoutine name) = bad_program
 flaw_of (NoTranslation fault) = bad_width
 
 abbrev pub content_pieces : ContentFault → List (List ℕ)
@@ -116,6 +121,7 @@ content_pieces (NoDraws fault) = draws.fault_pieces fault
 content_pieces (NoPosition fault) = no_position ∷ decimal fault.0 ∷ []
 content_pieces NotAtPrompt = waits_for_draw ∷ []
 content_pieces (NoProgram fault) = program.fault_pieces fault
+content_pieces (NoRoutine name) = no_routine ∷ name.now ∷ []
 content_pieces (NoTranslation fault) = translator.fault_pieces fault
 
 -- the content of the file of this name has this fault

@@ -19,6 +19,8 @@ use Rattle.scott_tool.specs.Outcome.{File, Outcome, done, keeping}
 use Rattle.scott_tool.specs.Position.{stopped_text}
 use Rattle.scott_tool.specs.Simplify.{SimplerText}
 use Rattle.scott_tool.specs.Run.{ran, stop_after, stop_status, run_events}
+use Rattle.scott_tool.specs.Step.{step_events}
+use Rattle.inform_stepper.specs.declared.repeats.Pausing.{Pausing}
 use Rattle.translator.specs.Faithful.{Faithful}
 
 -- bytes that are said or stored: these alone; the text of a program that is faithful to a database
@@ -171,6 +173,12 @@ abbrev pub run_task : Width → List DirectiveTree → ℕ → List ℕ → Task
 run_task width p steps draws =
     running (λ lines. stop_status (stop_after width p steps lines draws))
     (showing (λ lines. run_events p (ran width p steps lines draws)))
+
+-- the same with a line at each pause
+abbrev pub step_task : Width → List DirectiveTree → ℕ → Pausing → List ℕ → Task
+step_task width p steps pausing draws =
+    running (λ lines. stop_status (stop_after width p steps lines draws))
+    (showing (λ lines. step_events width p steps pausing draws lines))
 
 -- a program, and then how often each routine of a line was entered
 abbrev pub calls_show : Width → List DirectiveTree → ℕ → List ℕ → Show

@@ -16,6 +16,7 @@ mod play;
 mod run;
 mod saying;
 mod simplify;
+mod step;
 mod storing;
 mod transfer;
 mod translate;
@@ -35,6 +36,7 @@ use saying::say_made;
 use scott_requests::Request;
 use simplify::simpler_text;
 use std::alloc::Global;
+use step::step;
 use storing::store_made;
 use transfer::opened_program_text;
 use translate::program_text;
@@ -68,6 +70,7 @@ pub fn work<S: Shelf, C: Console>(
             store_made(alloc, asked.program, made, shelf, console)
         }
         Request::Run(asked) => run(alloc, asked, texts, console),
+        Request::Step(asked) => step(alloc, asked, texts, console),
         Request::Calls(asked) => calls(alloc, asked, texts, console),
         Request::Hall(game, count) => play_hall(alloc, game, count, texts, console),
         Request::Cover(asked) => cover(alloc, asked, texts, console),

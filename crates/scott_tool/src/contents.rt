@@ -1,7 +1,10 @@
 //! What the bytes of a file hold, or why they are refused.
 ghost use Rattle.std.specs.Prelude.{◌≡◌, ◌≤◌, ◌+◌, ◌*◌, IfOk, IfSome, length, option_map};
 ghost use Rattle.std.specs.Option.{option_copied};
-ghost use Rattle.scott_requests.specs.Views.{source_of};
+ghost use Rattle.std.specs.Prelude.{map};
+ghost use Rattle.std.specs.Char.{to_ascii_lowercase};
+ghost use Rattle.scott_requests.specs.Settings.{PauseFits};
+ghost use Rattle.scott_requests.specs.Views.{source_of, pause_of};
 ghost use Rattle.adv_compiler.specs.Meaning.{meant};
 ghost use Rattle.adv_draws.specs.Listed.{listed_draws};
 ghost use Rattle.source_reader.specs.Text.{source_in};
@@ -18,19 +21,23 @@ ghost use Rattle.scott_tool.specs.Plan.{opening_of};
 ghost use Rattle.scott_tool.specs.Translate.{translatable};
 ghost use Rattle.scott_tool.specs.Run.{program_of_file};
 ghost use Rattle.translator.specs.Faithful.{Faithful};
-ghost use Rattle.inform_names.specs.Views.{directives_of};
+ghost use Rattle.inform_names.specs.Views.{names_of, directives_of};
+ghost use Rattle.inform_stepper.specs.Repeats.{InRange};
+ghost use Rattle.scott_tool.specs.Step.{routine_meant, pausing_of_program};
 ghost use Rattle.scott_tool.specs.Views.{refusal_of};
 ghost use Rattle.scott_tool.specs.Obeying.{Gives, IsWithin, database_refusal};
 
 use crate::refusals::{ContentFault, Refusal};
 use adv_compiler::{CompileFault, compile};
 use adv_draws::{DrawFault, Draws};
+use adv_io::Memory;
 use adv_position::{Saved, read_position};
-use inform_names::Accepted;
+use inform_names::{Accepted, Kind, Meaning, Names};
 use inform_reader::{ProgramFault, read_program};
-use inform_tree::Width;
+use inform_stepper::Pausing;
+use inform_tree::{Name, Width};
 use scott_format::{DATABASE_LIMIT, FormatFault, read_db};
-use scott_requests::DrawSource;
+use scott_requests::{DrawSource, Pause};
 use scott_types::laws::start_fits;
 use scott_types::{Db, Position, State, Style};
 use source_reader::{Source, SourceFault, read_source};
@@ -166,6 +173,54 @@ pub fn program<'a>(
         Ok(accepted) => Ok(accepted),
         Err(ProgramFault::Memory) => Err(Refusal::Memory),
         Err(fault) => Err(Refusal::Unfit(name, ContentFault::NoProgram(fault))),
+    }
+}
+
+// The number of the directive that is the routine with this meaning, if it is one.
+fn routine_meant(meaning: Option<Meaning>) -> Option<usize>
+    ensures { result ≡ routine_meant meaning }
+{
+    match meaning {
+        None => None,
+        Some(meaning) => match meaning.kind {
+            Kind::Routine(_) => Some(meaning.at),
+            Kind::Constant(_) => None,
+            Kind::Global => None,
+            Kind::Array(_) => None,
+        },
+    }
+}
+
+// The number of the directive that is the routine of this name, in small letters, if there is one.
+fn routine_at(alloc: Global, accepted: &Accepted, name: &str) -> Result<Option<usize>, Memory>
+    ensures { IfOk result (λ at. at
+        ≡ routine_meant (names_of accepted.now (map to_ascii_lowercase name.now))) }
+{
+    let name = Name::lower_of(alloc, name.as_bytes())?;
+    let names = Names::of(alloc, accepted)?;
+    Ok(routine_meant(names.find(name.bytes())))
+}
+
+/// At what a run of a program pauses, if it has the routine that is named. The file of this name has
+/// the program.
+pub fn pausing<'a>(
+    alloc: Global,
+    file: &'a str,
+    accepted: &Accepted,
+    pause: Pause<'a>,
+) -> Result<Pausing, Refusal<'a>>
+    requires { PauseFits (pause_of pause) }
+    ensures given { Gives (λ p. p) result (pausing_of_program accepted.now.width file.now
+        (directives_of accepted.now) (pause_of pause.entry)) }
+    ensures range { IfOk result (λ p. InRange p) }
+{
+    match pause {
+        Pause::Every(number) => Ok(Pausing::Every(number)),
+        Pause::At(name) => match routine_at(alloc, accepted, name) {
+            Ok(Some(at)) => Ok(Pausing::At(at)),
+            Ok(None) => Err(Refusal::Unfit(file, ContentFault::NoRoutine(name))),
+            Err(_) => Err(Refusal::Memory),
+        },
     }
 }
 

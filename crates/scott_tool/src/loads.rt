@@ -138,6 +138,11 @@ fn loads_of(request: Request<'_>) -> Loads<'_>
             draws: draws_load(run.source),
             position: None,
         },
+        Request::Step(asked) => Loads {
+            main: Some(program_load(asked.run.program)),
+            draws: draws_load(asked.run.source),
+            position: None,
+        },
         Request::Calls(run) => Loads {
             main: Some(program_load(run.program)),
             draws: draws_load(run.source),

@@ -5,15 +5,18 @@ ghost use Rattle.scott_requests.specs.Views.{request_of};
 ghost use Rattle.scott_tool.specs.Laws.{Laws};
 ghost use Rattle.scott_tool.specs.Views.{number_of};
 ghost use Rattle.scott_tool.specs.Obeying.{Handled};
-ghost use Rattle.scott_tool.specs.Promises.{HasStatus, IsSeen, KeepsFiles, Completes, IsEnd, HasDone, HasChecked, HasCompiled, HasDecompiled, HasPlayed, HasTranslated, HasTransferred, HasRun, HasReplayed, HasPlayedHall, HasCovered, HasCalled, Counts, HasSimplified};
+ghost use Rattle.scott_tool.specs.Promises.{HasStatus, IsSeen, KeepsFiles, Completes, IsEnd, HasDone, HasChecked, HasCompiled, HasDecompiled, HasPlayed, HasTranslated, HasTransferred, HasRun, HasStepped, HasReplayed, HasPlayedHall, HasCovered, HasCalled, HasRecounted, Counts, HasSimplified};
 
 use crate::commands::work;
 use crate::loads::load_texts;
 use crate::refusals::Refusal;
 use crate::status::Status;
+use adv_counts::laws::counts_stay;
+use adv_coverage::laws::lines_count_alike;
 use adv_io::{Console, Shelf};
 use adv_position::laws::{bad_line_is_found, text_is_read};
 use inform_reader::laws::{fault_in as program_fault_in, program_in};
+use inform_stepper::laws::steps_are_shown;
 use scott_format::laws::{database_in, fault_in};
 use scott_requests::{Request, request_in};
 use source_reader::laws::{fault_in as source_fault_in, source_in};
@@ -65,7 +68,7 @@ fn handle<S: Shelf, C: Console>(
     answer(alloc, words, shelf, console).number()
 }
 
-// What is known of reading files.
+// What is known of reading files, of the steps of runs, and of counts.
 fn reading_laws()
     ensures { Laws }
 {
@@ -77,6 +80,9 @@ fn reading_laws()
     program_fault_in();
     text_is_read();
     bad_line_is_found();
+    steps_are_shown();
+    counts_stay();
+    lines_count_alike();
 }
 
 /// Does what the words ask for, with the files of a shelf, on a console, and answers a status.
@@ -146,6 +152,11 @@ pub fn scott<S: Shelf, C: Console>(
     ensures ran { IsEnd result → HasRun (S.seen shelf.old)
         (C.seen console.old) (C.seen console.new) (asked_by words.now) result }
 
+    // With 0, 8 and 10 `step` has shown the run of the file's program with a line at each pause,
+    // and then its line; without the lines of the pauses it is what `run` shows.
+    ensures stepped { IsEnd result → HasStepped (S.seen shelf.old)
+        (C.seen console.old) (C.seen console.new) (asked_by words.now) result }
+
     // The run of a program that is faithful to a database, as `translate` stores it, on typed lines
     // and with steps that are enough ends neither with 8 nor with 10, and with 0 it has shown the
     // play of the database.
@@ -165,6 +176,11 @@ pub fn scott<S: Shelf, C: Console>(
     // With 0 `calls` has shown the run of the file's program, and then how often it entered each
     // routine of a game's lines; with 8 and 10 its line, as `run` has.
     ensures called { IsEnd result → HasCalled (S.seen shelf.old)
+        (C.seen console.old) (C.seen console.new) (asked_by words.now) result }
+
+    // The run of a program that is faithful to a database, as `translate` stores it, on typed lines
+    // and with steps that are enough: with 0 `calls` has shown what `cover` shows of the database.
+    ensures recounted { HasRecounted (S.seen shelf.old)
         (C.seen console.old) (C.seen console.new) (asked_by words.now) result }
 
     // No count of faults falls. The console's stays with every status but 3, and the shelf's with

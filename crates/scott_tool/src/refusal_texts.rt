@@ -1,6 +1,6 @@
 //! What is said where a request isn't done, piece by piece.
 ghost use Rattle.std.specs.Prelude.{◌≡◌};
-ghost use Rattle.scott_tool.specs.Refusal.{usage, cannot_read, cannot_write, after_name, longer_than, bytes_end, line_end, no_position, waits_for_draw};
+ghost use Rattle.scott_tool.specs.Refusal.{usage, cannot_read, cannot_write, after_name, longer_than, bytes_end, line_end, no_position, waits_for_draw, no_routine};
 
 /// The line that tells how the program is called.
 #[tactic(auto, unfolding(crate::specs::Refusal::usage))]
@@ -8,7 +8,7 @@ pub fn usage<'a>() -> &'a [u8]
     ensures { result.now ≡ usage }
 {
     b"usage: scott check F | compile S F | decompile F S | play F | translate F G | run G\
-    \x20| hall F N | transfer F P G | cover F | simplify G H | calls G\n"
+    \x20| hall F N | transfer F P G | simplify G H | step G | cover F | calls G\n"
 }
 
 #[tactic(auto, unfolding(crate::specs::Refusal::cannot_read))]
@@ -65,4 +65,11 @@ pub fn waits_for_draw<'a>() -> &'a [u8]
     ensures { result.now ≡ waits_for_draw }
 {
     b"waits for a draw"
+}
+
+#[tactic(auto, unfolding(crate::specs::Refusal::no_routine))]
+pub fn no_routine<'a>() -> &'a [u8]
+    ensures { result.now ≡ no_routine }
+{
+    b"no routine "
 }

@@ -2,13 +2,13 @@
 ghost use Rattle.std.specs.Prelude.{◌≡◌, ◌≤◌, [], ◌∷◌, ◌++◌, map, MatchResult};
 ghost use Rattle.adv_io.specs.History.{says};
 ghost use Rattle.adv_io.specs.Console.{Speaks};
-ghost use Rattle.scott_tool.specs.declared.refusals.ContentFault.TheVariants.{NoDatabase, NoSource, NoMeaning, NoDraws, NoPosition, NotAtPrompt, NoProgram, NoTranslation};
+ghost use Rattle.scott_tool.specs.declared.refusals.ContentFault.TheVariants.{NoDatabase, NoSource, NoMeaning, NoDraws, NoPosition, NotAtPrompt, NoProgram, NoRoutine, NoTranslation};
 ghost use Rattle.scott_tool.specs.Views.{number_of};
 ghost use Rattle.scott_tool.specs.Refusal.{no_request, unread, too_long, unfit, unfit_by, unwritten, whole, after_name, line_end, line_of};
 
 use crate::refusal_texts::{
-    after_name, bytes_end, cannot_read, cannot_write, line_end, longer_than, no_position, usage,
-    waits_for_draw,
+    after_name, bytes_end, cannot_read, cannot_write, line_end, longer_than, no_position,
+    no_routine, usage, waits_for_draw,
 };
 use crate::status::Status;
 use adv_compiler::CompileFault;
@@ -22,10 +22,10 @@ use source_reader::SourceFault;
 use translator::TransFault;
 
 /// What is wrong with the content of a file: it is no database, no source or one that means none,
-/// no list of draws, no position or one that waits for a draw, no accepted Inform program, or it
-/// isn't translated. `Memory` is no fault of it.
+/// no list of draws, no position or one that waits for a draw, no accepted Inform program or one
+/// without the routine of this name, or it isn't translated. `Memory` is no fault of it.
 #[derive(Drop)]
-pub enum ContentFault {
+pub enum ContentFault<'a> {
     NoDatabase(FormatFault),
     NoSource(SourceFault),
     NoMeaning(CompileFault),
@@ -33,6 +33,7 @@ pub enum ContentFault {
     NoPosition(PositionFault),
     NotAtPrompt,
     NoProgram(ProgramFault),
+    NoRoutine(&'a str),
     NoTranslation(TransFault),
 }
 
@@ -49,7 +50,7 @@ pub enum Refusal<'a> {
     NoRequest,
     Unread(&'a str),
     TooLong(&'a str, usize),
-    Unfit(&'a str, ContentFault),
+    Unfit(&'a str, ContentFault<'a>),
     Unwritten(&'a str),
     Memory,
 }
@@ -234,6 +235,26 @@ fn say_no_program<C: Console>(
     say_pieces(name, fault.pieces(&mut digits), console)
 }
 
+fn say_no_routine<C: Console>(
+    name: &str,
+    routine: &str,
+    console: &mut C,
+) -> Result<(), ConsoleFault>
+    ensures { Speaks (C.seen console.old) (C.seen console.new) result
+        (says (line_of (unfit (unfit_by name.now (NoRoutine routine.entry))))) }
+{
+    say_all(
+        console,
+        &[
+            name.as_bytes(),
+            after_name(),
+            no_routine(),
+            routine.as_bytes(),
+            line_end(),
+        ],
+    )
+}
+
 fn say_no_translation<C: Console>(
     name: &str,
     fault: TransFault,
@@ -276,7 +297,7 @@ pub fn concluded(said: Result<(), ConsoleFault>, status: Status) -> Status
     }
 }
 
-impl ContentFault {
+impl<'a> ContentFault<'a> {
     ghost use Rattle.scott_tool.specs.Views.{number_of};
     ghost use Rattle.scott_tool.specs.Refusal.{flaw_of, flaw_status, unfit, unfit_by, line_of};
 
@@ -292,6 +313,7 @@ impl ContentFault {
             ContentFault::NoPosition(_) => Status::NoText,
             ContentFault::NotAtPrompt => Status::NoText,
             ContentFault::NoProgram(_) => Status::NoProgram,
+            ContentFault::NoRoutine(_) => Status::NoProgram,
             ContentFault::NoTranslation(_) => Status::TooWide,
         }
     }
@@ -309,6 +331,7 @@ impl ContentFault {
             ContentFault::NoPosition(fault) => say_no_position(name, *fault, console),
             ContentFault::NotAtPrompt => say_not_at_prompt(name, console),
             ContentFault::NoProgram(fault) => say_no_program(name, fault, console),
+            ContentFault::NoRoutine(routine) => say_no_routine(name, *routine, console),
             ContentFault::NoTranslation(fault) => say_no_translation(name, *fault, console),
         }
     }

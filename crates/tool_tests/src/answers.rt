@@ -6,7 +6,7 @@ use crate::trying::{
     Case, File, NOTHING, Translated, answer_of, console_of, expect, expect_translated, steps_needed,
 };
 use crate::{
-    coverage, expect, halls, lines, positions, runs, simplifications, sources, translations,
+    coverage, expect, halls, lines, positions, runs, simplifications, sources, steps, translations,
 };
 use adv_io::{MemoryConsole, MemoryShelf};
 use scott_tool::{scott, status_without_words};
@@ -40,6 +40,11 @@ fn plays_are_answered(rt: HostRuntime) {
 #[test]
 fn halls_are_answered(rt: HostRuntime) {
     expect_all(&rt, &halls::ALL);
+}
+
+#[test]
+fn steps_are_answered(rt: HostRuntime) {
+    expect_all(&rt, &steps::ALL);
 }
 
 #[test]

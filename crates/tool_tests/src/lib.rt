@@ -32,6 +32,8 @@ mod simplifications;
 #[cfg(test)]
 mod sources;
 #[cfg(test)]
+mod steps;
+#[cfg(test)]
 mod translations;
 
 // The tests.

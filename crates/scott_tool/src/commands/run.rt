@@ -104,8 +104,8 @@ pub fn say_stop<C: Console>(
     }
 }
 
-// The status of a run that stopped so.
-fn stop_status(stop: Stop) -> Status
+/// The status of a run that stopped so.
+pub fn stop_status(stop: Stop) -> Status
     ensures { number_of result ≡ stop_status (stop_seen stop) }
 {
     match stop {

@@ -9,7 +9,8 @@ returns-in_default-clause-value c =
     rw (
       no_command word (codes "hall") c.in_default.not-hall,
       no_command word (codes "transfer") c.in_default.not-transfer,
-      no_command word (codes "cover") c.in_default.not-cover,
       no_command word (codes "simplify") c.in_default.not-simplify,
+      no_command word (codes "step") c.in_default.not-step,
+      no_command word (codes "cover") c.in_default.not-cover,
       no_command word (codes "calls") c.in_default.not-calls,
     ) refl

@@ -14,6 +14,9 @@ returns-in-Play g c = rw c.in-Play.is c.play.ensures
 pub returns-in-Run : goal.returns-in-Run
 returns-in-Run g c = rw c.in-Run.is (c.run.ensures (g.S.Shelf.seen c.args.shelf.now))
 
+pub returns-in-Step : goal.returns-in-Step
+returns-in-Step g c = rw c.in-Step.is (c.step.ensures (g.S.Shelf.seen c.args.shelf.now))
+
 pub returns-in-Calls : goal.returns-in-Calls
 returns-in-Calls g c = rw c.in-Calls.is (c.calls.ensures (g.S.Shelf.seen c.args.shelf.now))
 

@@ -10,4 +10,7 @@ returns c = record {
   program_fault = c.fault_in-3.ensures;
   position = c.text_is_read.ensures;
   bad_line = c.bad_line_is_found.ensures;
+  steps = c.steps_are_shown.ensures;
+  counts_stay = c.counts_stay.ensures;
+  lines_alike = c.lines_count_alike.ensures;
 }

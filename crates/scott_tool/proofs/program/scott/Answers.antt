@@ -21,9 +21,11 @@ returns g c =
       transferred = means.transferred_is;
       simplified = means.simplified_is;
       ran = means.ran_is;
+      stepped = means.stepped_is;
       replayed = means.replayed_is;
       played_hall = means.played_hall_is;
       covered = means.covered_is;
       called = means.called_is;
+      recounted = means.recounted_is;
       counts = all.counts;
     }
