@@ -1,14 +1,15 @@
-//! Each case of the tables, files that are too long, and consoles that fail.
+//! Each case of the tables, and files that are too long.
 use crate::games::T;
 use crate::plays::{self, WALK};
 use crate::refusals::{self, USAGE};
 use crate::trying::{
-    Case, File, NOTHING, Translated, answer_of, console_of, expect, expect_translated, steps_needed,
+    Case, File, NOTHING, Translated, answer_of, console_of, expect, expect_translated, plain_of,
+    steps_needed,
 };
 use crate::{
     coverage, expect, halls, lines, positions, runs, simplifications, sources, steps, translations,
 };
-use adv_io::{MemoryConsole, MemoryShelf};
+use adv_io::MemoryShelf;
 use scott_tool::{scott, status_without_words};
 use std::io::ErrorKind;
 use std::process::Abort;
@@ -101,19 +102,6 @@ fn refused_translations_are_answered(rt: HostRuntime) {
 fn expect_all_translated<R: Abort + AllocGlobal>(rt: &R, cases: &[Translated<'_>]) {
     for case in cases {
         expect_translated(rt, case);
-    }
-}
-
-// A play whose game is translated as it is.
-fn plain_of<'a>(play: &Case<'a>) -> Translated<'a> {
-    let run = match play.draws {
-        Some(_) => "run g.inf draws=d.txt",
-        None => "run g.inf",
-    };
-    Translated {
-        translate: "translate t.dat g.inf",
-        run,
-        play: *play,
     }
 }
 
@@ -289,47 +277,4 @@ fn no_words_are_refused(rt: HostRuntime) {
 fn words_that_cannot_be_had_are_told_apart(rt: HostRuntime) {
     expect!(rt; status_without_words(ErrorKind::OutOfMemory) == 9);
     expect!(rt; status_without_words(ErrorKind::InvalidData) == 12);
-}
-
-// What a command answers and says where the console's call of this number fails.
-fn failed_at<R: Abort + AllocGlobal>(rt: &R, case: &Case<'_>, number: u64) -> (u8, MemoryConsole) {
-    let numbers = [number];
-    let failing = Case {
-        failing_calls: &numbers,
-        ..*case
-    };
-    let (status, console, _) = answer_of(rt, &failing);
-    (status, console)
-}
-
-// The console's calls fail one by one, until none is left that can. What was said then is a prefix
-// of the whole. Answers how many calls can fail, below a thousand.
-fn expect_failures<R: Abort + AllocGlobal>(rt: &R, case: &Case<'_>) -> u64 {
-    let (status_of_all, whole, _) = answer_of(rt, case);
-    for number in 1..1_000 {
-        let (status, console) = failed_at(rt, case, number);
-        expect!(rt; whole.said().starts_with(console.said()), case.command);
-        if status == status_of_all {
-            expect!(rt; console.said() == whole.said(), case.command);
-            return number - 1;
-        }
-        expect!(rt; status == 3, case.command);
-    }
-    expect!(rt; false, "a console that fails is never used up");
-    1_000
-}
-
-#[test]
-fn consoles_of_plays_fail(rt: HostRuntime) {
-    expect!(rt; 8 <= expect_failures(&rt, &WALK));
-}
-
-#[test]
-fn consoles_of_halls_fail(rt: HostRuntime) {
-    expect!(rt; 8 <= expect_failures(&rt, &halls::TWO_SESSIONS));
-}
-
-#[test]
-fn consoles_of_runs_fail(rt: HostRuntime) {
-    expect!(rt; 3 <= expect_failures(&rt, &runs::READING));
 }

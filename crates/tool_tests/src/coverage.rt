@@ -15,7 +15,7 @@ const WALKED: Case<'static> = Case {
     ..NOTHING
 };
 
-const CHOSEN: Case<'static> = Case {
+pub const CHOSEN: Case<'static> = Case {
     command: "cover t.dat draws=d.txt",
     game: File::Of(CHOOSING),
     draws: Some(b"2 100 100"),
@@ -115,7 +115,7 @@ const NO_REQUESTS: [Case<'static>; 3] = [
 pub const ALL: [&[Case<'static>]; 2] = [&COVERED, &NO_REQUESTS];
 
 // A routine whose name isn't that of a line is none, and one whose body is empty isn't entered.
-const CALLED: Case<'static> = Case {
+pub const CALLED: Case<'static> = Case {
     command: "calls g.inf",
     program: File::Bytes(
         b"[ line_1; print \"x\"; ]; [ line_01; print \"y\"; ]; [ line_2; ]; [ Line_4999; rtrue; ];\

@@ -40,4 +40,8 @@ mod translations;
 #[cfg(test)]
 mod answers;
 #[cfg(test)]
+mod failing;
+#[cfg(test)]
+mod hostile;
+#[cfg(test)]
 mod sessions;

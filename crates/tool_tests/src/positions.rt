@@ -16,7 +16,7 @@ places 1
 ";
 
 // And back.
-const IN_THE_HALL: &[u8] = b"position 1
+pub const IN_THE_HALL: &[u8] = b"position 1
 at line
 taken 0
 room 1 saved 0 light -1 counter 0 redraw 0
@@ -66,7 +66,7 @@ const SAVED: Case<'static> = Case {
     ..NOTHING
 };
 
-const GONE_ON: Case<'static> = Case {
+pub const GONE_ON: Case<'static> = Case {
     command: "play t.dat from=p.pos",
     game: File::Of(T),
     position: Some(ON_THE_HILL),

@@ -51,7 +51,7 @@ trailer {
 
 const NO_LINE: &str = "also { } { } \"\";";
 
-const PLAIN: File<'static> = File::Pieces(&[CARRY, START, LISTS, LINES, NO_LINE, BACK]);
+pub const PLAIN: File<'static> = File::Pieces(&[CARRY, START, LISTS, LINES, NO_LINE, BACK]);
 
 const COMPILED: Case<'static> = Case {
     command: "compile t.adv u.dat",

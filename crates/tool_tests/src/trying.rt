@@ -59,8 +59,8 @@ fn words_of<R: Abort + AllocGlobal>(rt: &R, command: &str) -> Vec<String> {
     words
 }
 
-// The bytes of a file, if there is one.
-fn bytes_of<R: Abort + AllocGlobal>(rt: &R, file: &File<'_>) -> Option<Vec<u8>> {
+/// The bytes of a file, if there is one.
+pub fn bytes_of<R: Abort + AllocGlobal>(rt: &R, file: &File<'_>) -> Option<Vec<u8>> {
     match file {
         File::Absent => None,
         File::Bytes(bytes) => Some(bytes.to_vec(rt.alloc()).expect(rt, "memory")),
@@ -69,7 +69,8 @@ fn bytes_of<R: Abort + AllocGlobal>(rt: &R, file: &File<'_>) -> Option<Vec<u8>> 
     }
 }
 
-fn joined<R: Abort + AllocGlobal>(rt: &R, pieces: &[&str]) -> Vec<u8> {
+/// Pieces, one after another.
+pub fn joined<R: Abort + AllocGlobal>(rt: &R, pieces: &[&str]) -> Vec<u8> {
     let mut bytes = Vec::new(rt.alloc());
     for piece in pieces {
         bytes
@@ -135,8 +136,13 @@ pub fn answer_of<R: Abort + AllocGlobal>(
     (status, console, shelf)
 }
 
-// Expects a file after a command.
-fn expect_file<R: Abort + AllocGlobal>(rt: &R, shelf: &MemoryShelf, name: &str, file: &File<'_>) {
+/// Expects a file after a command.
+pub fn expect_file<R: Abort + AllocGlobal>(
+    rt: &R,
+    shelf: &MemoryShelf,
+    name: &str,
+    file: &File<'_>,
+) {
     match bytes_of(rt, file) {
         Some(bytes) => expect!(rt; shelf.file(name) == Some(bytes.as_slice()), name),
         None => expect!(rt; shelf.file(name) == None, name),
@@ -149,6 +155,19 @@ pub struct Translated<'a> {
     pub translate: &'a str,
     pub run: &'a str,
     pub play: Case<'a>,
+}
+
+/// A play whose game is translated as it is.
+pub fn plain_of<'a>(play: &Case<'a>) -> Translated<'a> {
+    let run = match play.draws {
+        Some(_) => "run g.inf draws=d.txt",
+        None => "run g.inf",
+    };
+    Translated {
+        translate: "translate t.dat g.inf",
+        run,
+        play: *play,
+    }
 }
 
 // Gives a command to a shelf, with the lines of a case, and expects that it succeeds and says this.
