@@ -7,6 +7,7 @@ use crate::plays::WALK;
 use crate::positions::{GONE_ON, IN_THE_HALL};
 use crate::runs::READING;
 use crate::sources::PLAIN;
+use crate::steps::AT_F;
 use crate::trying::{
     Case, File, NOTHING, answer_of, expect_file, expect_translated, joined, plain_of,
 };
@@ -67,6 +68,7 @@ const FAILING_SHELVES: &[(&str, &[&[&str]])] = &[
         &[&[NO_GAME], &[NO_POSITION], &[NOT_STORED]],
     ),
     ("run g.inf draws=d.txt", &[&[NO_PROGRAM], &[NO_DRAWS]]),
+    ("step g.inf every=2 draws=d.txt", &[&[NO_PROGRAM], &[NO_DRAWS]]),
     ("calls g.inf draws=d.txt", &[&[NO_PROGRAM], &[NO_DRAWS]]),
     ("simplify g.inf g.inf", &[&[NO_PROGRAM], &[NOT_STORED]]),
 ];
@@ -131,6 +133,7 @@ const CONSOLES: &[(Case<'static>, u64)] = &[
     (CHOSEN, 4),
     (TWO_SESSIONS, 8),
     (READING, 3),
+    (AT_F, 4),
     (CALLED, 2),
     (REPORTED, 1),
 ];

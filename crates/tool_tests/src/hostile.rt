@@ -59,7 +59,12 @@ const CUTS: &[Cut<'static>] = &[
     Cut {
         part: Part::Program,
         wholes: PROGRAMS,
-        commands: &["run g.inf", "calls g.inf", "simplify g.inf out"],
+        commands: &[
+            "run g.inf",
+            "step g.inf every=1",
+            "calls g.inf",
+            "simplify g.inf out",
+        ],
         status: 6,
         faults: &["g.inf: "],
     },

@@ -2,9 +2,9 @@
 use crate::refusals::USAGE;
 use crate::trying::{Case, File, NOTHING};
 
-// Statement and call are steps 1 and 2, `print` is 3, the change is 4, the second statement and
-// call are 5 and 6, and `print` is 7.
-const AT_F: Case<'static> = Case {
+/// Statement and call are steps 1 and 2, `print` is 3, the change is 4, the second statement and
+/// call are 5 and 6, and `print` is 7.
+pub const AT_F: Case<'static> = Case {
     command: "step g.inf at=f",
     program: File::Bytes(b"[ F; print \"f\"; ]; Global g = 5; [ Main; F(); g = 6; F(); ];"),
     said: &["[step 2: g=5]\nf[step 6: g=6]\nf"],
