@@ -1,6 +1,7 @@
 pub mod Files
 pub mod Drawn
 pub mod Loaded
+pub mod Mains
 pub mod Statuses
 pub mod Databases
 pub mod Declining

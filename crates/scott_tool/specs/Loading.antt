@@ -1,5 +1,5 @@
 -- The files that a request loads, before any of them is read.
-use Rattle.std.specs.Prelude.{◌≡◌, ◌⊎◌, ℕ, nat_le, List, [], ◌∷◌, length, Option, Some, None, option_map, Result, Ok, Err, if◌then◌else◌}
+use Rattle.std.specs.Prelude.{◌≡◌, ◌⊎◌, ℕ, nat_le, Bool, true, false, List, [], ◌∷◌, length, Option, Some, None, option_map, Result, Ok, Err, if◌then◌else◌}
 use Rattle.std.specs.FinMap.{get}
 use Rattle.adv_io.specs.Shelf.{Files}
 use Rattle.scott_format.specs.declared.readers.TheConstants.{DATABASE_LIMIT}
@@ -17,6 +17,11 @@ pub record Load : Type 0 where
 
 abbrev pub database_load : List ℕ → Load
 database_load name = record { name = name; limit = DATABASE_LIMIT }
+
+-- the main file: the database of this name, or else another one
+abbrev pub main_load : Option (List ℕ) → Option Load → Option Load
+main_load (Some game) other = Some (database_load game)
+main_load None other = other
 
 abbrev pub source_load : List ℕ → Load
 source_load name = record { name = name; limit = SOURCE_LIMIT }
@@ -72,6 +77,21 @@ draws_of request = (loads_of request).draws
 
 abbrev pub position_of : Request → Option Load
 position_of request = (loads_of request).position
+
+-- whether the main file is a database. What it reads as is kept of it then, and else its bytes.
+abbrev pub has_game : Request → Bool
+has_game (check game) = true
+has_game (compile source game) = false
+has_game (decompile game source) = true
+has_game (play p) = true
+has_game (translate t) = true
+has_game (run r) = false
+has_game (hall game count) = true
+has_game (transfer t) = true
+has_game (cover c) = true
+has_game (simplify s) = false
+has_game (step s) = false
+has_game (calls r) = false
 
 -- the name of the file that a request stores
 abbrev pub stores : Request → Option (List ℕ)

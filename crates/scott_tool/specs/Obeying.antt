@@ -1,5 +1,6 @@
 -- What the functions of the program promise each other.
 use Rattle.std.specs.Prelude.{◌≡◌, ◌⊎◌, ◌≤◌, ℕ, List, length, Option, Some, None, IfSome, Result, Ok, Err, Contains, MatchResult, IfOk, IfErr, OnOk, Vec}
+use Rattle.std.specs.Option.{is_some}
 use Rattle.adv_io.specs.Console.{ConsoleView, Speaks}
 use Rattle.adv_io.specs.Faults.{Rose}
 use Rattle.adv_io.specs.History.{says}
@@ -10,9 +11,10 @@ use Rattle.scott_format.specs.declared.faults.FormatFault.TheVariants as answer
 use Rattle.scott_requests.specs.Request.{Request}
 use Rattle.scott_tool.specs.declared.refusals.ContentFault.TheVariants.{NoDatabase}
 use Rattle.scott_tool.specs.declared.refusals.Refusal.{Refusal as HeldRefusal}
+use Rattle.scott_tool.specs.declared.loads.Texts.{Texts as HeldTexts}
 use Rattle.scott_tool.specs.Refusal.{Refusal, Unfit, unfit_by, no_request, unread, too_long, unfit, unwritten, refusing}
 use Rattle.scott_tool.specs.Outcome.{File, Outcome, refused, Concludes, Silent, Loses, Ends}
-use Rattle.scott_tool.specs.Loading.{Load, Texts, main_of, draws_of, IsLoad, texts_of}
+use Rattle.scott_tool.specs.Loading.{Load, Texts, draws_of, has_game, IsLoad, texts_of}
 use Rattle.scott_tool.specs.Work.{Text, IsText, Task, saying, storing, running, playing}
 use Rattle.scott_tool.specs.Plan.{work, statuses_of, late_in, IsExpected}
 use Rattle.scott_tool.specs.Views.{refusal_of}
@@ -195,14 +197,26 @@ pub record Fetches {T X : Type 0} (view : T → X) (old new : ShelfView) (Loaded
   pub later : old.faults ≤ new.faults
   pub steady : OnOk result (new.faults ≡ old.faults)
 
+-- the same where what a value stands for are bytes that aren't kept themselves
+pub record FetchesAs {T X : Type 0} (StandsFor : T → List ℕ → Type 0) (view : T → List ℕ → X)
+    (old new : ShelfView) (Loaded : Load → Type 0) (expected : Files → Result X Refusal)
+    (result : Result T HeldRefusal) : Type 0 where
+  pub found : IfOk result (λ given. (bytes : List ℕ) × StandsFor given bytes
+      × IfSome old.files (λ files. expected files ≡ Ok (view given bytes)))
+  pub missed : IfErr result (λ refusal. Misses old new Loaded expected (refusal_of refusal))
+  pub files_stay : new.files ≡ old.files
+  pub later : old.faults ≤ new.faults
+  pub steady : OnOk result (new.faults ≡ old.faults)
+
 -- bytes that were loaded are within their limit
 abbrev pub IsWithin : Option Load → List ℕ → Type 0
 IsWithin asked bytes = IfSome asked (λ load. length bytes ≤ load.limit)
 
--- so are the main file and that of the draws
-pub record TextsFit (request : Request) (texts : Texts) : Type 0 where
-  pub main : IsWithin (main_of request) texts.main
-  pub draws : IsWithin (draws_of request) texts.draws
+-- What was loaded is for the request: where it asks for a database, one was read or refused, and
+-- the bytes of its draws are within their limit.
+pub record TextsFit (request : Request) (texts : HeldTexts) : Type 0 where
+  pub game : is_some texts.game ≡ has_game request
+  pub draws : IsWithin (draws_of request) texts.draws.items
 
 -- ---- requests
 

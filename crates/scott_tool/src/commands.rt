@@ -3,7 +3,7 @@ ghost use Rattle.scott_requests.specs.Request.{IsSized};
 ghost use Rattle.scott_requests.specs.Views.{request_of};
 ghost use Rattle.scott_tool.specs.Refusal.{refusing};
 ghost use Rattle.scott_tool.specs.Plan.{work};
-ghost use Rattle.scott_tool.specs.Views.{texts_in, number_of};
+ghost use Rattle.scott_tool.specs.Views.{ForMain, number_of};
 ghost use Rattle.scott_tool.specs.Obeying.{Obeys, TextsFit};
 
 mod calls;
@@ -49,10 +49,12 @@ pub fn work<S: Shelf, C: Console>(
     shelf: &mut S,
     console: &mut C,
 ) -> Status
-    requires fits { TextsFit (request_of request) (texts_in texts.now) }
+    requires fits { TextsFit (request_of request) texts.now }
     requires sized { IsSized (request_of request) }
-    ensures { Obeys (S.seen shelf.old) (S.seen shelf.new) (C.seen console.old) (C.seen console.new)
-        (refusing (work (request_of request.entry) (texts_in texts.now))) (number_of result) }
+    ensures { ForMain texts.now
+        (λ texts. Obeys (S.seen shelf.old) (S.seen shelf.new)
+        (C.seen console.old) (C.seen console.new)
+        (refusing (work (request_of request.entry) texts)) (number_of result)) }
 {
     match request {
         Request::Check(game) => say_made(report_on(alloc, game, texts), console),

@@ -1,8 +1,8 @@
 //! What the bytes of a file hold, or why they are refused.
-ghost use Rattle.std.specs.Prelude.{◌≡◌, ◌≤◌, ◌+◌, ◌*◌, IfOk, IfSome, length, option_map};
-ghost use Rattle.std.specs.Option.{option_copied};
-ghost use Rattle.std.specs.Prelude.{map};
+ghost use Rattle.std.specs.Prelude.{◌≡◌, ◌≤◌, ◌+◌, ◌*◌, ℕ, List, true, IfOk, IfSome, length, map, option_map};
+ghost use Rattle.std.specs.Option.{is_some, option_copied};
 ghost use Rattle.std.specs.Char.{to_ascii_lowercase};
+ghost use Rattle.scott_files.specs.Loading.{Reads};
 ghost use Rattle.scott_requests.specs.Settings.{PauseFits};
 ghost use Rattle.scott_requests.specs.Views.{source_of, pause_of};
 ghost use Rattle.adv_compiler.specs.Meaning.{meant};
@@ -24,9 +24,10 @@ ghost use Rattle.translator.specs.Faithful.{Faithful};
 ghost use Rattle.inform_names.specs.Views.{names_of, directives_of};
 ghost use Rattle.inform_stepper.specs.Repeats.{InRange};
 ghost use Rattle.scott_tool.specs.Step.{routine_meant, pausing_of_program};
-ghost use Rattle.scott_tool.specs.Views.{refusal_of};
+ghost use Rattle.scott_tool.specs.Views.{refusal_of, ForMain};
 ghost use Rattle.scott_tool.specs.Obeying.{Gives, IsWithin, database_refusal};
 
+use crate::loads::Texts;
 use crate::refusals::{ContentFault, Refusal};
 use adv_compiler::{CompileFault, compile};
 use adv_draws::{DrawFault, Draws};
@@ -36,7 +37,7 @@ use inform_names::{Accepted, Kind, Meaning, Names};
 use inform_reader::{ProgramFault, read_program};
 use inform_stepper::Pausing;
 use inform_tree::{Name, Width};
-use scott_format::{DATABASE_LIMIT, FormatFault, read_db};
+use scott_format::FormatFault;
 use scott_requests::{DrawSource, Pause};
 use scott_types::laws::start_fits;
 use scott_types::{Db, Position, State, Style};
@@ -55,14 +56,29 @@ fn refusal_for(name: &str, fault: FormatFault) -> Refusal<'_>
     }
 }
 
-/// The database of a file's bytes.
-pub fn database<'a>(alloc: Global, name: &'a str, bytes: &[u8]) -> Result<Db, Refusal<'a>>
-    requires { length bytes.now ≤ DATABASE_LIMIT }
-    ensures { Gives (λ db. db) result (database_of_file name.now bytes.now) }
+// The database that bytes of the file of this name read as.
+fn database_read<'a, 't>(
+    name: &'a str,
+    read: &'t Result<Db, FormatFault>,
+) -> Result<&'t Db, Refusal<'a>>
+    ensures { (bytes : List ℕ) → Reads read.now bytes
+        → Gives (λ db. db.now) result (database_of_file name.now bytes) }
 {
-    match read_db(alloc, bytes) {
+    match read {
         Ok(db) => Ok(db),
-        Err(fault) => Err(refusal_for(name, fault)),
+        Err(fault) => Err(refusal_for(name, *fault)),
+    }
+}
+
+/// The database that was read from the main file, which has this name.
+pub fn database<'a, 't>(name: &'a str, texts: &'t Texts) -> Result<&'t Db, Refusal<'a>>
+    requires { is_some texts.now.game ≡ true }
+    ensures { ForMain texts.now
+        (λ texts. Gives (λ db. db.now) result (database_of_file name.now texts.main)) }
+{
+    match &texts.game {
+        Some(read) => database_read(name, read),
+        None => unreachable!(),
     }
 }
 

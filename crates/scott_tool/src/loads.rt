@@ -1,17 +1,19 @@
 //! The files that a request loads, before any of them is read.
-ghost use Rattle.std.specs.Prelude.{◌≡◌, ◌≤◌, [], length, None, Some, option_map, IfOk, IfSome};
-ghost use Rattle.std.specs.Option.{option_copied};
-ghost use Rattle.adv_io.specs.Shelf.{Files};
+ghost use Rattle.std.specs.Prelude.{◌≡◌, ◌≤◌, length, None, Some, option_map, IfOk, IfSome};
+ghost use Rattle.std.specs.Option.{is_some, option_copied};
+ghost use Rattle.scott_files.specs.Loading.{Reads};
 ghost use Rattle.scott_requests.specs.Views.{request_of, source_of};
-ghost use Rattle.scott_tool.specs.Loading.{database_load, source_load, program_load, main_of, draws_of, position_of, draws_load, position_load, IsLoad, loaded, later_texts_of, texts_of};
-ghost use Rattle.scott_tool.specs.Views.{load_of, texts_in};
-ghost use Rattle.scott_tool.specs.Obeying.{Fetches, TextsFit};
+ghost use Rattle.scott_tool.specs.Loading.{database_load, source_load, program_load, main_load, main_of, draws_of, position_of, draws_load, position_load, has_game, IsLoad, loaded, later_texts_of, texts_of};
+ghost use Rattle.scott_tool.specs.Views.{load_of, texts_with, IsMain, HasMain};
+ghost use Rattle.scott_tool.specs.Obeying.{Fetches, FetchesAs, TextsFit};
 
 use crate::refusals::Refusal;
 use adv_io::{Shelf, ShelfFault};
 use inform_reader::PROGRAM_LIMIT;
-use scott_format::DATABASE_LIMIT;
+use scott_files::load_db;
+use scott_format::{DATABASE_LIMIT, FormatFault};
 use scott_requests::{DrawSource, Request};
+use scott_types::Db;
 use std::alloc::Global;
 
 /// The most bytes of a source.
@@ -33,18 +35,11 @@ pub struct Load<'a> {
 /// What a request loads. Where a file isn't loaded there are no bytes.
 #[derive(Drop)]
 pub struct Texts {
+    /// What the main file reads as, where it is to be a database. Its bytes aren't kept then.
+    pub game: Option<Result<Db, FormatFault>>,
     pub main: Vec<u8>,
     pub draws: Vec<u8>,
     pub position: Vec<u8>,
-}
-
-fn database_load(name: &str) -> Load<'_>
-    ensures { load_of result ≡ database_load name.now }
-{
-    Load {
-        name,
-        limit: DATABASE_LIMIT,
-    }
 }
 
 fn source_load(name: &str) -> Load<'_>
@@ -96,21 +91,39 @@ fn opening_load(from: Option<&str>) -> Option<Load<'_>>
     }
 }
 
-// What a request loads: its main file, then its draws, and then the position that it goes on from.
+// What a request loads: its main file, which is the database of this name or another file, then its
+// draws, and then the position that it goes on from.
 #[derive(Clone, Copy)]
 struct Loads<'a> {
+    game: Option<&'a str>,
     main: Option<Load<'a>>,
     draws: Option<Load<'a>>,
     position: Option<Load<'a>>,
 }
 
-// No file but the main one.
+// No file but a database.
+fn only_game(name: &str) -> Loads<'_>
+    ensures game { option_copied result.game ≡ Some name.now }
+    ensures draws { option_map load_of result.draws ≡ None }
+    ensures position { option_map load_of result.position ≡ None }
+{
+    Loads {
+        game: Some(name),
+        main: None,
+        draws: None,
+        position: None,
+    }
+}
+
+// No file but a main one that is no database.
 fn only(load: Load<'_>) -> Loads<'_>
+    ensures game { option_copied result.game ≡ None }
     ensures main { option_map load_of result.main ≡ Some (load_of load.entry) }
     ensures draws { option_map load_of result.draws ≡ None }
     ensures position { option_map load_of result.position ≡ None }
 {
     Loads {
+        game: None,
         main: Some(load),
         draws: None,
         position: None,
@@ -119,43 +132,51 @@ fn only(load: Load<'_>) -> Loads<'_>
 
 // What a request loads.
 fn loads_of(request: Request<'_>) -> Loads<'_>
-    ensures main { option_map load_of result.main ≡ main_of (request_of request.entry) }
+    ensures game { is_some (option_copied result.game) ≡ has_game (request_of request.entry) }
+    ensures main { main_load (option_copied result.game) (option_map load_of result.main)
+        ≡ main_of (request_of request.entry) }
     ensures draws { option_map load_of result.draws ≡ draws_of (request_of request.entry) }
     ensures position { option_map load_of result.position ≡ position_of (request_of request.entry) }
 {
     match request {
-        Request::Check(game) => only(database_load(game)),
+        Request::Check(game) => only_game(game),
         Request::Compile(source, _) => only(source_load(source)),
-        Request::Decompile(game, _) => only(database_load(game)),
+        Request::Decompile(game, _) => only_game(game),
         Request::Play(play) => Loads {
-            main: Some(database_load(play.game)),
+            game: Some(play.game),
+            main: None,
             draws: draws_load(play.source),
             position: opening_load(play.from),
         },
-        Request::Translate(translation) => only(database_load(translation.game)),
+        Request::Translate(translation) => only_game(translation.game),
         Request::Run(run) => Loads {
+            game: None,
             main: Some(program_load(run.program)),
             draws: draws_load(run.source),
             position: None,
         },
         Request::Step(asked) => Loads {
+            game: None,
             main: Some(program_load(asked.run.program)),
             draws: draws_load(asked.run.source),
             position: None,
         },
         Request::Calls(run) => Loads {
+            game: None,
             main: Some(program_load(run.program)),
             draws: draws_load(run.source),
             position: None,
         },
-        Request::Hall(game, _) => only(database_load(game)),
+        Request::Hall(game, _) => only_game(game),
         Request::Cover(cover) => Loads {
-            main: Some(database_load(cover.game)),
+            game: Some(cover.game),
+            main: None,
             draws: draws_load(cover.source),
             position: None,
         },
         Request::Transfer(transfer) => Loads {
-            main: Some(database_load(transfer.translation.game)),
+            game: Some(transfer.translation.game),
+            main: None,
             draws: None,
             position: Some(position_load(transfer.from)),
         },
@@ -201,6 +222,51 @@ fn load_any<'a, S: Shelf>(
     }
 }
 
+// What a database's file reads as.
+fn load_game<'a, S: Shelf>(
+    alloc: Global,
+    name: &'a str,
+    shelf: &mut S,
+) -> Result<Result<Db, FormatFault>, Refusal<'a>>
+    ensures { FetchesAs Reads (λ _ bytes. bytes) (S.seen shelf.old) (S.seen shelf.new)
+        (λ load. database_load name.now ≡ load)
+        (λ files. loaded files (Some (database_load name.now))) result }
+{
+    match load_db(alloc, name, shelf) {
+        Ok(read) => Ok(read),
+        Err(ShelfFault::Absent) => Err(Refusal::Unread(name)),
+        Err(ShelfFault::Failed) => Err(Refusal::Unread(name)),
+        Err(ShelfFault::TooLong(_)) => Err(Refusal::TooLong(name, DATABASE_LIMIT)),
+        Err(ShelfFault::Memory) => Err(Refusal::Memory),
+    }
+}
+
+// What the database reads as, if there is one, and else the bytes of the main file.
+fn load_main<'a, S: Shelf>(
+    alloc: Global,
+    game: Option<&'a str>,
+    main: Option<Load<'a>>,
+    shelf: &mut S,
+) -> Result<(Option<Result<Db, FormatFault>>, Vec<u8>), Refusal<'a>>
+    ensures fetched { FetchesAs (λ p. IsMain p.0 p.1.items) (λ _ bytes. bytes)
+        (S.seen shelf.old) (S.seen shelf.new)
+        (λ load. main_load (option_copied game.entry) (option_map load_of main.entry) ≡ Some load)
+        (λ files. loaded files
+        (main_load (option_copied game.entry) (option_map load_of main.entry))) result }
+    ensures game { IfOk result (λ p. is_some p.0 ≡ is_some (option_copied game.entry)) }
+{
+    match game {
+        Some(name) => {
+            let read = load_game(alloc, name, shelf)?;
+            Ok((Some(read), Vec::new(alloc)))
+        }
+        None => {
+            let bytes = load_any(alloc, main, shelf)?;
+            Ok((None, bytes))
+        }
+    }
+}
+
 // Loads the draws and the position of a request.
 fn load_later<'a, S: Shelf>(
     alloc: Global,
@@ -227,15 +293,16 @@ pub fn load_texts<'a, S: Shelf>(
     request: Request<'a>,
     shelf: &mut S,
 ) -> Result<Texts, Refusal<'a>>
-    ensures fetched { Fetches texts_in (S.seen shelf.old) (S.seen shelf.new)
+    ensures fetched { FetchesAs HasMain texts_with (S.seen shelf.old) (S.seen shelf.new)
         (IsLoad (request_of request.entry))
         (λ files. texts_of files (request_of request.entry)) result }
-    ensures fits { IfOk result (λ texts. TextsFit (request_of request.entry) (texts_in texts)) }
+    ensures fits { IfOk result (λ texts. TextsFit (request_of request.entry) texts) }
 {
     let loads = loads_of(request);
-    let main = load_any(alloc, loads.main, shelf)?;
+    let (game, main) = load_main(alloc, loads.game, loads.main, shelf)?;
     let (draws, position) = load_later(alloc, request, loads, shelf)?;
     Ok(Texts {
+        game,
         main,
         draws,
         position,

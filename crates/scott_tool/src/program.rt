@@ -21,6 +21,7 @@ use scott_format::laws::{database_in, fault_in};
 use scott_requests::{Request, request_in};
 use source_reader::laws::{fault_in as source_fault_in, source_in};
 use std::alloc::Global;
+use std::mem::forget;
 
 // Loads what a request names, and does what it asks for.
 fn obey<S: Shelf, C: Console>(
@@ -34,7 +35,12 @@ fn obey<S: Shelf, C: Console>(
         (C.seen console.new) (Some (request_of request.entry)) (number_of result) }
 {
     match load_texts(alloc, request, shelf) {
-        Ok(texts) => work(alloc, request, &texts, shelf, console),
+        Ok(texts) => {
+            let status = work(alloc, request, &texts, shelf, console);
+            // The system takes the memory back at once when the program ends.
+            forget(texts);
+            status
+        }
         Err(refusal) => refusal.end(console),
     }
 }

@@ -44,4 +44,6 @@ mod failing;
 #[cfg(test)]
 mod hostile;
 #[cfg(test)]
+mod pieces;
+#[cfg(test)]
 mod sessions;

@@ -1,5 +1,6 @@
 //! `cover F`: a database is played on the console, and then it is said which lines were tried.
-ghost use Rattle.std.specs.Prelude.{◌≡◌, ◌≤◌, ◌<◌, Ok, IfOk, length};
+ghost use Rattle.std.specs.Prelude.{◌≡◌, ◌≤◌, ◌<◌, true, Ok, IfOk, length};
+ghost use Rattle.std.specs.Option.{is_some};
 ghost use Rattle.adv_coverage.specs.Report.{report_text};
 ghost use Rattle.scott_requests.specs.Request.{cover};
 ghost use Rattle.scott_requests.specs.Views.{asked_cover, source_of};
@@ -8,7 +9,7 @@ ghost use Rattle.scott_tool.specs.Draws.{draws_from};
 ghost use Rattle.scott_tool.specs.Obeying.{ObeysAlone, SaysReport};
 ghost use Rattle.scott_tool.specs.Plan.{covering_from, work};
 ghost use Rattle.scott_tool.specs.Refusal.{refusing};
-ghost use Rattle.scott_tool.specs.Views.{texts_in, number_of};
+ghost use Rattle.scott_tool.specs.Views.{ForMain, number_of};
 ghost use Rattle.scott_tool.specs.Work.{cover_task};
 
 use crate::contents::{database, draws_from};
@@ -18,12 +19,10 @@ use crate::status::Status;
 use adv_coverage::report;
 use adv_draws::Draws;
 use adv_io::{Console, Memory};
-use scott_format::DATABASE_LIMIT;
 use scott_requests::{CoverRequest, DrawSource};
 use scott_turn::Session;
 use scott_types::{Db, Style};
 use std::alloc::Global;
-use std::mem::forget;
 
 // How often each of the first lines was tried.
 fn counts_of(alloc: Global, session: &Session<'_>, lines: u16) -> Result<Vec<u64>, Memory>
@@ -114,17 +113,12 @@ pub fn cover<C: Console>(
     texts: &Texts,
     console: &mut C,
 ) -> Status
-    requires { length texts.now.main.items ≤ DATABASE_LIMIT }
-    ensures { ObeysAlone (C.seen console.old) (C.seen console.new)
-        (refusing (work (cover (asked_cover asked.entry)) (texts_in texts.now)))
-        (number_of result) }
+    requires { is_some texts.now.game ≡ true }
+    ensures { ForMain texts.now (λ texts. ObeysAlone (C.seen console.old) (C.seen console.new)
+        (refusing (work (cover (asked_cover asked.entry)) texts)) (number_of result)) }
 {
-    let db = match database(alloc, asked.game, &texts.main) {
-        Ok(db) => db,
-        Err(refusal) => return refusal.end(console),
-    };
-    let status = cover_from(alloc, &db, asked.source, asked.style, texts, console);
-    // The system takes the database's memory back at once when the program ends.
-    forget(db);
-    status
+    match database(asked.game, texts) {
+        Ok(db) => cover_from(alloc, db, asked.source, asked.style, texts, console),
+        Err(refusal) => refusal.end(console),
+    }
 }

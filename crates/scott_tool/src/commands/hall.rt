@@ -1,5 +1,6 @@
 //! `hall F N`: many sessions of a database are played from one list of lines.
-ghost use Rattle.std.specs.Prelude.{◌≡◌, ◌≤◌, ℕ, false, List, Ok, OnOk, length};
+ghost use Rattle.std.specs.Prelude.{◌≡◌, ◌≤◌, ℕ, true, false, List, Ok, OnOk, length};
+ghost use Rattle.std.specs.Option.{is_some};
 ghost use Rattle.adv_hall.specs.Alone.{no_session};
 ghost use Rattle.adv_hall.specs.Laws.{all_alone};
 ghost use Rattle.scott_requests.specs.Request.{hall};
@@ -8,7 +9,7 @@ ghost use Rattle.scott_tool.specs.Refusal.{refusing};
 ghost use Rattle.scott_tool.specs.Hall.{AnswersLine, HearsNext};
 ghost use Rattle.scott_tool.specs.Work.{hall_task};
 ghost use Rattle.scott_tool.specs.Plan.{work};
-ghost use Rattle.scott_tool.specs.Views.{texts_in, number_of};
+ghost use Rattle.scott_tool.specs.Views.{ForMain, number_of};
 ghost use Rattle.scott_tool.specs.Obeying.{ObeysAlone};
 
 use crate::contents::database;
@@ -17,10 +18,8 @@ use crate::status::Status;
 use adv_hall::laws::{each_hears_alone, hall_begins_alone, hall_goes_on_alone};
 use adv_hall::{HALL_LIMIT, Hall, address_in};
 use adv_io::{Console, ConsoleFault, Line, Taken};
-use scott_format::DATABASE_LIMIT;
 use scott_types::Db;
 use std::alloc::Global;
-use std::mem::forget;
 
 fn no_session<'a>() -> &'a [u8]
     ensures { result.now ≡ no_session }
@@ -111,18 +110,14 @@ pub fn play_hall<C: Console>(
     texts: &Texts,
     console: &mut C,
 ) -> Status
-    requires fits { length texts.now.main.items ≤ DATABASE_LIMIT }
+    requires game { is_some texts.now.game ≡ true }
     requires some { 1 ≤ count }
     requires few { count ≤ HALL_LIMIT }
-    ensures { ObeysAlone (C.seen console.old) (C.seen console.new)
-        (refusing (work (hall game.now count) (texts_in texts.now))) (number_of result) }
+    ensures { ForMain texts.now (λ texts. ObeysAlone (C.seen console.old) (C.seen console.new)
+        (refusing (work (hall game.now count) texts)) (number_of result)) }
 {
-    let db = match database(alloc, game, &texts.main) {
-        Ok(db) => db,
-        Err(refusal) => return refusal.end(console),
-    };
-    let status = play_sessions(alloc, &db, count, console);
-    // The system takes the database's memory back at once when the program ends.
-    forget(db);
-    status
+    match database(game, texts) {
+        Ok(db) => play_sessions(alloc, db, count, console),
+        Err(refusal) => refusal.end(console),
+    }
 }

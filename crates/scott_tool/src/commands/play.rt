@@ -1,6 +1,6 @@
 //! `play F`: a database is played on the console, and the position is kept where it stops.
-ghost use Rattle.std.specs.Prelude.{◌≡◌, ◌≤◌, Some, Ok, drop, length};
-ghost use Rattle.std.specs.Option.{option_copied, option_and_then};
+ghost use Rattle.std.specs.Prelude.{◌≡◌, ◌≤◌, true, Some, Ok, drop, length};
+ghost use Rattle.std.specs.Option.{is_some, option_copied, option_and_then};
 ghost use Rattle.adv_draws.specs.Supply.{supplied};
 ghost use Rattle.adv_position.specs.Text.{Waits, position_text as text_of};
 ghost use Rattle.adv_position.specs.declared.saved.TheConstants.{TAKEN_LIMIT};
@@ -14,7 +14,7 @@ ghost use Rattle.scott_tool.specs.Position.{kept_text};
 ghost use Rattle.scott_tool.specs.Refusal.{refusing};
 ghost use Rattle.scott_tool.specs.Work.{kept_as, play_task};
 ghost use Rattle.scott_tool.specs.Plan.{playing_with, playing_from, work};
-ghost use Rattle.scott_tool.specs.Views.{texts_in, number_of};
+ghost use Rattle.scott_tool.specs.Views.{texts_in, ForMain, number_of};
 ghost use Rattle.scott_tool.specs.Obeying.{IsWithin, KeepsAfter, Obeys};
 
 use crate::commands::storing::store_after;
@@ -24,12 +24,10 @@ use crate::status::Status;
 use adv_draws::Draws;
 use adv_io::{Console, Shelf};
 use adv_position::{Saved, position_text};
-use scott_format::DATABASE_LIMIT;
 use scott_requests::PlayRequest;
 use scott_turn::Session;
 use scott_types::{Db, Position, State, Style};
 use std::alloc::Global;
-use std::mem::forget;
 
 // Drops so many draws, or all where there are fewer.
 fn drop_draws(draws: &mut Draws, count: u32)
@@ -217,17 +215,15 @@ pub fn play<S: Shelf, C: Console>(
     shelf: &mut S,
     console: &mut C,
 ) -> Status
-    requires main { length texts.now.main.items ≤ DATABASE_LIMIT }
+    requires game { is_some texts.now.game ≡ true }
     requires draws { IsWithin (draws_load (source_of asked.source)) texts.now.draws.items }
-    ensures { Obeys (S.seen shelf.old) (S.seen shelf.new) (C.seen console.old) (C.seen console.new)
-        (refusing (work (play (asked_play asked.entry)) (texts_in texts.now))) (number_of result) }
+    ensures { ForMain texts.now
+        (λ texts. Obeys (S.seen shelf.old) (S.seen shelf.new)
+        (C.seen console.old) (C.seen console.new)
+        (refusing (work (play (asked_play asked.entry)) texts)) (number_of result)) }
 {
-    let db = match database(alloc, asked.game, &texts.main) {
-        Ok(db) => db,
-        Err(refusal) => return refusal.end(console),
-    };
-    let status = play_from(alloc, &db, asked, texts, shelf, console);
-    // The system takes the database's memory back at once when the program ends.
-    forget(db);
-    status
+    match database(asked.game, texts) {
+        Ok(db) => play_from(alloc, db, asked, texts, shelf, console),
+        Err(refusal) => refusal.end(console),
+    }
 }

@@ -1,7 +1,7 @@
 use Rattle.std.proofs.Common.{◌≡◌, refl, subst}
 use Rattle.adv_io.specs.Shelf.{ShelfView}
 use Rattle.scott_requests.specs.Views.{request_of}
-use Rattle.scott_tool.specs.Views.{refusal_of, texts_in, number_of}
+use Rattle.scott_tool.specs.Views.{refusal_of, texts_with, number_of}
 use Rattle.scott_tool.specs.Refusal.{refusing}
 use Rattle.scott_tool.specs.Plan.{work}
 use Rattle.scott_tool.specs.Obeying.{Obeys, not_loaded, worked}
@@ -14,12 +14,13 @@ returns-in-Ok g c =
     let loaded = g.S.Shelf.seen c.load_texts.new.shelf in
     let same : record { files = loaded.files; faults = loaded.faults }
     ≡ before = λ i. record { files = fetched.files_stay i; faults = fetched.steady i } in
-    worked (request_of c.args.request) (texts_in c.in-Ok.texts) refl fetched.found
-    (subst (λ (s : ShelfView). Obeys s (g.S.Shelf.seen c.work.new.shelf)
-    (g.C.Console.seen c.args.console.now) (g.C.Console.seen c.work.new.console)
-    (refusing (work (request_of c.args.request) (texts_in c.in-Ok.texts)))
-    (number_of c.work.result)) same
-    c.work.ensures)
+    let bytes = fetched.found.0 in
+    let texts = texts_with c.in-Ok.texts bytes in
+    worked (request_of c.args.request) texts refl fetched.found.2
+    (subst (λ (s : ShelfView). Obeys s (g.S.Shelf.seen c.work-status.new.shelf)
+    (g.C.Console.seen c.args.console.now) (g.C.Console.seen c.work-status.new.console)
+    (refusing (work (request_of c.args.request) texts)) (number_of c.work-status.result)) same
+    (c.work-status.ensures bytes fetched.found.1))
 
 pub returns-in-Err : goal.returns-in-Err
 returns-in-Err g c =

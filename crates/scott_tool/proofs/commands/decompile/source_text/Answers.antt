@@ -5,9 +5,9 @@ use Rattle.scott_tool.specs.Work.{exactly, storing}
 use Rattle.scott_tool.proofs.commands.decompile.source_text.Goals as goal
 
 pub returns-in-Ok : goal.returns-in-Ok
-returns-in-Ok c = (
-  exactly (plain c.in_ok-db.db),
+returns-in-Ok c = λ bytes has. (
+  exactly (plain c.in_ok-db.db.now),
   ap (λ r. r >>= λ db. Ok (storing c.args.source.now (exactly (plain db))))
-      (rw c.deref.ensures.value at c.in_ok-db.ensures),
+      (c.in_ok-db.ensures bytes has),
   c.in-Ok.ensures.plain,
 )
