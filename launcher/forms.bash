@@ -18,6 +18,9 @@ scott: the forms, with examples for the folder that ./scott stands in; docs/GUID
       ./scott translate games/hill.dat hill.inf style=y words=32
   run PROGRAM [draws=FILE | seed=N] [steps=N] [words=W]
       ./scott run games/inform/dice.inf seed=3 steps=5000 words=32
+  demo N                                            plays the game of N, 8 to 120, runs its program,
+                                                    and says how both ended
+      ./scott demo 33
   hall F N                                          plays N games of F at once, 1 to 64
       ./scott hall games/hill.dat 2
   transfer F P PROGRAM [style=S] [words=W]          writes a database as an Inform program that begins
@@ -98,6 +101,7 @@ form_of() {
         compile | decompile) echo 2 ;;
         translate) echo 2 style words ;;
         hall) echo 2 ;;
+        demo) echo 1 ;;
         transfer) echo 3 style words ;;
         cover) echo 1 draws seed style ;;
         simplify) echo 2 words ;;
@@ -132,6 +136,9 @@ name_faults() {
     elif [ "$#" -lt "${form%% *}" ]; then
         say "$command takes more names of files than that; ./scott --help has an example"
         return
+    fi
+    if [[ $command == demo ]] && ! is_between "$1" 8 120; then
+        say "$1 is no number of a game: that is a number from 8 to 120"
     fi
     if [[ $command == hall ]] && ! is_between "$2" 1 64; then
         say "$2 is no number of sessions: that is a number from 1 to 64"

@@ -2,7 +2,7 @@
 use Rattle.std.specs.Prelude.{ℕ, ◌≤◌, nat_le, true, ◌&&◌, List, [], ◌∷◌, map, String, string_bytes, Option, Some, None, option_map, unwrap_or, bytes_eq, codes, if◌then◌else◌}
 use Rattle.std.specs.Option.{option_and_then}
 use Rattle.scott_requests.specs.declared.settings.Kinds.{Kinds}
-use Rattle.scott_requests.specs.declared.requests.TheConstants.{MOST_SESSIONS}
+use Rattle.scott_requests.specs.declared.requests.TheConstants.{MOST_SESSIONS, FIRST_GAME, LAST_GAME}
 use Rattle.scott_requests.specs.declared.settings.TheConstants.{FIRST_SEED, USUAL_STEPS}
 use Rattle.inform_tree.specs.declared.widths.Width.{Width}
 use Rattle.inform_tree.specs.declared.widths.Width.TheVariants.{W16}
@@ -66,7 +66,8 @@ pub record SimplifyRequest : Type 0 where
 -- database is to be played or translated, or a program run; so many sessions of a database are to
 -- be played from one list of lines; a database is to be translated as it stands at a position; a
 -- program is to be simplified; or run step by step; a database is to be played, and then told which
--- of its lines were tried; a program is to be run, and then told which of a game's lines it entered
+-- of its lines were tried; a program is to be run, and then told which of a game's lines it entered;
+-- or the game of this number is to be shown
 pub data Request : Type 0 where
   check : List ℕ → Request
   compile : List ℕ → List ℕ → Request
@@ -80,6 +81,7 @@ pub data Request : Type 0 where
   step : StepRequest → Request
   cover : CoverRequest → Request
   calls : RunRequest → Request
+  demo : ℕ → Request
 
 -- ---- the forms of the commands: what the words after a command ask for
 
@@ -255,13 +257,25 @@ hall_form (game ∷ count ∷ []) =
     option_and_then (λ name. option_map (λ n. hall name n) (sessions_of count)) (file_name game)
 hall_form _ = None
 
+-- a number of which a game is made
+abbrev pub game_number : List ℕ → Option ℕ
+game_number digits =
+    option_and_then (λ n. if nat_le FIRST_GAME n && nat_le n LAST_GAME then Some n else None)
+    (number_of digits)
+
+-- such a number alone
+abbrev pub demo_form : List (List ℕ) → Option Request
+demo_form (number ∷ []) = option_map demo (game_number number)
+demo_form _ = None
+
 -- ---- requests
 
--- the sessions that a hall is asked for are as many as it may have, and the steps of a run that
--- pauses as many as may be given
+-- the sessions that a hall is asked for are as many as it may have, the steps of a run that pauses
+-- as many as may be given, and the number of a game is one of those that have one
 abbrev pub IsSized : Request → Type 0
 IsSized (hall game count) = (1 ≤ count) × (count ≤ MOST_SESSIONS)
 IsSized (step s) = AreSteps s.run.steps × PauseFits s.pause
+IsSized (demo n) = (FIRST_GAME ≤ n) × (n ≤ LAST_GAME)
 IsSized _ = Unit {0}
 
 -- the commands beside those that read, write and play one file: their forms
@@ -272,7 +286,8 @@ further_form command words =
     if bytes_eq command (codes "simplify") then simplify_form words else
     if bytes_eq command (codes "step") then step_form words else
     if bytes_eq command (codes "cover") then cover_form words else
-    if bytes_eq command (codes "calls") then calls_form words else None
+    if bytes_eq command (codes "calls") then calls_form words else
+    if bytes_eq command (codes "demo") then demo_form words else None
 
 -- what words ask for: a command, and its form
 abbrev pub request_in : List (List ℕ) → Option Request

@@ -15,9 +15,9 @@ use Rattle.scott_requests.specs.declared.requests.TransferRequest.{TransferReque
 use Rattle.scott_requests.specs.declared.requests.CoverRequest.{CoverRequest as HeldCover}
 use Rattle.scott_requests.specs.declared.requests.StepRequest.{StepRequest as HeldStep}
 use Rattle.scott_requests.specs.declared.requests.Request.{Request as HeldRequest}
-use Rattle.scott_requests.specs.declared.requests.Request.TheVariants.{Check, Compile, Decompile, Play, Translate, Run, Hall, Transfer, Simplify, Step, Cover, Calls}
+use Rattle.scott_requests.specs.declared.requests.Request.TheVariants.{Check, Compile, Decompile, Play, Translate, Run, Hall, Transfer, Simplify, Step, Cover, Calls, Demo}
 use Rattle.scott_requests.specs.Settings.{DrawSource, listed, seeded, Pause, entering, each, Setting, draws, style, opening, saving, pausing, most_steps, word_width, Settings}
-use Rattle.scott_requests.specs.Request.{PlayRequest, TranslationRequest, RunRequest, StepRequest, TransferRequest, CoverRequest, Request, check, compile, decompile, play, translate, run, hall, transfer, SimplifyRequest, simplify, step, cover, calls}
+use Rattle.scott_requests.specs.Request.{PlayRequest, TranslationRequest, RunRequest, StepRequest, TransferRequest, CoverRequest, Request, check, compile, decompile, play, translate, run, hall, transfer, SimplifyRequest, simplify, step, cover, calls, demo}
 use Rattle.scott_requests.specs.declared.requests.SimplifyRequest.{SimplifyRequest as HeldSimplification}
 
 abbrev pub source_of : HeldSource → DrawSource
@@ -99,3 +99,4 @@ request_of (Simplify s) = simplify (asked_simplification s)
 request_of (Step s) = step (asked_step s)
 request_of (Cover c) = cover (asked_cover c)
 request_of (Calls r) = calls (asked_run r)
+request_of (Demo n) = demo n

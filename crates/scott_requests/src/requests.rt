@@ -1,6 +1,6 @@
 //! Requests: a command, the names of its files, and its settings.
 ghost use Rattle.std.specs.Prelude.{◌≡◌, ◌≤◌, map, string_bytes, option_map, IfSome};
-ghost use Rattle.scott_requests.specs.Request.{check_form, two_names, compile_form, decompile_form, file_and_settings, source_in, style_in, width_in, steps_in, play_form, cover_form, files_and_settings, three_and_settings, translation_kinds, translation_of, translate_form, transfer_form, run_kinds, run_of, run_form, step_form, calls_form, sessions_of, hall_form, further_form, IsSized, asked_by, simplify_form};
+ghost use Rattle.scott_requests.specs.Request.{check_form, two_names, compile_form, decompile_form, file_and_settings, source_in, style_in, width_in, steps_in, play_form, cover_form, files_and_settings, three_and_settings, translation_kinds, translation_of, translate_form, transfer_form, run_kinds, run_of, run_form, step_form, calls_form, sessions_of, hall_form, game_number, demo_form, further_form, IsSized, asked_by, simplify_form};
 ghost use Rattle.scott_requests.specs.Views.{source_of, settings_of, asked_translation, asked_run, request_of};
 
 use crate::parts::{file_name, number_of};
@@ -12,6 +12,11 @@ use scott_types::Style;
 
 /// The most sessions that a hall may be asked for.
 pub const MOST_SESSIONS: u64 = 64;
+
+/// The first and the last number of which a game is made.
+pub const FIRST_GAME: u64 = 8;
+
+pub const LAST_GAME: u64 = 120;
 
 /// What is to be played: the database of this name, with these draws, in this style; from its
 /// beginning or from the position in the file `from`; and the position where the play stops is kept
@@ -90,6 +95,7 @@ pub struct SimplifyRequest<'a> {
 /// - `Step`: a program is to be run, with a line at each pause.
 /// - `Cover`: a database is to be played, and then told which of its lines were tried.
 /// - `Calls`: a program is to be run, and then told which of a game's lines it entered.
+/// - `Demo`: the game of this number is to be shown, `FIRST_GAME` to `LAST_GAME`.
 #[derive(Clone, Copy, PartialEq, Eq)]
 pub enum Request<'a> {
     Check(&'a str),
@@ -104,6 +110,7 @@ pub enum Request<'a> {
     Step(StepRequest<'a>),
     Cover(CoverRequest<'a>),
     Calls(RunRequest<'a>),
+    Demo(u32),
 }
 
 // `check` with the words after it.
@@ -397,6 +404,28 @@ fn hall_form(words: &[String]) -> Option<Request<'_>>
     Some(Request::Hall(game, count))
 }
 
+// The number of a game that digits ask for.
+fn game_number(digits: &str) -> Option<u32>
+    ensures value { result ≡ game_number digits.now }
+    ensures range { IfSome result (λ n. (FIRST_GAME ≤ n) × (n ≤ LAST_GAME)) }
+{
+    match number_of(digits) {
+        Some(number) if FIRST_GAME <= number && number <= LAST_GAME => Some(number as u32),
+        _ => None,
+    }
+}
+
+// `demo` with the words after it.
+fn demo_form(words: &[String]) -> Option<Request<'_>>
+    ensures value { option_map request_of result ≡ demo_form (map string_bytes words.now) }
+    ensures sized { IfSome result (λ r. IsSized (request_of r)) }
+{
+    let [number] = words else {
+        return None;
+    };
+    Some(Request::Demo(game_number(number.as_str())?))
+}
+
 // The further commands with the words after them.
 fn further_form<'a>(command: &str, rest: &'a [String]) -> Option<Request<'a>>
     ensures value { option_map request_of result
@@ -410,6 +439,7 @@ fn further_form<'a>(command: &str, rest: &'a [String]) -> Option<Request<'a>>
         "step" => step_form(rest),
         "cover" => cover_form(rest),
         "calls" => calls_form(rest),
+        "demo" => demo_form(rest),
         _ => None,
     }
 }

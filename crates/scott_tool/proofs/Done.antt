@@ -4,7 +4,7 @@ use Rattle.std.specs.Prelude.{option_map}
 use Rattle.adv_io.specs.Console.{ConsoleView}
 use Rattle.adv_io.specs.History.{says, grown}
 use Rattle.adv_io.specs.Shelf.{Files, ShelfView, with_file}
-use Rattle.scott_requests.specs.Request.{Request, check, compile, decompile, play, translate, run, hall, transfer, simplify, step, cover, calls}
+use Rattle.scott_requests.specs.Request.{Request, check, compile, decompile, play, translate, run, hall, transfer, simplify, step, cover, calls, demo}
 use Rattle.scott_types.specs.Database.{Database}
 use Rattle.scott_tool.specs.Outcome as outcome
 use Rattle.scott_tool.specs.Play.{OpensAt, position_kept}
@@ -12,7 +12,7 @@ use Rattle.scott_tool.specs.Position.{beginning, stopped_text}
 use Rattle.scott_tool.specs.Work.{Task, kept_as, saved, play_from}
 use Rattle.scott_tool.specs.Plan.{doing, opened, plan, Reaches}
 use Rattle.adv_position.specs.declared.saved.Saved.{Saved}
-use Rattle.scott_tool.specs.Promises.{IsEnd, WasDone, HasDone, HasChecked, HasCompiled, HasDecompiled, HasPlayed, HasTranslated, HasTransferred, HasRun, HasStepped, HasReplayed, HasPlayedHall, HasCovered, HasCalled, HasRecounted, HasSimplified}
+use Rattle.scott_tool.specs.Promises.{IsEnd, WasDone, HasDone, HasChecked, HasCompiled, HasDecompiled, HasPlayed, HasTranslated, HasTransferred, HasRun, HasStepped, HasReplayed, HasPlayedHall, HasCovered, HasCalled, HasRecounted, HasDemonstrated, HasSimplified}
 use Rattle.scott_tool.specs.Laws.{Laws}
 use Rattle.scott_tool.proofs.Promised.{Promises, from_lines}
 use Rattle.scott_tool.proofs.Replaying.{replays}
@@ -217,6 +217,14 @@ module _ (shelf shelf' : ShelfView) (console console' : ConsoleView) (asked : Op
         seen = grew ∙ ap (λ x. grown console.history x.events) does;
       }) d.seen)
 
+  pub demonstrated : HasDemonstrated shelf console console' asked
+  demonstrated n is = done_for (demo n) is _ (λ files known d.
+      from_lines console.left _ _ (λ lines (o, (out, told, does), ends, grew, kept). (
+        out,
+        told,
+        grew ∙ ap (λ x. grown console.history x.events) does,
+      )) d.seen)
+
   pub played_hall : HasPlayedHall shelf console console' asked
   played_hall game count is = done_for (hall game count) is _
       (λ files known (bytes, db, there, text, d).
@@ -257,6 +265,7 @@ pub record Meanings (shelf shelf' : ShelfView) (console console' : ConsoleView)
   pub covered_is : status ≡ 0 → HasCovered shelf console console' asked
   pub called_is : IsEnd status → HasCalled shelf console console' asked status
   pub recounted_is : HasRecounted shelf console console' asked status
+  pub demonstrated_is : status ≡ 0 → HasDemonstrated shelf console console' asked
 
 pub meanings : (laws : Laws) (shelf shelf' : ShelfView) (console console' : ConsoleView)
     (asked : Option Request) (status : ℕ)
@@ -283,6 +292,8 @@ meanings laws shelf shelf' console console' asked status all = record {
       (all.done (inl zero));
   covered_is = λ zero. covered shelf shelf' console console' asked status (all.done (inl zero));
   called_is = λ end. called shelf shelf' console console' asked status (all.done end);
+  demonstrated_is = λ zero. demonstrated shelf shelf' console console' asked status
+      (all.done (inl zero));
   recounted_is = recounts laws shelf console console' asked status
       (λ end. called shelf shelf' console console' asked status (all.done end));
 }

@@ -17,7 +17,7 @@ use Rattle.inform_reader.specs.Reading.{program_in}
 use Rattle.scott_requests.specs.Settings.{DrawSource, listed, seeded, Pause}
 use Rattle.inform_stepper.specs.declared.repeats.Pausing.{Pausing}
 use Rattle.scott_tool.specs.Step.{pausing_in, pausing_or_unfit, pausing_of_program}
-use Rattle.scott_requests.specs.Request.{PlayRequest, Request, check, compile, decompile, play, translate, run, hall, transfer, simplify, step, cover, calls}
+use Rattle.scott_requests.specs.Request.{PlayRequest, Request, check, compile, decompile, play, translate, run, hall, transfer, simplify, step, cover, calls, demo}
 use Rattle.scott_types.specs.Database.{Database}
 use Rattle.scott_tool.specs.Laws.{Laws}
 use Rattle.scott_tool.specs.Steps.{◌>>=◌}
@@ -219,6 +219,7 @@ made (play p) = (
 )
 made (translate t) = (refl, λ db. (refl, refl))
 made (run r) = (refl, λ p. (refl, λ ds. (refl, refl)))
+made (demo n) = (refl, refl)
 made (hall game count) = (refl, λ db. (refl, refl))
 made (cover c) = (refl, λ db. (refl, λ ds. (refl, refl)))
 made (transfer t) = (refl, λ db. (refl, λ from. (refl, refl)))

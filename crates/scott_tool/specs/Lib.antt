@@ -16,6 +16,7 @@ pub mod Step
 pub mod Hall
 pub mod Cover
 pub mod Calls
+pub mod Demo
 pub mod Replay
 pub mod Work
 pub mod Plan

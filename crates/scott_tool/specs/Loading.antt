@@ -4,7 +4,7 @@ use Rattle.std.specs.FinMap.{get}
 use Rattle.adv_io.specs.Shelf.{Files}
 use Rattle.scott_format.specs.declared.readers.TheConstants.{DATABASE_LIMIT}
 use Rattle.scott_requests.specs.Settings.{DrawSource, listed, seeded}
-use Rattle.scott_requests.specs.Request.{Request, check, compile, decompile, play, translate, run, hall, transfer, simplify, step, cover, calls}
+use Rattle.scott_requests.specs.Request.{Request, check, compile, decompile, play, translate, run, hall, transfer, simplify, step, cover, calls, demo}
 use Rattle.inform_reader.specs.declared.reading.TheConstants.{PROGRAM_LIMIT}
 use Rattle.scott_tool.specs.declared.loads.TheConstants.{SOURCE_LIMIT, DRAWS_LIMIT, POSITION_LIMIT}
 use Rattle.scott_tool.specs.Steps.{◌>>=◌}
@@ -48,6 +48,10 @@ pub record Loads : Type 0 where
 abbrev pub only : Load → Loads
 only load = record { main = Some load; draws = None; position = None }
 
+-- no file
+abbrev pub no_loads : Loads
+no_loads = record { main = None; draws = None; position = None }
+
 abbrev pub loads_of : Request → Loads
 loads_of (check game) = only (database_load game)
 loads_of (compile source game) = only (source_load source)
@@ -62,6 +66,7 @@ loads_of (translate t) = only (database_load t.game)
 loads_of (run r) = record (only (program_load r.program)) { draws = draws_load r.source }
 loads_of (step s) = record (only (program_load s.run.program)) { draws = draws_load s.run.source }
 loads_of (calls r) = record (only (program_load r.program)) { draws = draws_load r.source }
+loads_of (demo n) = no_loads
 loads_of (hall game count) = only (database_load game)
 loads_of (cover c) = record (only (database_load c.game)) { draws = draws_load c.source }
 loads_of (transfer t) =
@@ -86,6 +91,7 @@ has_game (decompile game source) = true
 has_game (play p) = true
 has_game (translate t) = true
 has_game (run r) = false
+has_game (demo n) = false
 has_game (hall game count) = true
 has_game (transfer t) = true
 has_game (cover c) = true
@@ -107,6 +113,7 @@ stores (cover c) = None
 stores (simplify s) = Some s.simpler
 stores (step s) = None
 stores (calls r) = None
+stores (demo n) = None
 
 -- the statuses, besides 0, 3, 8 and 10, with which a request may have worked on the console: 2
 -- where a file is stored after that, and 9 where memory is wanted after it

@@ -14,7 +14,7 @@ use Rattle.scott_format.specs.Canon.{canon}
 use Rattle.scott_format.specs.Faults.{Fault}
 use Rattle.scott_format.specs.File.{DatText, DatFault}
 use Rattle.scott_requests.specs.Settings.{DrawSource, Pause}
-use Rattle.scott_requests.specs.Request.{PlayRequest, RunRequest, StepRequest, Request, check, compile, decompile, play, translate, run, hall, transfer, simplify, step, cover, calls}
+use Rattle.scott_requests.specs.Request.{PlayRequest, RunRequest, StepRequest, Request, check, compile, decompile, play, translate, run, hall, transfer, simplify, step, cover, calls, demo}
 use Rattle.scott_types.specs.declared.styles.Style.{Style}
 use Rattle.scott_types.specs.Database.{Database}
 use Rattle.source_reader.specs.Text.{SourceText}
@@ -31,7 +31,7 @@ use Rattle.scott_tool.specs.Position.{beginning, position_of_file, is_at_prompt,
 use Rattle.scott_tool.specs.Translate.{translatable}
 use Rattle.scott_tool.specs.Run.{program_of_file}
 use Rattle.scott_tool.specs.Step.{pausing_in, pausing_of_program}
-use Rattle.scott_tool.specs.Work.{exactly, translation, Task, saying, storing, Does, task_statuses, late_of, play_task, run_task, step_task, hall_task, cover_task, calls_task, simplification}
+use Rattle.scott_tool.specs.Work.{exactly, translation, Task, saying, storing, Does, task_statuses, late_of, play_task, run_task, step_task, hall_task, cover_task, calls_task, simplification, demonstration}
 
 -- The file of this name is read as a database, as a source of one, or as a program for words of
 -- this width; at what a run of the program pauses is found out; the draws are read; the file of this
@@ -80,6 +80,7 @@ plan (step s) =
 plan (calls r) =
     of_program r.width r.program
     (λ p. with_draws r.source (λ draws. doing (calls_task r.width p r.steps draws)))
+plan (demo n) = doing (saying (demonstration n))
 plan (hall game count) = of_game game (λ db. doing (hall_task db count))
 plan (cover c) =
     of_game c.game (λ db. with_draws c.source (λ draws. doing (cover_task c.style db draws)))

@@ -4,7 +4,7 @@ use Rattle.adv_io.specs.Console.{ConsoleView}
 use Rattle.adv_io.specs.Faults.{Rose}
 use Rattle.adv_io.specs.History.{grown}
 use Rattle.adv_io.specs.Shelf.{Files, ShelfView}
-use Rattle.scott_requests.specs.Request.{PlayRequest, TranslationRequest, RunRequest, TransferRequest, CoverRequest, Request, check, compile, decompile, play, translate, run, hall, transfer, SimplifyRequest, simplify, StepRequest, step, cover, calls}
+use Rattle.scott_requests.specs.Request.{PlayRequest, TranslationRequest, RunRequest, TransferRequest, CoverRequest, Request, check, compile, decompile, play, translate, run, hall, transfer, SimplifyRequest, simplify, StepRequest, step, cover, calls, demo}
 use Rattle.scott_types.specs.declared.styles.Style.{Style}
 use Rattle.scott_types.specs.Database.{Database}
 use Rattle.scott_tool.specs.Refusal.{no_request, unread}
@@ -28,6 +28,7 @@ use Rattle.scott_tool.specs.Hall.{HallPlayed}
 use Rattle.scott_tool.specs.Cover.{Covered}
 use Rattle.scott_tool.specs.Step.{Stepped}
 use Rattle.scott_tool.specs.Calls.{Called}
+use Rattle.scott_tool.specs.Demo.{Demonstrated}
 
 -- where the files and the lines are known, this holds of both
 abbrev pub IfKnown : ShelfView → ConsoleView → (Files → List (List ℕ) → Type 0) → Type 0
@@ -196,6 +197,11 @@ abbrev pub HasCalled : ShelfView → (console console' : ConsoleView) → Option
 HasCalled shelf console console' asked status =
     (r : RunRequest) → asked ≡ Some (calls r)
     → IfKnown shelf console (λ files lines. Called files lines r console console' status)
+
+abbrev pub HasDemonstrated : ShelfView → (console console' : ConsoleView) → Option Request → Type 0
+HasDemonstrated shelf console console' asked =
+    (n : ℕ) → asked ≡ Some (demo n)
+    → IfKnown shelf console (λ files lines. Demonstrated n console console')
 
 -- where the program is faithful to a database of no more lines than a game has, the lines are typed
 -- and the steps enough

@@ -60,7 +60,7 @@ status_of (unwritten name) = 2
 unfoldable pub usage : List ℕ
 usage =
     codes "usage: scott check F | compile S F | decompile F S | play F | translate F G | run G"
-    ++ codes " | hall F N | transfer F P G | simplify G H | step G | cover F | calls G\n"
+    ++ codes " | demo N | hall F N | transfer F P G | simplify G H | step G | cover F | calls G\n"
 
 unfoldable pub cannot_read : List ℕ
 cannot_read = codes "cannot read "

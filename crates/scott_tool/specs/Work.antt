@@ -1,5 +1,6 @@
 -- Tasks: what is done for a request, once all that it reads is accepted.
 use Rattle.std.specs.Prelude.{◌≡◌, ℕ, List, [], ◌∷◌, drop, Option, Some, None, option_map}
+use Rattle.adv_demo.specs.Demonstrations.{IsDemonstration}
 use Rattle.adv_hall.specs.Alone.{hall_events}
 use Rattle.adv_io.specs.declared.events.Event.{Event}
 use Rattle.adv_io.specs.History.{says, shown}
@@ -25,16 +26,19 @@ use Rattle.translator.specs.Faithful.{Faithful}
 
 -- bytes that are said or stored: these alone; the text of a program that is faithful to a database
 -- in this style, for words of this width, and opens at its beginning or in this state after a
--- prompt; or the text of a program that is simpler than this one, for words of this width
+-- prompt; the text of a program that is simpler than this one, for words of this width; or what is
+-- told of the game of this number
 pub data Text : Type 0 where
   exactly : List ℕ → Text
   translation : Style → Width → Database → Option State → Text
   simplification : Width → List DirectiveTree → Text
+  demonstration : ℕ → Text
 
 abbrev pub IsText : Text → List ℕ → Type 0
 IsText (exactly bytes) out = out ≡ bytes
 IsText (translation style width db from) out = Faithful style width db from out
 IsText (simplification width p) out = SimplerText width p out
+IsText (demonstration n) out = IsDemonstration n out
 
 -- What a console sees, by the lines that are left: all events; those that are there where memory
 -- runs out after them; and the statuses, besides those of what is done and of a console that

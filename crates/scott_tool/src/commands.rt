@@ -11,6 +11,7 @@ mod check;
 mod compile;
 mod cover;
 mod decompile;
+mod demo;
 mod hall;
 mod play;
 mod run;
@@ -29,6 +30,7 @@ use check::report_on;
 use compile::database_text;
 use cover::cover;
 use decompile::source_text;
+use demo::told_of;
 use hall::play_hall;
 use play::play;
 use run::run;
@@ -74,6 +76,7 @@ pub fn work<S: Shelf, C: Console>(
         Request::Run(asked) => run(alloc, asked, texts, console),
         Request::Step(asked) => step(alloc, asked, texts, console),
         Request::Calls(asked) => calls(alloc, asked, texts, console),
+        Request::Demo(n) => say_made(told_of(alloc, n), console),
         Request::Hall(game, count) => play_hall(alloc, game, count, texts, console),
         Request::Cover(asked) => cover(alloc, asked, texts, console),
         Request::Transfer(asked) => {

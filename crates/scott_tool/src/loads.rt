@@ -167,6 +167,12 @@ fn loads_of(request: Request<'_>) -> Loads<'_>
             draws: draws_load(run.source),
             position: None,
         },
+        Request::Demo(_) => Loads {
+            game: None,
+            main: None,
+            draws: None,
+            position: None,
+        },
         Request::Hall(game, _) => only_game(game),
         Request::Cover(cover) => Loads {
             game: Some(cover.game),

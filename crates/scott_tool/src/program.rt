@@ -5,7 +5,7 @@ ghost use Rattle.scott_requests.specs.Views.{request_of};
 ghost use Rattle.scott_tool.specs.Laws.{Laws};
 ghost use Rattle.scott_tool.specs.Views.{number_of};
 ghost use Rattle.scott_tool.specs.Obeying.{Handled};
-ghost use Rattle.scott_tool.specs.Promises.{HasStatus, IsSeen, KeepsFiles, Completes, IsEnd, HasDone, HasChecked, HasCompiled, HasDecompiled, HasPlayed, HasTranslated, HasTransferred, HasRun, HasStepped, HasReplayed, HasPlayedHall, HasCovered, HasCalled, HasRecounted, Counts, HasSimplified};
+ghost use Rattle.scott_tool.specs.Promises.{HasStatus, IsSeen, KeepsFiles, Completes, IsEnd, HasDone, HasChecked, HasCompiled, HasDecompiled, HasPlayed, HasTranslated, HasTransferred, HasRun, HasStepped, HasReplayed, HasPlayedHall, HasCovered, HasCalled, HasRecounted, HasDemonstrated, Counts, HasSimplified};
 
 use crate::commands::work;
 use crate::loads::load_texts;
@@ -188,6 +188,11 @@ pub fn scott<S: Shelf, C: Console>(
     // and with steps that are enough: with 0 `calls` has shown what `cover` shows of the database.
     ensures recounted { HasRecounted (S.seen shelf.old)
         (C.seen console.old) (C.seen console.new) (asked_by words.now) result }
+
+    // With 0 `demo` has told how the play of the game of the number ended, and how the run of a
+    // program ended that is faithful to it, on the same lines and draws.
+    ensures demonstrated { result ≡ 0 → HasDemonstrated (S.seen shelf.old)
+        (C.seen console.old) (C.seen console.new) (asked_by words.now) }
 
     // No count of faults falls. The console's stays with every status but 3, and the shelf's with
     // every one but 2 and 3.

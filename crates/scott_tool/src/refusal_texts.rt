@@ -8,7 +8,7 @@ pub fn usage<'a>() -> &'a [u8]
     ensures { result.now ≡ usage }
 {
     b"usage: scott check F | compile S F | decompile F S | play F | translate F G | run G\
-    \x20| hall F N | transfer F P G | simplify G H | step G | cover F | calls G\n"
+    \x20| demo N | hall F N | transfer F P G | simplify G H | step G | cover F | calls G\n"
 }
 
 #[tactic(auto, unfolding(crate::specs::Refusal::cannot_read))]

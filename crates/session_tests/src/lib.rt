@@ -6,6 +6,8 @@
 #[cfg(test)]
 mod databases;
 #[cfg(test)]
+mod demonstrations;
+#[cfg(test)]
 mod expecting;
 #[cfg(test)]
 mod halls;

@@ -7,7 +7,8 @@ use crate::trying::{
     steps_needed,
 };
 use crate::{
-    coverage, expect, halls, lines, positions, runs, simplifications, sources, steps, translations,
+    coverage, demos, expect, halls, lines, positions, runs, simplifications, sources, steps,
+    translations,
 };
 use adv_io::MemoryShelf;
 use scott_tool::{scott, status_without_words};
@@ -41,6 +42,11 @@ fn plays_are_answered(rt: HostRuntime) {
 #[test]
 fn halls_are_answered(rt: HostRuntime) {
     expect_all(&rt, &halls::ALL);
+}
+
+#[test]
+fn no_made_games_are_answered(rt: HostRuntime) {
+    expect_all(&rt, &demos::ALL);
 }
 
 #[test]

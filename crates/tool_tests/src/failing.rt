@@ -68,7 +68,10 @@ const FAILING_SHELVES: &[(&str, &[&[&str]])] = &[
         &[&[NO_GAME], &[NO_POSITION], &[NOT_STORED]],
     ),
     ("run g.inf draws=d.txt", &[&[NO_PROGRAM], &[NO_DRAWS]]),
-    ("step g.inf every=2 draws=d.txt", &[&[NO_PROGRAM], &[NO_DRAWS]]),
+    (
+        "step g.inf every=2 draws=d.txt",
+        &[&[NO_PROGRAM], &[NO_DRAWS]],
+    ),
     ("calls g.inf draws=d.txt", &[&[NO_PROGRAM], &[NO_DRAWS]]),
     ("simplify g.inf g.inf", &[&[NO_PROGRAM], &[NOT_STORED]]),
 ];

@@ -40,6 +40,8 @@ mod translations;
 #[cfg(test)]
 mod answers;
 #[cfg(test)]
+mod demos;
+#[cfg(test)]
 mod failing;
 #[cfg(test)]
 mod hostile;

@@ -5,7 +5,7 @@ use crate::trying::{Case, File, NOTHING};
 
 pub const USAGE: &str =
     "usage: scott check F | compile S F | decompile F S | play F | translate F G | run G \
-    | hall F N | transfer F P G | simplify G H | step G | cover F | calls G\n";
+    | demo N | hall F N | transfer F P G | simplify G H | step G | cover F | calls G\n";
 
 const UNASKED: Case<'static> = Case {
     status: 1,

@@ -49,8 +49,8 @@ pub const NOTHING: Case<'static> = Case {
     after: &[],
 };
 
-// The words of a command, which blanks part.
-fn words_of<R: Abort + AllocGlobal>(rt: &R, command: &str) -> Vec<String> {
+/// The words of a command, which blanks part.
+pub fn words_of<R: Abort + AllocGlobal>(rt: &R, command: &str) -> Vec<String> {
     let mut words = Vec::new(rt.alloc());
     for word in command.split(' ') {
         let word = String::from_str(rt.alloc(), word).expect(rt, "memory");

@@ -13,4 +13,5 @@ returns-in_default-clause-value c =
       no_command word (codes "step") c.in_default.not-step,
       no_command word (codes "cover") c.in_default.not-cover,
       no_command word (codes "calls") c.in_default.not-calls,
+      no_command word (codes "demo") c.in_default.not-demo,
     ) refl

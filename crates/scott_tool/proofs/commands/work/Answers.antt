@@ -15,6 +15,12 @@ returns-in-Decompile g c = λ bytes has.
     (work (request_of c.args.request) (texts_with c.args.texts.now bytes))
     (rw c.in-Decompile.is (c.source_text-made.ensures bytes has))
 
+pub returns-in-Demo : goal.returns-in-Demo
+returns-in-Demo g c = λ bytes has.
+    let texts = texts_with c.args.texts.now bytes in
+    c.say_made-in-Demo.ensures (work (request_of c.args.request) texts)
+    (rw c.in-Demo.is (c.told_of.ensures texts)) (g.S.Shelf.seen c.args.shelf.now)
+
 pub returns-in-Play : goal.returns-in-Play
 returns-in-Play g c = λ bytes has. rw c.in-Play.is (c.play.ensures bytes has)
 

@@ -27,5 +27,6 @@ returns g c =
       covered = means.covered_is;
       called = means.called_is;
       recounted = means.recounted_is;
+      demonstrated = means.demonstrated_is;
       counts = all.counts;
     }

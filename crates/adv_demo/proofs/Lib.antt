@@ -1,0 +1,5 @@
+pub mod Narrow
+pub mod Typing
+pub mod Ends
+pub mod Agreeing
+pub mod Whole
