@@ -28,7 +28,7 @@ same_newly before before' now now' a b c = same_opened a b c
 not_below : (n : ℕ) → nat_lt n n ≡ false
 not_below n = grind (arith, nat_tests)
 
-none_newly : (before now : Outcome × Config) → begun_of now.0 ≡ begun_of before.0
+pub none_newly : (before now : Outcome × Config) → begun_of now.0 ≡ begun_of before.0
     → newly_entered before now ≡ []
 none_newly before now same = ap (λ b. if b then now.1.world.scope.directive ∷ [] else [])
     (ap (λ fs. nat_lt (open_routines (begun_of before.0)) (open_routines fs)) same

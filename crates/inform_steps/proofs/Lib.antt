@@ -4,3 +4,4 @@ pub mod Aside
 pub mod Waiting
 pub mod Joining
 pub mod Entering
+pub mod Calling

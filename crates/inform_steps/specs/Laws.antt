@@ -1,5 +1,5 @@
 -- The laws of runs that are made in pieces.
-use Rattle.std.specs.Prelude.{ℕ, ◌≡◌, ◌+◌, ◌≤◌, List, [], ◌++◌, codes}
+use Rattle.std.specs.Prelude.{ℕ, suc, ◌≡◌, ◌+◌, ◌≤◌, List, [], ◌++◌, codes}
 use Rattle.adv_io.specs.Steps.{Step}
 use Rattle.inform_tree.specs.declared.widths.Width.{Width}
 use Rattle.inform_tree.specs.Programs.{DirectiveTree}
@@ -8,8 +8,8 @@ use Rattle.inform_meaning.specs.Frames.{Frame, Lack, NeedsLine, NeedsDraw, Waits
 use Rattle.inform_meaning.specs.Runs.{resume, begun_of, main_begun}
 use Rattle.inform_meaning.specs.Programs.{no_notes, program_in, routine_named, body_of, opening}
 use Rattle.inform_meaning.specs.Laws.{with_more}
-use Rattle.inform_steps.specs.Standing.{Stands}
-use Rattle.inform_entered.specs.Entered.{entered}
+use Rattle.inform_steps.specs.Standing.{Stands, CallIsDue}
+use Rattle.inform_entered.specs.Entered.{newly_entered, entered}
 use Rattle.inform_steps.specs.Pieces.{after_past, run_after, standing, IsSpent, afresh, next_piece, Joins, entered_in}
 
 -- What happened before a run makes no difference to it.
@@ -75,6 +75,12 @@ abbrev pub StoppedEntersNothing : Type 0
 StoppedEntersNothing = (p : Program) (frames : List Frame) (c : Config) (n more : ℕ)
     → (IsSpent (standing p frames c n) → ⊥)
     → entered_in p frames c (n + more) ≡ entered_in p frames c n
+
+-- A step that is no call enters nothing.
+abbrev pub OnlyCallsEnter : Type 0
+OnlyCallsEnter = (p : Program) (frames : List Frame) (c : Config) (n : ℕ)
+    → (CallIsDue (begun_of (standing p frames c n).0) → ⊥)
+    → newly_entered (standing p frames c n) (standing p frames c (suc n)) ≡ []
 
 -- What a program enters from its beginning is what its run does that goes on from there.
 abbrev pub EnteredFromTheBeginning : Type 0

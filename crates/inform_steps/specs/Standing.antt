@@ -1,7 +1,7 @@
 -- Where a run that waits stands.
 use Rattle.std.specs.Prelude.{ℕ, ℤ, ◌≡◌, List, [], ◌∷◌, ⊤}
 use Rattle.inform_meaning.specs.Worlds.{Config}
-use Rattle.inform_meaning.specs.Frames.{Frame, Lack, NeedsLine, NeedsDraw, Spent, Outcome, Normal, Waits}
+use Rattle.inform_meaning.specs.Frames.{CallDue, Frame, Begins, Lack, NeedsLine, NeedsDraw, Spent, Outcome, Normal, Waits}
 use Rattle.inform_moves.specs.Needs.{Need, AStep, ALine, ADraw, need}
 
 -- the next move of these frames is one that needs this
@@ -20,3 +20,8 @@ StandsBefore Spent frames c = Needs frames AStep × (c.steps ≡ 0)
 abbrev pub Stands : Outcome → Config → Type 0
 Stands (Waits lack frames) c = StandsBefore lack frames c
 Stands e c = ⊤
+
+-- the next move of these frames is a call
+abbrev pub CallIsDue : List Frame → Type 0
+CallIsDue (Begins (CallDue name values) ∷ frames) = ⊤
+CallIsDue frames = ⊥

@@ -1,9 +1,9 @@
 //! The laws of runs that are made in pieces. Each is the contract of a function that does nothing
 //! else.
-ghost use Rattle.inform_steps.specs.Laws.{PastCountsForNothing, RunsStand, WaitsStay, PiecesJoin, SpentGoesOn, StoppedStays, EnteredJoin, StoppedEntersNothing, EnteredFromTheBeginning};
+ghost use Rattle.inform_steps.specs.Laws.{PastCountsForNothing, RunsStand, WaitsStay, PiecesJoin, SpentGoesOn, StoppedStays, EnteredJoin, StoppedEntersNothing, OnlyCallsEnter, EnteredFromTheBeginning};
 
 use inform_meaning::laws::{runs_split, stop_stays};
-use inform_moves::laws::{moves_fall, moves_mean, moves_need, runs_add};
+use inform_moves::laws::{moves_fall, moves_mean, moves_need, moves_open, runs_add};
 
 /// What happened before a run makes no difference to it.
 pub fn past_counts_for_nothing()
@@ -73,6 +73,19 @@ pub fn entered_join()
 pub fn stopped_enters_nothing()
     ensures { StoppedEntersNothing }
 {
+    stopped_stays();
+}
+
+/// A step that is no call enters nothing.
+pub fn only_calls_enter()
+    ensures { OnlyCallsEnter }
+{
+    moves_mean();
+    moves_fall();
+    moves_need();
+    moves_open();
+    runs_stand();
+    pieces_join();
     stopped_stays();
 }
 
