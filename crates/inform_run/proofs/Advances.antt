@@ -339,14 +339,14 @@ module _ (p : Program) (at : Point) (x : Statement) (xs : Statements) (rest : Li
   abbrev pub begun : Point
   begun = record { frames = f.Begins (f.Due x) ∷ f.Begins (f.Blocks xs) ∷ rest; handed = g.Normal; world = at.world }
 
-  taken-out : at.frames ≡ f.Begins (f.Blocks (MoreStatements x xs)) ∷ rest → at.handed ≡ g.Normal → MovesOn p at begun s.Nothing
+  pub taken-out : at.frames ≡ f.Begins (f.Blocks (MoreStatements x xs)) ∷ rest → at.handed ≡ g.Normal → MovesOn p at begun s.Nothing
   taken-out block signal =
       let room = room_in CALL_LIMIT rest in
       let top = f.Begins (f.Blocks (MoreStatements x xs)) in
       moves-by p at begun s.Nothing top rest room block refl
       (ap (λ s. made_of at.world (next p room at.world top (signal_of s)) rest) (sym signal))
 
-  taken-needs : at.frames ≡ f.Begins (f.Blocks (MoreStatements x xs)) ∷ rest → at.handed ≡ g.Normal → next_need at ≡ Some Nothing
+  pub taken-needs : at.frames ≡ f.Begins (f.Blocks (MoreStatements x xs)) ∷ rest → at.handed ≡ g.Normal → next_need at ≡ Some Nothing
   taken-needs block signal =
       ap (λ fs. first_need fs (signal_of at.handed)) block
       ∙ ap (λ s. first_need (f.Begins (f.Blocks (MoreStatements x xs)) ∷ rest) (signal_of s)) signal

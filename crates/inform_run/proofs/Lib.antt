@@ -4,4 +4,5 @@ pub mod Stopping
 pub mod Beginning
 pub mod Found
 pub mod Quiet
+pub mod Entering
 mod Opened

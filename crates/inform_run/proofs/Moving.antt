@@ -163,21 +163,21 @@ move-spent p (Draws k) ticks x rest c is = absurd cc
 -- the frame that wants a line or a draw
 abbrev pub Asks : Need → f.Frame → Outcome → Type 0
 Asks Nothing x e = ⊤
-Asks AStep x e = ⊤
+Asks AStep x e = e ≡ f.Normal
 Asks (ALine name) x e = (x ≡ Begins (LineDue name)) × (e ≡ f.Normal)
 Asks (ADraw m) x e = (x ≡ Begins (DrawDue m)) × (e ≡ f.Normal)
 
-asks : (x : f.Frame) (e : Outcome) → Asks (need x e) x e
+pub asks : (x : f.Frame) (e : Outcome) → Asks (need x e) x e
 asks (Begins (f.Evals x)) f.Normal = tt
-asks (Begins (f.CallDue name values)) f.Normal = tt
+asks (Begins (f.CallDue name values)) f.Normal = refl
 asks (Begins (DrawDue m)) f.Normal = (refl, refl)
 asks (Begins (f.Tests x)) f.Normal = tt
 asks (Begins (f.Alters x)) f.Normal = tt
-asks (Begins (f.Due x)) f.Normal = tt
+asks (Begins (f.Due x)) f.Normal = refl
 asks (Begins (f.Blocks xs)) f.Normal = tt
 asks (Begins (f.Prints xs)) f.Normal = tt
 asks (Begins (LineDue name)) f.Normal = (refl, refl)
-asks (Begins (f.TurnDue l)) f.Normal = tt
+asks (Begins (f.TurnDue l)) f.Normal = refl
 asks (Begins x) (f.Value a) = tt
 asks (Begins x) (f.Truth b) = tt
 asks (Begins x) (f.Returns a) = tt

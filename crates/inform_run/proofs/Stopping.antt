@@ -8,6 +8,8 @@ use Rattle.inform_meaning.specs.Frames as f
 use Rattle.inform_meaning.specs.Runs.{Stop, Lacking, stop_of, begun_of}
 use Rattle.inform_moves.specs.Needs.{AStep, ALine, ADraw, need_in}
 use Rattle.inform_moves.specs.Laws.{RunsAdd, MovesMean, MovesNeed}
+use Rattle.inform_frames.specs.declared.signals.Signal.{Signal}
+use Rattle.inform_frames.specs.declared.signals.Signal.TheVariants as g
 use Rattle.inform_frames.specs.declared.nexts.Said.{Said}
 use Rattle.inform_frames.specs.declared.nexts.Said.TheVariants as s
 use Rattle.inform_frames.specs.Frames.{signal_of}
@@ -36,6 +38,11 @@ pub ok-none : {X E : Type 0} (A : Type 0) (r : Result (Option X) E) → OnOk r A
 ok-none A (Ok None) a = a
 ok-none A (Ok (Some x)) a = tt
 ok-none A (Err e) a = a
+
+pub any-none : {X E : Type 0} (A : Type 0) (r : Result (Option X) E) → A → IfOk r (λ o. IfNone o A)
+any-none A (Ok None) a = a
+any-none A (Ok (Some x)) a = tt
+any-none A (Err e) a = tt
 
 -- ---- after what led there
 
@@ -114,3 +121,16 @@ steps-break means add p at after old new steps x m some part draws =
     breaks-next p p refl old old new at m.between draws draws steps
     (goes-lead means p at m.between old old s.Nothing m.first m.quiet (nothing_said {T = ℕ} {E = ℕ} old 0) draws)
     (ticks-break means p m.between add old new steps after x m.second m.ticks some part draws)
+
+-- where a step is due after what led there, a run of no step is spent
+pub spent-stops : MovesMean → MovesNeed → (p : Program) (before at : Point) (old new : ConsoleView) (drawn left : List ℕ) (steps : ℕ)
+    → LeadsOn p old new before at drawn left 0 → next_need at ≡ Some AStep → steps ≡ 0
+    → EndsOn p old new before steps drawn left (Lacking f.Spent) at.frames at.world steps
+spent-stops means needs p before at old new drawn left steps leads due none =
+    ends-next p p refl old new new before at drawn left left steps (Lacking f.Spent) at.frames at.world steps leads
+    (spent-ends means p at needs new steps left due none)
+
+-- what ends a run isn't that its steps are spent
+pub over-halts : (handed : Signal) → stop_of (signal_of handed) ≡ Lacking f.Spent → ⊥
+over-halts (g.Value a) is = cc
+over-halts handed is = cc

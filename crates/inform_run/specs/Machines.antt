@@ -12,7 +12,7 @@ use Rattle.inform_run.specs.declared.machines.Machine.{Machine}
 use Rattle.inform_run.specs.declared.advancing.Due.{Due}
 use Rattle.inform_run.specs.declared.advancing.Due.TheVariants as d
 use Rattle.inform_frames.specs.Stacks.{stack_of}
-use Rattle.inform_run.specs.Points.{Point, next_need, Leads, Breaks}
+use Rattle.inform_run.specs.Points.{Point, EntersNone, next_need, Leads, Breaks}
 
 abbrev pub point_of : Machine → Point
 point_of m = record { frames = stack_of m.stack; handed = m.signal; world = world_of m.world }
@@ -44,6 +44,15 @@ LeadsOn p old new before after drawn left used =
 abbrev pub LeadsSilently : Program → Point → Point → ℕ → Type 0
 LeadsSilently p before after used =
     (seen : ConsoleView) (draws : List ℕ) → LeadsOn p seen seen before after draws draws used
+
+abbrev pub EntersNoneOn : Program → ConsoleView → Point → ℕ → List ℕ → Type 0
+EntersNoneOn p seen at steps draws = (lines : List (List ℕ)) → seen.left ≡ Some lines
+    → EntersNone p at steps lines draws
+
+-- whatever lines and draws are left
+abbrev pub EntersNoneAnyway : Program → Point → ℕ → Type 0
+EntersNoneAnyway p at steps =
+    (seen : ConsoleView) (draws : List ℕ) → EntersNoneOn p seen at steps draws
 
 -- with any number of steps, and whatever happened before
 abbrev pub BreaksOn : Program → ConsoleView → ConsoleView → Point → List ℕ → Type 0

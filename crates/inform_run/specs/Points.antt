@@ -1,5 +1,5 @@
 -- Where a run stands between two moves, and how it gets from one such point to another.
-use Rattle.std.specs.Prelude.{ℕ, ◌≡◌, ◌+◌, Bool, true, false, List, [], ◌∷◌, ◌++◌, Option, Some, None}
+use Rattle.std.specs.Prelude.{ℕ, suc, ◌≡◌, ◌<◌, ◌+◌, Bool, true, false, List, [], ◌∷◌, ◌++◌, Option, Some, None}
 use Rattle.std.specs.Fmt.{signed_decimal}
 use Rattle.adv_io.specs.Steps.{Step, shown_of}
 use Rattle.adv_io.specs.History.{grown, GrewByPrefix}
@@ -9,6 +9,7 @@ use Rattle.inform_meaning.specs.Frames as f
 use Rattle.inform_meaning.specs.Frames.{Outcome}
 use Rattle.inform_meaning.specs.Runs.{CALL_LIMIT, room_in, resume_at, stop_of, begun_of}
 use Rattle.inform_meaning.specs.Runs as m
+use Rattle.inform_entered.specs.Entered.{newly_entered}
 use Rattle.inform_moves.specs.Moves.{Move, pushed_in, outcome_in, effect_in, next}
 use Rattle.inform_moves.specs.Needs.{Need, Nothing, AStep, need, need_in}
 use Rattle.inform_frames.specs.declared.signals.Signal.{Signal}
@@ -31,6 +32,11 @@ config_at at steps lines draws past =
 abbrev pub run_from : Program → Point → ℕ → List (List ℕ) → List ℕ → List Step → Outcome × Config
 run_from p at steps lines draws past =
     resume_at p CALL_LIMIT at.frames (signal_of at.handed) (config_at at steps lines draws past)
+
+-- in so many steps from there no routine is entered, whatever happened before
+abbrev pub EntersNone : Program → Point → ℕ → List (List ℕ) → List ℕ → Type 0
+EntersNone p at steps lines draws = (past : List Step) (n : ℕ) → n < steps
+    → newly_entered (run_from p at n lines draws past) (run_from p at (suc n) lines draws past) ≡ []
 
 -- what the move of the innermost frame needs, if there is one
 abbrev pub first_need : List f.Frame → Outcome → Option Need

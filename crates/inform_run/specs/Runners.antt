@@ -1,5 +1,5 @@
 -- A runner, and what a run of it does.
-use Rattle.std.specs.Prelude.{ℕ, ◌≡◌, ◌+◌, List, [], length, Some, Result, OnOk, OnErr, IfOk}
+use Rattle.std.specs.Prelude.{ℕ, ◌≡◌, ◌≤◌, ◌+◌, List, [], length, Some, Result, OnOk, OnErr, IfOk}
 use Rattle.adv_draws.specs.Supply.{Supply}
 use Rattle.adv_io.specs.History.{grown, GrewByPrefix, shown, draws_taken}
 use Rattle.adv_io.specs.Steps.{trace_of}
@@ -14,6 +14,7 @@ use Rattle.inform_worlds.specs.Views as v
 use Rattle.inform_worlds.specs.Views.{program_seen}
 use Rattle.inform_run.specs.declared.runners.Runner.{Runner}
 use Rattle.inform_run.specs.declared.stops.Stop.{Stop}
+use Rattle.inform_steps.specs.Pieces.{entered_in}
 use Rattle.inform_frames.specs.Stacks.{stack_of}
 use Rattle.inform_run.specs.Turns.{stop_seen}
 
@@ -57,6 +58,18 @@ pub record Runs (old_console new_console : ConsoleView) (result : Result Stop Co
       (GrewByPrefix old_console.history new_console.history (shown (trace_of t.1.past)))
   pub lines : OnOk result (new_console.left ≡ Some t.1.lines)
   pub leaves : IfOk result (λ stop. Leaves t steps old new before now stop)
+
+-- A run that goes no further than to where a call is due: it uses some number of its steps, in which
+-- no routine is entered, and with those it does what the program does.
+pub record RunsToCall (old_console new_console : ConsoleView) (result : Result Stop ConsoleFault)
+    (steps : ℕ) (lines : List (List ℕ)) (old new : Runner) (before now : Supply) : Type 0 where
+  pub count : ℕ
+  pub few : count ≤ steps
+  pub runs : Runs old_console new_console result count (resumed old count lines before.left) old new
+      before now
+  pub used : OnOk result (new.used ≡ old.used + count)
+  pub none : OnOk result (entered_in (program_run old) (begun_in old)
+      (left_to old count lines before.left) count ≡ [])
 
 -- a run with more steps, lines and draws is this run gone on with them from where it stopped
 abbrev pub GoesOn : Runner → ℕ → List (List ℕ) → List ℕ → Type 0

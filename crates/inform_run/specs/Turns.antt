@@ -1,5 +1,5 @@
 -- Where a run stops.
-use Rattle.std.specs.Prelude.{ℕ, ◌≡◌, List, Some}
+use Rattle.std.specs.Prelude.{ℕ, ◌≡◌, ◌-◌, Bool, true, false, List, Some}
 use Rattle.adv_io.specs.Steps.{Step}
 use Rattle.adv_io.specs.Console.{ConsoleView}
 use Rattle.inform_meaning.specs.Worlds.{Program, World}
@@ -21,6 +21,18 @@ stop_seen s.Spent = m.Lacking f.Spent
 
 abbrev pub halted : Halt → m.Stop
 halted halt = m.Halted (halt_of halt)
+
+-- ---- steps
+
+-- How many steps a run is given of so many, where so many of them aren't used, and how many of those
+-- it is given are left at its end. One that pauses at calls is given the steps that it uses.
+abbrev pub given : Bool → ℕ → ℕ → ℕ
+given true steps left = steps - left
+given false steps left = steps
+
+abbrev pub unused : Bool → ℕ → ℕ
+unused true left = 0
+unused false left = left
 
 -- ---- where the console's lines are known
 

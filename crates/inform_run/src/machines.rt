@@ -1,12 +1,13 @@
 //! A machine: where a run stands between two moves.
 ghost use Rattle.std.specs.Fmt.{signed_decimal};
-ghost use Rattle.std.specs.Prelude.{◌≡◌, ◌∷◌, true, option_map, IfSome};
+ghost use Rattle.std.specs.Prelude.{◌≡◌, ◌∷◌, true, false, option_map, IfSome};
 ghost use Rattle.adv_io.specs.History.{says};
 ghost use Rattle.adv_io.specs.Console.{Speaks};
 ghost use Rattle.inform_tree.specs.Statements as s;
 ghost use Rattle.inform_tree.specs.Statements.{statement_of, statements_of};
 ghost use Rattle.inform_meaning.specs.Frames as f;
 ghost use Rattle.inform_moves.specs.Laws.{IsShallow};
+ghost use Rattle.inform_steps.specs.Standing.{CallIsDue};
 ghost use Rattle.inform_worlds.specs.Views.{world_of, program_seen};
 ghost use Rattle.inform_frames.specs.Nexts.{need_seen};
 ghost use Rattle.inform_frames.specs.Frames.{rest_of};
@@ -70,6 +71,24 @@ impl<'a> Machine<'a> {
         match self.stack.top() {
             None => None,
             Some(frame) => Some(need_of(frame, self.signal)),
+        }
+    }
+
+    /// Whether a call is due, if the run pauses at calls.
+    pub fn pauses(&self, to_call: bool) -> bool
+        ensures asked { result ≡ true → to_call ≡ true }
+        ensures due { result ≡ true → CallIsDue (stack_of self.now.stack) }
+        ensures none { result ≡ false → to_call ≡ true → CallIsDue (stack_of self.now.stack) → ⊥ }
+    {
+        if !to_call {
+            return false;
+        }
+        match self.stack.top() {
+            None => false,
+            Some(frame) => match frame {
+                Frame::CallDue(_, _) => true,
+                _ => false,
+            },
         }
     }
 

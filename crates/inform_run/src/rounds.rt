@@ -7,11 +7,12 @@ ghost use Rattle.inform_worlds.specs.Views.{program_seen};
 ghost use Rattle.inform_frames.specs.Frames.{rest_of};
 ghost use Rattle.inform_frames.specs.declared.signals.Signal.TheVariants as g;
 ghost use Rattle.inform_frames.specs.Stacks.{stack_of};
-ghost use Rattle.inform_run.specs.Machines.{point_of, IsFit, LeadsSilently};
+ghost use Rattle.inform_run.specs.Machines.{point_of, IsFit, LeadsSilently, EntersNoneAnyway};
 
 use crate::machines::Machine;
 use inform_frames::{Begin, Frame, Signal, change_at_once, goes_on_at_once};
 use inform_moves::laws::{frames_are_few, moves_mean, moves_need};
+use inform_steps::laws::only_calls_enter;
 
 impl<'a> Machine<'a> {
     // Where the innermost frame is a loop whose body is done, its change is made and its next turn
@@ -24,12 +25,15 @@ impl<'a> Machine<'a> {
         ensures sound { IsFit self.new }
         ensures turned { result ≡ true → LeadsSilently (program_seen self.old.world)
             (point_of self.old) (point_of self.new) 1 }
+        ensures enters { result ≡ true → EntersNoneAnyway (program_seen self.old.world)
+            (point_of self.old) 1 }
         ensures quiet { result ≡ false → LeadsSilently (program_seen self.old.world)
             (point_of self.old) (point_of self.new) 0 }
     {
         frames_are_few();
         moves_mean();
         moves_need();
+        only_calls_enter();
         match self.stack.top() {
             Some(Frame::Looping(l)) => {
                 if !change_at_once(&mut self.world, l.change) {
@@ -103,6 +107,8 @@ impl<'a> Machine<'a> {
         ensures sound { IsFit self.new }
         ensures turned { result ≡ true → LeadsSilently (program_seen self.old.world)
             (point_of self.old) (point_of self.new) 1 }
+        ensures enters { result ≡ true → EntersNoneAnyway (program_seen self.old.world)
+            (point_of self.old) 1 }
         ensures quiet { result ≡ false → LeadsSilently (program_seen self.old.world)
             (point_of self.old) (point_of self.new) 0 }
     {
@@ -121,6 +127,8 @@ impl<'a> Machine<'a> {
         ensures some { result ≡ true → 0 < left }
         ensures turned { result ≡ true → LeadsSilently (program_seen self.old.world)
             (point_of self.old) (point_of self.new) 1 }
+        ensures enters { result ≡ true → EntersNoneAnyway (program_seen self.old.world)
+            (point_of self.old) 1 }
         ensures quiet { result ≡ false → LeadsSilently (program_seen self.old.world)
             (point_of self.old) (point_of self.new) 0 }
     {

@@ -4,6 +4,8 @@ ghost use Rattle.adv_io.specs.Faults.{HasCause};
 ghost use Rattle.inform_run.specs.Machines.{IsFit};
 ghost use Rattle.inform_run.specs.Fitness.{IsFit-prop};
 
+mod to_calls;
+
 use crate::machines::Machine;
 use crate::stops::Stop;
 use adv_draws::Draws;
@@ -68,8 +70,7 @@ impl<'a> Runner<'a> {
     }
 
     /// Goes on from where the runner stands, for at most so many steps, and answers why it stopped.
-    /// After
-    /// `NeedsLine`, `NeedsDraw` and `Spent` a later call goes on there; after `Quit` and `Trap` it
+    /// After `NeedsLine`, `NeedsDraw` and `Spent` a later call goes on there; after `Quit` and `Trap` it
     /// answers the same again, and nothing happens.
     ///
     /// The console's fault alone is a refusal, and breaks the runner: it can't go on.
@@ -95,7 +96,7 @@ impl<'a> Runner<'a> {
         runs_go();
         runs_split();
         self.machine.signal = Signal::Normal;
-        match self.machine.run(steps, draws, console) {
+        match self.machine.run(steps, false, draws, console) {
             Ok(ran) => {
                 self.used += steps - ran.left;
                 Ok(ran.stop)

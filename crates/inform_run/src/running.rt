@@ -1,11 +1,12 @@
 //! A run with so many steps.
-ghost use Rattle.std.specs.Prelude.{◌≡◌, ◌≤◌, IfOk, OnErr};
+ghost use Rattle.std.specs.Prelude.{◌≡◌, ◌≤◌, ◌<◌, ◌-◌, true, IfOk, OnErr};
 ghost use Rattle.adv_draws.specs.Supply.{supplied};
 ghost use Rattle.adv_io.specs.Faults.{HasCause};
+ghost use Rattle.inform_steps.specs.Standing.{CallIsDue};
 ghost use Rattle.inform_worlds.specs.Views.{world_of, program_seen};
 ghost use Rattle.inform_frames.specs.Stacks.{stack_of};
-ghost use Rattle.inform_run.specs.Machines.{point_of, IsFit};
-ghost use Rattle.inform_run.specs.Turns.{stop_seen, EndsOn, BreaksAfter};
+ghost use Rattle.inform_run.specs.Machines.{point_of, IsFit, EntersNoneOn};
+ghost use Rattle.inform_run.specs.Turns.{stop_seen, given, unused, EndsOn, BreaksAfter};
 
 use crate::machines::Machine;
 use crate::stops::Stop;
@@ -20,10 +21,11 @@ pub struct Ran {
 }
 
 impl<'a> Machine<'a> {
-    /// Turns, until the run stops.
+    /// Turns, until the run stops, or, if it pauses at calls, until a call is due.
     pub fn run<C: Console>(
         &mut self,
         steps: u64,
+        to_call: bool,
         draws: &mut Draws,
         console: &mut C,
     ) -> Result<Ran, ConsoleFault>
@@ -34,10 +36,15 @@ impl<'a> Machine<'a> {
         ensures cause { HasCause (C.seen console.old).faults (C.seen console.new).faults result }
         ensures supply { supplied draws.new ≡ supplied draws.old }
         ensures fewer { IfOk result (λ ran. ran.left ≤ steps) }
+        ensures enters { IfOk result (λ ran. to_call ≡ true → EntersNoneOn
+            (program_seen self.old.world) (C.seen console.old) (point_of self.old)
+            (steps - ran.left) draws.old.left) }
+        ensures due { IfOk result (λ ran. ran.stop ≡ Stop.Spent → 0 < ran.left
+            → CallIsDue (stack_of self.new.stack)) }
         ensures ends { IfOk result (λ ran. EndsOn (program_seen self.old.world)
-            (C.seen console.old) (C.seen console.new) (point_of self.old) steps draws.old.left
-            draws.new.left (stop_seen ran.stop) (stack_of self.new.stack)
-            (world_of self.new.world) ran.left) }
+            (C.seen console.old) (C.seen console.new) (point_of self.old)
+            (given to_call steps ran.left) draws.old.left draws.new.left (stop_seen ran.stop)
+            (stack_of self.new.stack) (world_of self.new.world) (unused to_call ran.left)) }
         ensures breaks { OnErr result
             (BreaksAfter (program_seen self.old.world) (C.seen console.old)
             (C.seen console.new) (point_of self.old) steps draws.old.left) }
@@ -45,7 +52,7 @@ impl<'a> Machine<'a> {
         let mut line = Line::of(&[]);
         let mut left = steps;
         'turns: loop {
-            let stopped = self.next_step(left, draws, &mut line, console)?;
+            let stopped = self.next_step(left, to_call, draws, &mut line, console)?;
             match stopped {
                 Some(stop) => return Ok(Ran { stop, left }),
                 None => left -= 1,

@@ -1,5 +1,5 @@
 //! A turn: moves up to a step, and that step; or where the run stops.
-ghost use Rattle.std.specs.Prelude.{◌≡◌, ◌≤◌, ◌<◌, ◌∷◌, List, ℕ, [], Some, None, IfOk, OnOk, OnErr, IfSome, IfNone};
+ghost use Rattle.std.specs.Prelude.{◌≡◌, ◌≤◌, ◌<◌, ◌∷◌, List, ℕ, [], true, Some, None, IfOk, OnOk, OnErr, IfSome, IfNone};
 ghost use Rattle.adv_draws.specs.Supply.{supplied};
 ghost use Rattle.adv_io.specs.Faults.{HasCause};
 ghost use Rattle.inform_meaning.specs.Frames as f;
@@ -9,11 +9,12 @@ ghost use Rattle.inform_tree.specs.Statements as s;
 ghost use Rattle.inform_tree.specs.Statements.{statement_of, statements_of};
 ghost use Rattle.inform_frames.specs.Frames.{signal_of, rest_of};
 ghost use Rattle.inform_moves.specs.Needs.{AStep};
+ghost use Rattle.inform_steps.specs.Standing.{CallIsDue};
 ghost use Rattle.inform_frames.specs.declared.signals.Signal.TheVariants as g;
 ghost use Rattle.inform_frames.specs.Stacks.{stack_of};
 ghost use Rattle.inform_run.specs.Points.{next_need};
-ghost use Rattle.inform_run.specs.Machines.{point_of, IsFit, is_still, IsDue, LeadsOn};
-ghost use Rattle.inform_run.specs.Turns.{stop_seen, halted, EndsOn, BreaksAfter};
+ghost use Rattle.inform_run.specs.Machines.{point_of, IsFit, is_still, IsDue, LeadsOn, EntersNoneOn};
+ghost use Rattle.inform_run.specs.Turns.{stop_seen, halted, unused, EndsOn, BreaksAfter};
 
 use crate::advancing::Due;
 use crate::machines::{Machine, say};
@@ -22,6 +23,7 @@ use adv_draws::Draws;
 use adv_io::{Console, ConsoleFault, Line};
 use inform_frames::{Frame, Halt, halt_of};
 use inform_moves::laws::{moves_mean, moves_need, runs_add};
+use inform_steps::laws::only_calls_enter;
 use inform_tree::Stmt;
 
 // Why a run stopped that is over.
@@ -49,22 +51,18 @@ impl<'a> Machine<'a> {
         stop_by(halt)
     }
 
-    // A step is made, if one is left.
-    fn step<C: Console>(&mut self, left: u64, console: &mut C) -> Result<Option<Stop>, ConsoleFault>
+    // A step is made, which is left.
+    fn step<C: Console>(&mut self, left: u64, console: &mut C) -> Result<(), ConsoleFault>
         requires sound { IsFit self.old }
         requires needs { next_need (point_of self.old) ≡ Some AStep }
+        requires some { 0 < left }
         ensures names { self.new.world.names ≡ self.old.world.names }
         ensures sound { IsFit self.new }
         ensures bounded { (C.seen console.new).bound ≤ (C.seen console.old).bound }
         ensures cause { HasCause (C.seen console.old).faults (C.seen console.new).faults result }
-        ensures steps { IfOk result (λ stop. IfNone stop (0 < left)) }
-        ensures leads { (draws : List ℕ) → IfOk result (λ stop. IfNone stop
+        ensures leads { (draws : List ℕ) → OnOk result
             (LeadsOn (program_seen self.old.world) (C.seen console.old) (C.seen console.new)
-            (point_of self.old) (point_of self.new) draws draws 1)) }
-        ensures ends { (draws : List ℕ) → IfOk result (λ stop. IfSome stop (λ stop.
-            EndsOn (program_seen self.old.world) (C.seen console.old) (C.seen console.new)
-            (point_of self.old) left draws draws (stop_seen stop) (stack_of self.new.stack)
-            (world_of self.new.world) left)) }
+            (point_of self.old) (point_of self.new) draws draws 1) }
         ensures breaks { (draws : List ℕ) → OnErr result
             (BreaksAfter (program_seen self.old.world) (C.seen console.old)
             (C.seen console.new) (point_of self.old) left draws) }
@@ -72,12 +70,9 @@ impl<'a> Machine<'a> {
         moves_mean();
         moves_need();
         runs_add();
-        if left == 0 {
-            return Ok(Some(Stop::Spent));
-        }
         let said = self.make();
         match say(&said, console) {
-            Ok(()) => Ok(None),
+            Ok(()) => Ok(()),
             Err(fault) => Err(fault),
         }
     }
@@ -100,6 +95,8 @@ impl<'a> Machine<'a> {
         ensures bounded { (C.seen console.new).bound ≤ (C.seen console.old).bound }
         ensures cause { HasCause (C.seen console.old).faults (C.seen console.new).faults result }
         ensures none { IfOk result (λ stop. stop ≡ None) }
+        ensures enters { (draws : List ℕ) → EntersNoneOn (program_seen self.old.world)
+            (C.seen console.old) (point_of self.old) 1 draws }
         ensures leads { (draws : List ℕ) → OnOk result
             (LeadsOn (program_seen self.old.world) (C.seen console.old) (C.seen console.new)
             (point_of self.old) (point_of self.new) draws draws 1) }
@@ -108,6 +105,8 @@ impl<'a> Machine<'a> {
             (C.seen console.new) (point_of self.old) left draws) }
     {
         moves_mean();
+        moves_need();
+        only_calls_enter();
         runs_add();
         let said = self.make_statement(x, others);
         match say(&said, console) {
@@ -116,10 +115,12 @@ impl<'a> Machine<'a> {
         }
     }
 
-    // Moves are made up to a step, and that step, if it is left; or the run stops.
+    // Moves are made up to a step, and that step, if it is left; or the run stops. One that pauses
+    // at calls is spent where a call is due.
     fn turn<C: Console>(
         &mut self,
         left: u64,
+        to_call: bool,
         draws: &mut Draws,
         line: &mut Line,
         console: &mut C,
@@ -134,19 +135,37 @@ impl<'a> Machine<'a> {
         ensures leads { IfOk result (λ stop. IfNone stop
             (LeadsOn (program_seen self.old.world) (C.seen console.old) (C.seen console.new)
             (point_of self.old) (point_of self.new) draws.old.left draws.new.left 1)) }
+        ensures enters { IfOk result (λ stop. IfNone stop (to_call ≡ true
+            → EntersNoneOn (program_seen self.old.world) (C.seen console.old) (point_of self.old)
+            1 draws.old.left)) }
+        ensures due { IfOk result (λ stop. IfSome stop (λ stop. stop ≡ Stop.Spent → 0 < left
+            → CallIsDue (stack_of self.new.stack))) }
         ensures ends { IfOk result (λ stop. IfSome stop (λ stop.
             EndsOn (program_seen self.old.world) (C.seen console.old) (C.seen console.new)
-            (point_of self.old) left draws.old.left draws.new.left (stop_seen stop)
-            (stack_of self.new.stack) (world_of self.new.world) left)) }
+            (point_of self.old) (unused to_call left) draws.old.left draws.new.left
+            (stop_seen stop) (stack_of self.new.stack) (world_of self.new.world)
+            (unused to_call left))) }
         ensures breaks { OnErr result
             (BreaksAfter (program_seen self.old.world) (C.seen console.old)
             (C.seen console.new) (point_of self.old) left draws.old.left) }
     {
         moves_mean();
         moves_need();
+        only_calls_enter();
         match self.settle(draws, line, console)? {
             Due::Moved => unreachable!(),
-            Due::Step => self.step(left, console),
+            Due::Step => {
+                if left == 0 {
+                    return Ok(Some(Stop::Spent));
+                }
+                if self.pauses(to_call) {
+                    return Ok(Some(Stop::Spent));
+                }
+                match self.step(left, console) {
+                    Ok(()) => Ok(None),
+                    Err(fault) => Err(fault),
+                }
+            }
             Due::Line => Ok(Some(Stop::NeedsLine)),
             Due::Draw => Ok(Some(Stop::NeedsDraw)),
             Due::Over => Ok(Some(self.end())),
@@ -158,6 +177,7 @@ impl<'a> Machine<'a> {
     fn statement_or_turn<C: Console>(
         &mut self,
         left: u64,
+        to_call: bool,
         draws: &mut Draws,
         line: &mut Line,
         console: &mut C,
@@ -172,10 +192,16 @@ impl<'a> Machine<'a> {
         ensures leads { IfOk result (λ stop. IfNone stop
             (LeadsOn (program_seen self.old.world) (C.seen console.old) (C.seen console.new)
             (point_of self.old) (point_of self.new) draws.old.left draws.new.left 1)) }
+        ensures enters { IfOk result (λ stop. IfNone stop (to_call ≡ true
+            → EntersNoneOn (program_seen self.old.world) (C.seen console.old) (point_of self.old)
+            1 draws.old.left)) }
+        ensures due { IfOk result (λ stop. IfSome stop (λ stop. stop ≡ Stop.Spent → 0 < left
+            → CallIsDue (stack_of self.new.stack))) }
         ensures ends { IfOk result (λ stop. IfSome stop (λ stop.
             EndsOn (program_seen self.old.world) (C.seen console.old) (C.seen console.new)
-            (point_of self.old) left draws.old.left draws.new.left (stop_seen stop)
-            (stack_of self.new.stack) (world_of self.new.world) left)) }
+            (point_of self.old) (unused to_call left) draws.old.left draws.new.left
+            (stop_seen stop) (stack_of self.new.stack) (world_of self.new.world)
+            (unused to_call left))) }
         ensures breaks { OnErr result
             (BreaksAfter (program_seen self.old.world) (C.seen console.old)
             (C.seen console.new) (point_of self.old) left draws.old.left) }
@@ -186,7 +212,7 @@ impl<'a> Machine<'a> {
                 Some((x, others)) => return self.step_statement(x, others, left, console),
             }
         }
-        self.turn(left, draws, line, console)
+        self.turn(left, to_call, draws, line, console)
     }
 
     /// A turn, or at once the next turn of a loop or the next statement of a block, if that is what
@@ -194,6 +220,7 @@ impl<'a> Machine<'a> {
     pub fn next_step<C: Console>(
         &mut self,
         left: u64,
+        to_call: bool,
         draws: &mut Draws,
         line: &mut Line,
         console: &mut C,
@@ -208,10 +235,16 @@ impl<'a> Machine<'a> {
         ensures leads { IfOk result (λ stop. IfNone stop
             (LeadsOn (program_seen self.old.world) (C.seen console.old) (C.seen console.new)
             (point_of self.old) (point_of self.new) draws.old.left draws.new.left 1)) }
+        ensures enters { IfOk result (λ stop. IfNone stop (to_call ≡ true
+            → EntersNoneOn (program_seen self.old.world) (C.seen console.old) (point_of self.old)
+            1 draws.old.left)) }
+        ensures due { IfOk result (λ stop. IfSome stop (λ stop. stop ≡ Stop.Spent → 0 < left
+            → CallIsDue (stack_of self.new.stack))) }
         ensures ends { IfOk result (λ stop. IfSome stop (λ stop.
             EndsOn (program_seen self.old.world) (C.seen console.old) (C.seen console.new)
-            (point_of self.old) left draws.old.left draws.new.left (stop_seen stop)
-            (stack_of self.new.stack) (world_of self.new.world) left)) }
+            (point_of self.old) (unused to_call left) draws.old.left draws.new.left
+            (stop_seen stop) (stack_of self.new.stack) (world_of self.new.world)
+            (unused to_call left))) }
         ensures breaks { OnErr result
             (BreaksAfter (program_seen self.old.world) (C.seen console.old)
             (C.seen console.new) (point_of self.old) left draws.old.left) }
@@ -219,6 +252,6 @@ impl<'a> Machine<'a> {
         if self.turn_at_once(left) {
             return Ok(None);
         }
-        self.statement_or_turn(left, draws, line, console)
+        self.statement_or_turn(left, to_call, draws, line, console)
     }
 }

@@ -3,10 +3,11 @@ use Rattle.std.proofs.lemmas.Result.{err_from_is_err_and}
 use Rattle.inform_worlds.specs.Worlds.{program_of}
 use Rattle.inform_worlds.specs.Views.{world_of, program_seen}
 use Rattle.inform_frames.specs.Stacks.{stack_of}
-use Rattle.inform_run.specs.Machines.{point_of, LeadsOn}
-use Rattle.inform_run.specs.Turns.{stop_seen, EndsOn, BreaksAfter}
+use Rattle.inform_run.specs.Machines.{point_of, LeadsOn, EntersNoneOn}
+use Rattle.inform_run.specs.Turns.{stop_seen, unused, EndsOn, BreaksAfter}
 use Rattle.inform_run.proofs.Advances.{stays, on-then}
 use Rattle.inform_run.proofs.Stopping.{ends-on, breaks-after}
+use Rattle.inform_run.proofs.Entering.{all_given, enters-nothing, enters-then}
 use Rattle.inform_run.proofs.machines.Machine.run.Goals as goal
 
 pub turns-init : goal.turns-init
@@ -23,6 +24,7 @@ turns-init g c =
       supply = refl;
       fewer = omega arith;
       leads = subst (LeadsOn p seen seen at at c.args.draws.now.left c.args.draws.now.left) none (stays p at c.args.draws.now.left c.args.draws.now.left refl seen);
+      enters = λ is. subst (λ n. EntersNoneOn p seen at n c.args.draws.now.left) none (enters-nothing p seen at c.args.draws.now.left);
     }
 
 pub turns-preserved : goal.turns-preserved
@@ -40,16 +42,20 @@ turns-preserved g c =
       leads = subst (LeadsOn p (seen c.args.console.now) (seen c.next_step.new.console) (point_of c.args.self.now) (point_of c.next_step.new.self) c.args.draws.now.left c.next_step.new.draws.left) one
           (on-then p (program_seen c.turns.self.world) (ap (λ names. program_of names.accepted.now) c.turns.invariant.names) (seen c.args.console.now) (seen c.turns.console) (seen c.next_step.new.console)
           (point_of c.args.self.now) (point_of c.turns.self) (point_of c.next_step.new.self) c.args.draws.now.left c.turns.draws.left c.next_step.new.draws.left (c.args.steps - c.turns.left) 1 c.turns.invariant.leads (rw c.in-None.is at c.in_ok-stopped.ensures.leads));
+      enters = λ is. subst (λ n. EntersNoneOn p (seen c.args.console.now) (point_of c.args.self.now) n c.args.draws.now.left) one
+          (enters-then p (program_seen c.turns.self.world) (ap (λ names. program_of names.accepted.now) c.turns.invariant.names) (seen c.args.console.now) (seen c.turns.console)
+          (point_of c.args.self.now) (point_of c.turns.self) c.args.draws.now.left c.turns.draws.left (c.args.steps - c.turns.left) 1 c.turns.invariant.leads (c.turns.invariant.enters is) ((rw c.in-None.is at c.in_ok-stopped.ensures.enters) is));
     }
 
 pub returns-in-Some-clause-ends : goal.returns-in-Some-clause-ends
 returns-in-Some-clause-ends g c =
     let seen = g.C.Console.seen in
     let p = program_seen c.args.self.now.world in
-    let all : c.turns.left + (c.args.steps - c.turns.left) ≡ c.args.steps = omega (arith, c.turns.invariant.fewer) in
-    subst (λ n. EndsOn p (seen c.args.console.now) (seen c.next_step.new.console) (point_of c.args.self.now) n c.args.draws.now.left c.next_step.new.draws.left (stop_seen c.in-Some.stop) (stack_of c.next_step.new.self.stack) (world_of c.next_step.new.self.world) c.turns.left) all
+    let last = unused c.args.to_call c.turns.left in
+    let all = all_given c.args.to_call c.args.steps c.turns.left c.turns.invariant.fewer in
+    subst (λ n. EndsOn p (seen c.args.console.now) (seen c.next_step.new.console) (point_of c.args.self.now) n c.args.draws.now.left c.next_step.new.draws.left (stop_seen c.in-Some.stop) (stack_of c.next_step.new.self.stack) (world_of c.next_step.new.self.world) last) all
     (ends-on p (program_seen c.turns.self.world) (ap (λ names. program_of names.accepted.now) c.turns.invariant.names) (seen c.args.console.now) (seen c.turns.console) (seen c.next_step.new.console)
-    (point_of c.args.self.now) (point_of c.turns.self) c.args.draws.now.left c.turns.draws.left c.next_step.new.draws.left c.turns.left (c.args.steps - c.turns.left) (stop_seen c.in-Some.stop) (stack_of c.next_step.new.self.stack) (world_of c.next_step.new.self.world) c.turns.left c.turns.invariant.leads (rw c.in-Some.is at c.in_ok-stopped.ensures.ends))
+    (point_of c.args.self.now) (point_of c.turns.self) c.args.draws.now.left c.turns.draws.left c.next_step.new.draws.left last (c.args.steps - c.turns.left) (stop_seen c.in-Some.stop) (stack_of c.next_step.new.self.stack) (world_of c.next_step.new.self.world) last c.turns.invariant.leads (rw c.in-Some.is at c.in_ok-stopped.ensures.ends))
 
 pub returns-in_err-stopped-clause-breaks : goal.returns-in_err-stopped-clause-breaks
 returns-in_err-stopped-clause-breaks g c =

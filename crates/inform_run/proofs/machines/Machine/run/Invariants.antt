@@ -1,10 +1,10 @@
-use Rattle.std.proofs.Common.{◌≡◌, ◌≤◌, ◌-◌}
+use Rattle.std.proofs.Common.{◌≡◌, ◌≤◌, ◌-◌, true}
 use Rattle.adv_draws.specs.Supply.{supplied}
 use Rattle.inform_worlds.specs.Views.{program_seen}
-use Rattle.inform_run.specs.Machines.{point_of, IsFit, LeadsOn}
+use Rattle.inform_run.specs.Machines.{point_of, IsFit, LeadsOn, EntersNoneOn}
 use Rattle.inform_run.proofs.machines.Machine.run.Given as goal
 
--- the turns so far lead here
+-- the turns so far lead here, and those of a run that pauses at calls enter no routine
 abbrev pub invariant-turns : goal.invariant-turns
 invariant-turns g l =
     let seen = g.C.Console.seen in
@@ -16,6 +16,7 @@ invariant-turns g l =
       supply : supplied l.draws ≡ supplied l.initial.draws;
       fewer : l.left ≤ l.steps;
       leads : LeadsOn (program_seen l.initial.self.world) (seen l.initial.console) (seen l.console) (point_of l.initial.self) (point_of l.self) l.initial.draws.left l.draws.left (l.steps - l.left);
+      enters : l.to_call ≡ true → EntersNoneOn (program_seen l.initial.self.world) (seen l.initial.console) (point_of l.initial.self) (l.steps - l.left) l.initial.draws.left;
     }
 
 -- each takes a step

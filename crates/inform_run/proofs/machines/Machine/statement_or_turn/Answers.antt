@@ -1,4 +1,4 @@
-use Rattle.inform_run.proofs.Stopping.{ok-none}
+use Rattle.inform_run.proofs.Stopping.{ok-none, any-none}
 use Rattle.inform_run.proofs.machines.Machine.statement_or_turn.Goals as goal
 
 pub returns-in-Some-clause-leads : goal.returns-in-Some-clause-leads
@@ -7,3 +7,7 @@ returns-in-Some-clause-leads g c =
 
 pub returns-in-Some-clause-breaks : goal.returns-in-Some-clause-breaks
 returns-in-Some-clause-breaks g c = c.step_statement.ensures.breaks c.args.draws.now.left
+
+pub returns-in-Some-clause-enters : goal.returns-in-Some-clause-enters
+returns-in-Some-clause-enters g c =
+    any-none _ c.step_statement.result (λ is. c.step_statement.ensures.enters c.args.draws.now.left)

@@ -1,15 +1,10 @@
-use Rattle.std.proofs.Common.{arith}
 use Rattle.inform_moves.specs.Needs.{AStep}
 use Rattle.inform_worlds.specs.Views.{program_seen}
 use Rattle.inform_run.specs.Machines.{point_of}
 use Rattle.inform_run.proofs.Moving.{needed}
 use Rattle.inform_run.proofs.Advances.{ticks-lead}
-use Rattle.inform_run.proofs.Stopping.{spent-ends, ticks-break}
+use Rattle.inform_run.proofs.Stopping.{ticks-break}
 use Rattle.inform_run.proofs.machines.Machine.step.Goals as goal
-
-pub returns-then-left-eq0-clause-ends : goal.returns-then-left-eq0-clause-ends
-returns-then-left-eq0-clause-ends g c = λ draws.
-    spent-ends c.moves_mean.ensures (program_seen c.args.self.now.world) (point_of c.args.self.now) c.moves_need.ensures (g.C.Console.seen c.args.console.now) c.args.left draws c.requires.needs c.if-left-eq0.true
 
 pub returns-in-Ok-clause-leads : goal.returns-in-Ok-clause-leads
 returns-in-Ok-clause-leads g c =
@@ -27,4 +22,4 @@ returns-in-Err-clause-breaks g c =
     let at = point_of c.args.self.now in
     let m = c.make-said.ensures.moves in
     ticks-break c.moves_mean.ensures p at c.runs_add.ensures (seen c.args.console.now) (seen c.say.new.console) c.args.left (point_of c.make-said.new.self) c.make-said.result
-    m (needed c.moves_need.ensures p at m.move m.next AStep c.requires.needs) (omega arith) c.in-Err.ensures.part
+    m (needed c.moves_need.ensures p at m.move m.next AStep c.requires.needs) c.requires.some c.in-Err.ensures.part

@@ -1,7 +1,11 @@
+use Rattle.inform_tree.specs.Statements.{statement_of, statements_of}
 use Rattle.inform_worlds.specs.Views.{program_seen}
+use Rattle.inform_frames.specs.Frames.{rest_of}
+use Rattle.inform_frames.specs.Stacks.{stack_of}
 use Rattle.inform_run.specs.Machines.{point_of}
 use Rattle.inform_run.proofs.Advances.{steps-lead}
 use Rattle.inform_run.proofs.Stopping.{steps-break}
+use Rattle.inform_run.proofs.Entering.{enters-statement}
 use Rattle.inform_run.proofs.machines.Machine.step_statement.Goals as goal
 
 pub returns-in-Ok-clause-leads : goal.returns-in-Ok-clause-leads
@@ -15,3 +19,13 @@ returns-in-Err-clause-breaks g c =
     let seen = g.C.Console.seen in
     steps-break c.moves_mean.ensures c.runs_add.ensures (program_seen c.args.self.now.world) (point_of c.args.self.now) (point_of c.make_statement-said.new.self) (seen c.args.console.now) (seen c.say.new.console) c.args.left c.make_statement-said.result
     c.make_statement-said.ensures.steps c.requires.some c.in-Err.ensures.part
+
+pub returns-in-Ok-clause-enters : goal.returns-in-Ok-clause-enters
+returns-in-Ok-clause-enters g c =
+    enters-statement c.moves_mean.ensures c.moves_need.ensures c.only_calls_enter.ensures (program_seen c.args.self.now.world) (point_of c.args.self.now)
+    (statement_of c.args.x.now) (statements_of c.args.others.now) (rest_of (stack_of c.args.self.now.stack)) c.requires.block c.requires.signal (g.C.Console.seen c.args.console.now)
+
+pub returns-in-Err-clause-enters : goal.returns-in-Err-clause-enters
+returns-in-Err-clause-enters g c =
+    enters-statement c.moves_mean.ensures c.moves_need.ensures c.only_calls_enter.ensures (program_seen c.args.self.now.world) (point_of c.args.self.now)
+    (statement_of c.args.x.now) (statements_of c.args.others.now) (rest_of (stack_of c.args.self.now.stack)) c.requires.block c.requires.signal (g.C.Console.seen c.args.console.now)

@@ -18,5 +18,6 @@ returns-in_default c = record {
   sound = c.requires;
   some = λ is. absurd cc;
   turned = λ is. absurd cc;
+  enters = λ is. absurd cc;
   quiet = λ is seen draws. stays (program_seen c.args.self.now.world) (point_of c.args.self.now) draws draws refl seen;
 }

@@ -10,6 +10,7 @@ use Rattle.inform_run.specs.Points.{Point}
 use Rattle.inform_run.specs.Machines.{point_of}
 use Rattle.inform_run.proofs.Advances.{stays}
 use Rattle.inform_run.proofs.Quiet.{here, is-here, leads-at, silently-then, changed, again, ended}
+use Rattle.inform_run.proofs.Entering.{enters-turn}
 use Rattle.inform_run.proofs.machines.Machine.turn_loop.Goals as goal
 
 pub returns-then-not-change_at_once-clause-quiet :
@@ -81,9 +82,38 @@ returns-in_default c = record {
   names = refl;
   sound = c.requires.sound;
   turned = λ is. absurd cc;
+  enters = λ is. absurd cc;
   quiet = λ is seen draws. stays (program_seen c.args.self.now.world) (point_of c.args.self.now) draws draws refl seen;
 }
 
 pub returns-in_default-2-clause-quiet : goal.returns-in_default-2-clause-quiet
 returns-in_default-2-clause-quiet c = λ is seen draws.
     stays (program_seen c.args.self.now.world) (point_of c.args.self.now) draws draws refl seen
+
+pub returns-in-Some-true-clause-enters : goal.returns-in-Some-true-clause-enters
+returns-in-Some-true-clause-enters c = λ is.
+    let p = program_seen c.args.self.now.world in
+    let at = point_of c.args.self.now in
+    let l = loop_of c.in-Some-Looping.l in
+    let fs = stack_of c.args.self.now.stack in
+    let looping : fs ≡ f.Looping l ∷ rest_of fs =
+    c.in-Some-Looping.ensures.top ∙ ap (λ y. frame_in (caller_of (top_of fs)) y ∷ rest_of fs) c.in-Some-Looping.field-0-is in
+    let rest = rest_of (stack_of c.args.self.now.stack) in
+    let after = world_of c.change_at_once.new.world in
+    enters-turn c.moves_mean.ensures c.moves_need.ensures c.only_calls_enter.ensures p at l rest at.world after
+    (is-here (f.Looping l ∷ rest) at.frames at.handed at.world looping c.requires.signal)
+    (changed c.moves_mean.ensures c.moves_need.ensures p l rest at.world l.change after refl (c.change_at_once.ensures.made c.if-not-change_at_once.false))
+
+pub returns-in-Some-false-clause-enters : goal.returns-in-Some-false-clause-enters
+returns-in-Some-false-clause-enters c = λ is.
+    let p = program_seen c.args.self.now.world in
+    let at = point_of c.args.self.now in
+    let l = loop_of c.in-Some-Looping.l in
+    let fs = stack_of c.args.self.now.stack in
+    let looping : fs ≡ f.Looping l ∷ rest_of fs =
+    c.in-Some-Looping.ensures.top ∙ ap (λ y. frame_in (caller_of (top_of fs)) y ∷ rest_of fs) c.in-Some-Looping.field-0-is in
+    let rest = rest_of (stack_of c.args.self.now.stack) in
+    let after = world_of c.change_at_once.new.world in
+    enters-turn c.moves_mean.ensures c.moves_need.ensures c.only_calls_enter.ensures p at l rest at.world after
+    (is-here (f.Looping l ∷ rest) at.frames at.handed at.world looping c.requires.signal)
+    (changed c.moves_mean.ensures c.moves_need.ensures p l rest at.world l.change after refl (c.change_at_once.ensures.made c.if-not-change_at_once.false))
