@@ -1,6 +1,6 @@
 -- Pieces of a runner's run, one after another, are the whole run, and what they enter is what it
 -- enters: for the loop of `count_calls`.
-use Rattle.std.proofs.Common.{◌≡◌, ◌∙◌, ℕ, suc, ◌+◌, List, [], ◌∷◌, ◌++◌, length, nat_lt, if◌then◌else◌, Some, Result, Ok, Err, IfOk, OnOk, OnErr, sym, ap, subst, arith, length-append, add-one}
+use Rattle.std.proofs.Common.{◌≡◌, ◌∙◌, ℕ, suc, ◌+◌, List, [], ◌∷◌, ◌++◌, length, nat_lt, if◌then◌else◌, Some, Result, Ok, Err, IfOk, OnOk, OnErr, refl, sym, ap, subst, arith, length-append, add-one}
 use Rattle.std.proofs.lemmas.List.Elements.{filter_map-append}
 use Rattle.adv_draws.specs.Supply.{Supply}
 use Rattle.adv_io.specs.History.{grown, GrewByPrefix, draw_taken, draws_taken}
@@ -9,13 +9,13 @@ use Rattle.adv_io.specs.Console.{ConsoleView}
 use Rattle.adv_io.specs.declared.faults.ConsoleFault.{ConsoleFault}
 use Rattle.adv_io.proofs.Sayings.{grown_on, part_on, part_of_more}
 use Rattle.adv_io.proofs.Showing.{trace_of-append, shown_of-append}
-use Rattle.inform_meaning.specs.Worlds.{World, Config}
+use Rattle.inform_meaning.specs.Worlds.{Program, World, Config}
 use Rattle.inform_meaning.specs.Frames as f
 use Rattle.inform_meaning.specs.Frames.{Outcome}
 use Rattle.inform_meaning.specs.Runs.{Lacking, stop_of, begun_of, resume}
 use Rattle.inform_entered.specs.Entered.{open_routines, newly_entered}
-use Rattle.inform_steps.specs.Pieces.{IsSpent, next_piece, Joins, entered_in}
-use Rattle.inform_steps.specs.Laws.{PiecesJoin, StoppedStays, StoppedEntersNothing}
+use Rattle.inform_steps.specs.Pieces.{IsSpent, afresh, next_piece, Joins, entered_in}
+use Rattle.inform_steps.specs.Laws.{PiecesJoin, EnteredJoin, StoppedStays, StoppedEntersNothing}
 use Rattle.inform_run.specs.declared.runners.Runner.{Runner}
 use Rattle.inform_run.specs.declared.stops.Stop.{Stop}
 use Rattle.inform_run.specs.Runners.{program_run, begun_in, world_in, left_to, resumed, Leaves, Runs}
@@ -54,13 +54,13 @@ joined-part (Err fault) old mid new es fs all first next both =
     (sym (shown_of-append es fs) ∙ ap shown_of (sym both))
     (part_on old.history mid.history new.history (shown_of es) (shown_of fs) first next)
 
--- ---- a run, and one step more
+-- ---- a run, and some steps more
 
 -- what a piece leaves is what the whole run leaves
-joined-leaves : (t q whole : Outcome × Config) (k : ℕ) (r0 r r' : Runner) (s0 s s' : Supply)
-    (before stop : Stop) → Leaves t k r0 r s0 s before → Leaves q 1 r r' s s' stop
-    → Joins t q whole → Leaves whole (k + 1) r0 r' s0 s' stop
-joined-leaves t q whole k r0 r r' s0 s s' before stop a b j = record {
+joined-leaves : (t q whole : Outcome × Config) (k m : ℕ) (r0 r r' : Runner) (s0 s s' : Supply)
+    (before stop : Stop) → Leaves t k r0 r s0 s before → Leaves q m r r' s s' stop
+    → Joins t q whole → Leaves whole (k + m) r0 r' s0 s' stop
+joined-leaves t q whole k m r0 r r' s0 s s' before stop a b j = record {
   begun = b.begun ∙ sym j.begun;
   world = b.world ∙ ap (λ c. c.world) (sym j.config);
   draws = b.draws ∙ ap (λ c. c.draws) (sym j.config);
@@ -76,13 +76,13 @@ joined-leaves t q whole k r0 r r' s0 s s' before stop a b j = record {
   stop = b.stop ∙ sym j.stop;
 }
 
-joined-ok : (result : Result Stop ConsoleFault) (t q whole : Outcome × Config) (k : ℕ)
+joined-ok : (result : Result Stop ConsoleFault) (t q whole : Outcome × Config) (k m : ℕ)
     (r0 r r' : Runner) (s0 s s' : Supply) (before : Stop) → Leaves t k r0 r s0 s before
-    → IfOk result (λ stop. Leaves q 1 r r' s s' stop) → Joins t q whole
-    → IfOk result (λ stop. Leaves whole (k + 1) r0 r' s0 s' stop)
-joined-ok (Err fault) t q whole k r0 r r' s0 s s' before a b j = tt
-joined-ok (Ok stop) t q whole k r0 r r' s0 s s' before a b j =
-    joined-leaves t q whole k r0 r r' s0 s s' before stop a b j
+    → IfOk result (λ stop. Leaves q m r r' s s' stop) → Joins t q whole
+    → IfOk result (λ stop. Leaves whole (k + m) r0 r' s0 s' stop)
+joined-ok (Err fault) t q whole k m r0 r r' s0 s s' before a b j = tt
+joined-ok (Ok stop) t q whole k m r0 r r' s0 s s' before a b j =
+    joined-leaves t q whole k m r0 r r' s0 s s' before stop a b j
 
 joined-lines : (result : Result Stop ConsoleFault) (new : ConsoleView) (q whole : Outcome × Config)
     → OnOk result (new.left ≡ Some q.1.lines) → whole.1.lines ≡ q.1.lines
@@ -91,18 +91,23 @@ joined-lines (Err fault) new q whole is same = tt
 joined-lines (Ok stop) new q whole is same = is ∙ ap Some (sym same)
 
 -- a runner goes on from where it stands as its program does from where a run stopped
-goes-on-there : (t : Outcome × Config) (k : ℕ) (r0 r : Runner) (s0 s : Supply) (stop : Stop)
+pub goes-on-there : (t : Outcome × Config) (k m : ℕ) (r0 r : Runner) (s0 s : Supply) (stop : Stop)
     (lines : List (List ℕ)) → program_run r ≡ program_run r0 → Leaves t k r0 r s0 s stop
-    → t.1.lines ≡ lines → resumed r 1 lines s.left ≡ next_piece (program_run r0) t 1
-goes-on-there t k r0 r s0 s stop lines same a is =
-    ap (λ p. resume p (begun_in r) (left_to r 1 lines s.left)) same
-    ∙ ap (λ fs. resume (program_run r0) fs (left_to r 1 lines s.left)) a.begun
+    → t.1.lines ≡ lines → resumed r m lines s.left ≡ next_piece (program_run r0) t m
+goes-on-there t k m r0 r s0 s stop lines same a is =
+    ap (λ p. resume p (begun_in r) (left_to r m lines s.left)) same
+    ∙ ap (λ fs. resume (program_run r0) fs (left_to r m lines s.left)) a.begun
     ∙ ap (λ w. resume (program_run r0) (begun_of t.0)
-    (record { steps = 1; lines = lines; draws = s.left; past = []; world = w })) a.world
+    (record { steps = m; lines = lines; draws = s.left; past = []; world = w })) a.world
     ∙ ap (λ ds. resume (program_run r0) (begun_of t.0)
-    (record { steps = 1; lines = lines; draws = ds; past = []; world = t.1.world })) a.draws
+    (record { steps = m; lines = lines; draws = ds; past = []; world = t.1.world })) a.draws
     ∙ ap (λ ls. resume (program_run r0) (begun_of t.0)
-    (record { steps = 1; lines = ls; draws = t.1.draws; past = []; world = t.1.world })) (sym is)
+    (record { steps = m; lines = ls; draws = t.1.draws; past = []; world = t.1.world })) (sym is)
+
+-- what a run enters with so many steps, after nothing that happened
+entered_with : ℕ → Program → List f.Frame → World → List ℕ → List (List ℕ) → List ℕ
+entered_with m p fs w draws lines =
+    entered_in p fs (record { steps = m; lines = lines; draws = draws; past = []; world = w }) m
 
 -- the directive of the innermost routine, where more are open among these frames than before
 abbrev newly_at : ℕ → List f.Frame → World → List ℕ
@@ -122,45 +127,61 @@ module _ (join : PiecesJoin) (old mid new : ConsoleView) (result : Result Stop C
     (r0 r r' : Runner) (s0 s s' : Supply) (lines : List (List ℕ)) (k : ℕ) (before : Stop)
     (same : program_run r ≡ program_run r0)
     (first : Runs old mid (Ok before) k (resumed r0 k lines s0.left) r0 r s0 s) where
-  -- the run so far, and the run with a step more
+  -- the run so far, and the lines that it left
   abbrev sofar : Outcome × Config
   sofar = resumed r0 k lines s0.left
 
-  abbrev whole : Outcome × Config
-  whole = resumed r0 (k + 1) lines s0.left
+  abbrev pub rest : List (List ℕ)
+  rest = sofar.1.lines
 
-  joins : (given : List (List ℕ)) → mid.left ≡ Some given
-      → Joins sofar (resumed r 1 given s.left) whole
-  joins given is =
-      let left : sofar.1.lines ≡ given = cc first.lines in
-      subst (λ q. Joins sofar q whole)
-      (sym (goes-on-there sofar k r0 r s0 s before given same first.leaves left))
-      (join (program_run r0) (begun_in r0) (left_to r0 k lines s0.left) k 1)
+  module _ (m : ℕ) where
+    abbrev whole : Outcome × Config
+    whole = resumed r0 (k + m) lines s0.left
 
-  -- a run and a step are the run with a step more
-  pub runs-on : (given : List (List ℕ)) → mid.left ≡ Some given
-      → Runs mid new result 1 (resumed r 1 given s.left) r r' s s'
-      → Runs old new result (k + 1) (resumed r0 (k + 1) lines s0.left) r0 r' s0 s'
-  runs-on given is next =
-      let q = resumed r 1 given s.left in
-      let j : Joins sofar q whole = joins given is in
-      let past : whole.1.past ≡ sofar.1.past ++ q.1.past = ap (λ c. c.past) j.config in
-      record {
-        shows = joined-shows result old mid new sofar.1.past q.1.past whole.1.past first.shows
-            next.shows past;
-        part = joined-part result old mid new sofar.1.past q.1.past whole.1.past first.shows
-            next.part past;
-        lines = joined-lines result new q whole next.lines (ap (λ c. c.lines) j.config);
-        leaves = joined-ok result sofar q whole k r0 r r' s0 s s' before first.leaves next.leaves
-            j;
-      }
+    abbrev piece : Outcome × Config
+    piece = resumed r m rest s.left
 
-  -- what the step entered comes after what the run so far did
-  pub enters-on : (stop : Stop) (given : List (List ℕ)) → mid.left ≡ Some given
-      → Leaves whole (k + 1) r0 r' s0 s' stop
+    pub on-there : piece ≡ next_piece (program_run r0) sofar m
+    on-there = goes-on-there sofar k m r0 r s0 s before rest same first.leaves refl
+
+    joins : Joins sofar piece whole
+    joins = subst (λ q. Joins sofar q whole) (sym on-there)
+        (join (program_run r0) (begun_in r0) (left_to r0 k lines s0.left) k m)
+
+    -- a run and a piece are the run with the steps of both
+    pub runs-on : Runs mid new result m piece r r' s s'
+        → Runs old new result (k + m) whole r0 r' s0 s'
+    runs-on next =
+        let past : whole.1.past ≡ sofar.1.past ++ piece.1.past = ap (λ c. c.past) joins.config in
+        record {
+          shows = joined-shows result old mid new sofar.1.past piece.1.past whole.1.past
+              first.shows next.shows past;
+          part = joined-part result old mid new sofar.1.past piece.1.past whole.1.past first.shows
+              next.part past;
+          lines = joined-lines result new piece whole next.lines (ap (λ c. c.lines) joins.config);
+          leaves = joined-ok result sofar piece whole k m r0 r r' s0 s s' before first.leaves
+              next.leaves joins;
+        }
+
+    -- what the piece entered comes after what the run so far did
+    pub enters-more : EnteredJoin → entered_by r0 (k + m) lines s0.left
+        ≡ entered_by r0 k lines s0.left ++ entered_by r m rest s.left
+    unfolding entered_with
+    enters-more law =
+        let p = program_run r0 in
+        let there : entered_by r m rest s.left ≡ entered_in p (begun_of sofar.0) (afresh sofar.1) m =
+        ap (λ p. entered_with m p (begun_in r) (world_in r) s.left rest) same
+        ∙ ap (λ fs. entered_with m p fs (world_in r) s.left rest) first.leaves.begun
+        ∙ ap (λ w. entered_with m p (begun_of sofar.0) w s.left rest) first.leaves.world
+        ∙ ap (λ ds. entered_with m p (begun_of sofar.0) sofar.1.world ds rest) first.leaves.draws in
+        law p (begun_in r0) (left_to r0 k lines s0.left) k m
+        ∙ ap (λ xs. entered_by r0 k lines s0.left ++ xs) (sym there)
+
+  -- what one step entered
+  pub enters-on : (stop : Stop) → Leaves (whole 1) (k + 1) r0 r' s0 s' stop
       → entered_by r0 (k + 1) lines s0.left
       ≡ entered_by r0 k lines s0.left ++ entered_since (open_routines (begun_in r)) r'
-  enters-on stop given is leaves =
+  enters-on stop leaves =
       let p = program_run r0 in
       let all = entered_in p (begun_in r0) (left_to r0 k lines s0.left) in
       ap all (add-one k)

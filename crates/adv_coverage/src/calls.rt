@@ -12,7 +12,9 @@ use adv_draws::Draws;
 use adv_io::{Console, ConsoleFault};
 use inform_meaning::laws::runs_split;
 use inform_run::{Runner, Stop};
-use inform_steps::laws::{pieces_join, stopped_enters_nothing, stopped_stays};
+use inform_steps::laws::{
+    entered_join, pieces_join, spent_goes_on, stopped_enters_nothing, stopped_stays,
+};
 
 // Counts the innermost routine, where more are open than before.
 #[inline(always)]
@@ -84,15 +86,27 @@ pub fn count_calls<C: Console>(
     counts_add();
     runs_split();
     pieces_join();
+    entered_join();
+    spent_goes_on();
     stopped_stays();
     stopped_enters_nothing();
-    let mut stop = runner.run(draws, 0, console)?;
+    let end = runner.used() + steps;
+    let mut stop = runner.run_to_call(draws, steps, console)?;
     for _ in 0..steps {
         match stop {
             Stop::Spent => {}
             _ => return Ok(stop),
         }
-        stop = count_step(runner, draws, counts, console)?;
+        let left = end - runner.used();
+        if left == 0 {
+            return Ok(stop);
+        }
+        let stepped = count_step(runner, draws, counts, console)?;
+        match stepped {
+            Stop::Spent => {}
+            _ => return Ok(stepped),
+        }
+        stop = runner.run_to_call(draws, left - 1, console)?;
     }
     Ok(stop)
 }

@@ -75,22 +75,22 @@ normal-due (y ∷ fs) e is = let due : need y e ≡ AStep = cc in
     subst (λ d. Asks d y e) due (asks y e)
 
 module _ (means : MovesMean) (needs : MovesNeed) (law : OnlyCallsEnter) (p : Program) (at : Point)
-    where
-  pub enters-none : next_need at ≡ Some AStep → (CallIsDue at.frames → ⊥) → EntersNoneAnyway p at 1
-  enters-none due other = λ seen draws lines known past n few.
-      let none : n ≡ 0 = omega (arith, few) in
-      let e = ends-spent means p at seen seen lines known refl needs draws due in
-      let normal = normal-due at.frames (signal_of at.handed) due in
-      let c = config_at at 0 lines draws past in
-      let run : (m : ℕ) → run_from p at m lines draws past ≡ standing p at.frames c m =
-      λ m. ap (λ e. resume_at p CALL_LIMIT at.frames e (config_at at m lines draws past)) normal in
-      let stands : begun_of (standing p at.frames c 0).0 ≡ at.frames =
-      ap (λ r. begun_of r.0) (sym (run 0)) ∙ ap (λ r. begun_of r.0) (e.same past) ∙ e.frames_are in
-      subst (λ n. newly_entered (run_from p at n lines draws past)
-      (run_from p at (suc n) lines draws past) ≡ []) (sym none)
-      (ap (λ r. newly_entered r (run_from p at 1 lines draws past)) (run 0)
-      ∙ ap (newly_entered (standing p at.frames c 0)) (run 1)
-      ∙ law p at.frames c 0 (λ is. other (subst CallIsDue stands is)))
+  where
+    pub enters-none : next_need at ≡ Some AStep → (CallIsDue at.frames → ⊥) → EntersNoneAnyway p at 1
+    enters-none due other = λ seen draws lines known past n few.
+        let none : n ≡ 0 = omega (arith, few) in
+        let e = ends-spent means p at seen seen lines known refl needs draws due in
+        let normal = normal-due at.frames (signal_of at.handed) due in
+        let c = config_at at 0 lines draws past in
+        let run : (m : ℕ) → run_from p at m lines draws past ≡ standing p at.frames c m =
+        λ m. ap (λ e. resume_at p CALL_LIMIT at.frames e (config_at at m lines draws past)) normal in
+        let stands : begun_of (standing p at.frames c 0).0 ≡ at.frames =
+        ap (λ r. begun_of r.0) (sym (run 0)) ∙ ap (λ r. begun_of r.0) (e.same past) ∙ e.frames_are in
+        subst (λ n. newly_entered (run_from p at n lines draws past)
+        (run_from p at (suc n) lines draws past) ≡ []) (sym none)
+        (ap (λ r. newly_entered r (run_from p at 1 lines draws past)) (run 0)
+        ∙ ap (newly_entered (standing p at.frames c 0)) (run 1)
+        ∙ law p at.frames c 0 (λ is. other (subst CallIsDue stands is)))
 
 -- the next statement of a block
 module _ (means : MovesMean) (needs : MovesNeed) (law : OnlyCallsEnter) (p : Program) (at : Point)
