@@ -29,7 +29,7 @@ pub at-last : (n : ℕ) → (n == n) ≡ true
 at-last n = grind (arith, nat_tests)
 
 module _ (pauses : ℕ → Option Paused) where
-  none_before : (from : ℕ) → ((n : ℕ) → n < from → pauses n ≡ None) → pauses from ≡ None
+  pub none_before : (from : ℕ) → ((n : ℕ) → n < from → pauses n ≡ None) → pauses from ≡ None
       → (n : ℕ) → n < from + 1 → pauses n ≡ None
   none_before from before here n few = by (nat_lt n from) refl where
     by : (b : Bool) → nat_lt n from ≡ b → pauses n ≡ None

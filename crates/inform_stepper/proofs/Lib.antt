@@ -2,6 +2,7 @@
 pub mod Joining
 pub mod FirstPause
 pub mod Led
+pub mod OneRun
 pub mod Showing
 pub mod Stopping
 pub mod Repeating

@@ -2,7 +2,7 @@ use Rattle.std.proofs.Common.{◌≡◌, ◌≤◌, ◌+◌, ◌-◌, ℕ, List,
 use Rattle.inform_entered.specs.Entered.{open_routines}
 use Rattle.inform_run.specs.Runners.{program_run, begun_in}
 use Rattle.inform_stepper.proofs.Led.{Led}
-use Rattle.inform_stepper.proofs.stepping.go.Given as goal
+use Rattle.inform_stepper.proofs.stepping.go_by_steps.Given as goal
 
 -- the steps so far were used, and nothing paused the run
 abbrev pub invariant-loop-left : goal.invariant-loop-left

@@ -1,16 +1,9 @@
 use Rattle.std.proofs.Common.{◌≡◌, ◌∙◌, ◌+◌, ◌-◌, ◌<◌, suc, Ok, refl, sym, ap, subst, arith}
 use Rattle.std.specs.Option.{option_to_list}
 use Rattle.std.proofs.lemmas.Result.{err_from_is_err_and}
-use Rattle.inform_meaning.specs.Laws.{RunsGo}
-use Rattle.inform_steps.specs.Laws.{PiecesJoin, SpentGoesOn}
-use Rattle.inform_stepper.specs.Laws.{RunsJoin}
 use Rattle.inform_stepper.specs.Pauses.{met}
-use Rattle.inform_stepper.proofs.Led.{Laws, Led, Ran, known, if_known, one_more, led_first, stops_first, stops_after, here, pauses_after, goes_on, all_used, fails_first, fails_after}
-use Rattle.inform_stepper.proofs.stepping.go.Goals as goal
-
-laws_of : RunsGo → PiecesJoin → SpentGoesOn → RunsJoin → Laws
-laws_of goes joins spends runs =
-    record { joins = joins; spends = spends; runs = runs; goes = goes }
+use Rattle.inform_stepper.proofs.Led.{laws_of, Led, Ran, known, if_known, one_more, led_first, stops_first, stops_after, here, pauses_after, goes_on, all_used, fails_first, fails_after}
+use Rattle.inform_stepper.proofs.stepping.go_by_steps.Goals as goal
 
 -- ---- with no step
 
