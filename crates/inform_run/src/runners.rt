@@ -70,8 +70,8 @@ impl<'a> Runner<'a> {
     }
 
     /// Goes on from where the runner stands, for at most so many steps, and answers why it stopped.
-    /// After `NeedsLine`, `NeedsDraw` and `Spent` a later call goes on there; after `Quit` and `Trap` it
-    /// answers the same again, and nothing happens.
+    /// After `NeedsLine`, `NeedsDraw` and `Spent` a later call goes on there; after `Quit` and
+    /// `Trap` it answers the same again, and nothing happens.
     ///
     /// The console's fault alone is a refusal, and breaks the runner: it can't go on.
     pub fn run<C: Console>(

@@ -115,7 +115,8 @@ module _ (laws : Laws) (old : ConsoleView) (until : Until) (steps : ℕ) (lines 
       → IsSpent (run_at n)
   spent-at now r d n ran = sym ran.leaves.stop
 
-  pub spent-next : (n : ℕ) → IsSpent (run_at n) → ((run_at n).1.steps ≡ 0) × ((run_at (suc n)).1.steps ≡ 0)
+  pub spent-next : (n : ℕ) → IsSpent (run_at n)
+      → ((run_at n).1.steps ≡ 0) × ((run_at (suc n)).1.steps ≡ 0)
   spent-next n spent =
       let from = laws.spends (program_run r0) (begun_in r0) (left_to r0 0 lines d0.left) n 0 spent in
       let j = laws.joins (program_run r0) (begun_in r0) (left_to r0 0 lines d0.left) n 1 in

@@ -78,8 +78,8 @@ module _ (laws : Laws) (stays : StoppedStays) (old : ConsoleView) (n steps : ℕ
 
   -- ---- how many steps a run takes
 
-  -- Of so many steps the run takes these: before them it stops for nothing but steps, and if it
-  -- stops for nothing else after them either, they are all.
+  -- The steps that a run takes of so many: until they are made it stops for nothing but steps, and
+  -- none of them is left over. They are all, unless it then stops for something else.
   record Takes (ahead : ℕ) : Type 0 where
     count : ℕ
     few : count ≤ ahead
@@ -187,7 +187,8 @@ module _ (laws : Laws) (stays : StoppedStays) (old : ConsoleView) (n steps : ℕ
     unmet : (k : ℕ) → k < ahead → r0.used + k ≡ n → k ≡ 0
     unmet zero earlier is = refl
     unmet (suc k) earlier is =
-        let past : r0.used < n = omega (arith, is) in absurd (omega (arith, is, earlier, before past))
+        let past : r0.used < n = omega (arith, is) in
+        absurd (omega (arith, is, earlier, before past))
 
     unpaused : Unpaused (u.Step n) r0.used steps at taken.count
     unpaused k earlier = passes n r0.used at k (taken.goes_on k earlier)
@@ -256,7 +257,8 @@ module _ (laws : Laws) (stays : StoppedStays) (old : ConsoleView) (n steps : ℕ
             count = taken.count;
             paused = p.Stopped s.Spent;
             first = spends_first (u.Step n) r0.used steps at taken.count last unpaused
-                (passes n r0.used at taken.count unstopped (λ is. absurd (other (omega (arith, is, used-are)))));
+                (passes n r0.used at taken.count unstopped
+                (λ is. absurd (other (omega (arith, is, used-are)))));
             few = less;
             answer = refl;
             used = used-are;
