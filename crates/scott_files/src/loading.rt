@@ -10,7 +10,7 @@ use scott_types::Db;
 use std::alloc::Global;
 
 /// The bytes of a piece. Only the last one of a file has fewer.
-pub const PIECE_SIZE: usize = 65_536;
+pub const PIECE_SIZE: usize = 8_192;
 
 // Loads the piece from this place on, and answers how many bytes it has.
 fn load_piece<S: Shelf>(

@@ -37,11 +37,11 @@ const NO_NUMBER: Case<'static> = Case {
 
 // The sizes of files, and the calls of the shelf by which each is stored and then loaded.
 const CALLS: [(usize, u64); 5] = [
-    (65_535, 2),
-    (65_536, 3),
-    (131_071, 3),
-    (131_072, 4),
-    (1_048_576, 18),
+    (8_191, 2),
+    (8_192, 3),
+    (16_383, 3),
+    (16_384, 4),
+    (1_048_576, 130),
 ];
 
 #[test]
