@@ -1,12 +1,13 @@
 -- What an answer says of what is meant.
 use Rattle.std.proofs.Common.{◌≡◌, ℕ, ◌⊎◌, inl, inr, Result, Ok, Err, refl, sym, ap, subst, ◌∙◌}
 use Rattle.std.specs.Prelude.{IfOk}
+use Rattle.adv_io.specs.Answers.{IsErrOr}
 use Rattle.scott_types.specs.Database.{Database}
 use Rattle.scott_types.specs.declared.databases.Db.{Db}
 use Rattle.adv_compiler.specs.declared.faults.CompileFault.{CompileFault}
 use Rattle.adv_compiler.specs.declared.faults.CompileFault.TheVariants as answer
 use Rattle.adv_compiler.specs.Faults.{Fault, unnamed, twice, too_many_conditions, too_many_opcodes, limit, fault_answer, Stands, Meets}
-use Rattle.adv_compiler.specs.Meaning.{IsDb, IsErrOrMemory}
+use Rattle.adv_compiler.specs.Meaning.{IsDb}
 
 -- the fault that stands is known
 stands : {A : Type 0} (fault : Fault) (r : Result A Fault) → Stands (fault_answer fault) r → r ≡ Err fault
@@ -55,7 +56,7 @@ module _ (meant : Result Database Fault) where
   exact (Err given) e fault is =
       stands fault meant (subst (λ (f : CompileFault). Stands f meant) (err_is given (fault_answer fault) is) e)
 
-  pub expected : (r : Result Db CompileFault) → Meets meant r → (fault : Fault) → meant ≡ Err fault → IsErrOrMemory r (fault_answer fault)
+  pub expected : (r : Result Db CompileFault) → Meets meant r → (fault : Fault) → meant ≡ Err fault → IsErrOr answer.Memory r (fault_answer fault)
   expected (Ok db) e fault h = absurd (not_both db fault e h)
   expected (Err given) e fault h =
       elim (fault_or_memory given meant e) [

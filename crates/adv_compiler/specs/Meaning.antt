@@ -1,6 +1,5 @@
 -- The database that a source means, or its first fault in the order of the text.
 use Rattle.std.specs.Prelude.{ℕ, ◌≡◌, ◌<◌, ◌≤ℤ◌, ℤ, pos, negsuc, List, map, length, slice_index_or, unsigned_abs, Result, Ok, Err}
-use Rattle.adv_io.specs.Answers.{IsErrOr}
 use Rattle.scott_types.specs.declared.parts.Header.{Header}
 use Rattle.scott_types.specs.declared.parts.Trailer.{Trailer}
 use Rattle.scott_types.specs.Database.{Database}
@@ -80,7 +79,3 @@ pub record IsHeader (rooms : ℕ) (numbers : Numbers) : Type 0 where
 abbrev pub IsDb : Result Db CompileFault → Database → Type 0
 IsDb (Ok made) db = made ≡ db
 IsDb (Err fault) db = fault ≡ answer.Memory
-
--- this fault was answered, unless memory ran out
-abbrev pub IsErrOrMemory : Result Db CompileFault → CompileFault → Type 0
-IsErrOrMemory r fault = IsErrOr answer.Memory r fault

@@ -1,12 +1,13 @@
 //! The database that a source means.
 ghost use Rattle.std.specs.Prelude.{◌≡◌, ◌≤◌, Ok, Err, IfOk, IsTrue, map};
+ghost use Rattle.adv_io.specs.Answers.{IsErrOr};
 ghost use Rattle.std.specs.List.{list_all};
 ghost use Rattle.scott_types.specs.Database.{Database, database_of};
 ghost use Rattle.scott_types.specs.Limits.{is_file_text, is_trailer, are_header_numbers, KeepsLimits};
 ghost use Rattle.source_reader.specs.WellFormed.{all_of, is_line_part, WellFormed};
 ghost use Rattle.adv_compiler.specs.Faults.{Fault, fault_answer, Gives};
 ghost use Rattle.adv_compiler.specs.Index.{known_in};
-ghost use Rattle.adv_compiler.specs.Meaning.{IsHeader, header_of, trailer_of, meaning, meant, IsDb, IsErrOrMemory};
+ghost use Rattle.adv_compiler.specs.Meaning.{IsHeader, header_of, trailer_of, meaning, meant, IsDb};
 
 use crate::faults::CompileFault;
 use crate::headers::{Numbers, header};
@@ -126,7 +127,7 @@ pub fn compile(alloc: Global, source: &Source) -> Result<Db, CompileFault>
     ensures exact { (fault : Fault) → result ≡ Err (fault_answer fault)
         → meant source.now ≡ Err fault }
     ensures expected { (fault : Fault) → meant source.now ≡ Err fault
-        → IsErrOrMemory result (fault_answer fault) }
+        → IsErrOr CompileFault.Memory result (fault_answer fault) }
 
     // The answer is what the source means, unless memory runs out.
     ensures as_meant { Gives (λ db. db) (meant source.now) result }

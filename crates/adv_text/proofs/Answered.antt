@@ -1,11 +1,12 @@
 -- What a reading that gives what the definition reads says of spellings and faults.
 use Rattle.std.proofs.Common.{◌≡◌, ℕ, ◌⊎◌, inl, inr, ◌↔◌, List, Result, Ok, Err, ℤ, refl, sym, ap, subst, ◌∙◌}
 use Rattle.std.specs.Prelude.{IfOk, IfErr, OnOk}
+use Rattle.adv_io.specs.Answers.{IsErrOr}
 use Rattle.std.specs.Global.{Vec}
 use Rattle.adv_text.specs.declared.faults.TextFault.{TextFault}
 use Rattle.adv_text.specs.declared.faults.TextFault.TheVariants as answer
 use Rattle.adv_text.specs.Spelling.{Number, Quoted}
-use Rattle.adv_text.specs.Reading.{Spot, Fault, no_number, big_number, no_quote, open_string, long_string, SameEnd, number_at, quoted_at, fault_answer, Stands, IsFaultOf, IsText, IsErrOrMemory}
+use Rattle.adv_text.specs.Reading.{Spot, Fault, no_number, big_number, no_quote, open_string, long_string, SameEnd, number_at, quoted_at, fault_answer, Stands, IsFaultOf, IsText}
 use Rattle.adv_text.specs.Laws.{NumberFault, StringFault}
 use Rattle.adv_text.proofs.Places.{number_ends, string_ends}
 use Rattle.adv_text.proofs.Numbers.{number_is_spelled, spelled_number_is_read, number_fault_is_exact}
@@ -133,7 +134,7 @@ module _ (s after : Spot) where
       stands (long_string at) e = e
 
   pub string_expected : (r : Result (Vec ℕ) TextFault) → IfOk r (λ text. quoted_at s ≡ Ok (text.items, after)) → IfErr r (λ fault. Stands fault (quoted_at s))
-      → (fault : Fault) → StringFault s fault → IsErrOrMemory r (fault_answer fault)
+      → (fault : Fault) → StringFault s fault → IsErrOr answer.Memory r (fault_answer fault)
   string_expected (Ok v) e f fault h = absurd (both (v.items, after) fault e ((string_fault_is_exact s fault).1 h))
   string_expected (Err given) e f fault h =
       elim (fault_or_memory given (quoted_at s) f) [

@@ -2,7 +2,7 @@
 use Rattle.std.specs.Prelude.{ℕ, ◌≡◌, ◌+◌, ◌-◌, ◌*◌, ◌≤◌, ◌<◌, ◌==◌, nat_le, nat_lt, Bool, true, false, if◌then◌else◌, Option, Some, None, drop, List, [], ◌∷◌, ◌++◌, length, ℤ, Result, Ok, Err}
 use Rattle.std.specs.Global.{Vec}
 use Rattle.std.specs.Char.{is_ascii_digit}
-use Rattle.adv_io.specs.Answers.{IsExpected, IsExactly, IsErrOr}
+use Rattle.adv_io.specs.Answers.{IsExpected, IsExactly}
 use Rattle.adv_io.specs.Text.{carriage_return, quote, plus_sign, minus_sign, grave_accent, is_whitespace, text_limit}
 use Rattle.adv_text.specs.Spelling.{signed, greatest}
 use Rattle.adv_text.specs.declared.faults.TextFault.{TextFault}
@@ -134,10 +134,6 @@ IsFaultOf fault read = IsExactly fault_of fault read
 abbrev pub IsText : Result (Vec ℕ) TextFault → List ℕ → Type 0
 IsText (Ok v) text = v.items ≡ text
 IsText (Err fault) text = fault ≡ answer.Memory
-
--- this fault was answered, unless memory ran out
-abbrev pub IsErrOrMemory : Result (Vec ℕ) TextFault → TextFault → Type 0
-IsErrOrMemory r fault = IsErrOr answer.Memory r fault
 
 -- more bytes of the string that was opened at this place make it longer than 4,096, unless memory
 -- ran out

@@ -1,7 +1,8 @@
 //! A scan over the bytes of a file.
 ghost use Rattle.std.specs.Prelude.{◌≡◌, ◌≢◌, ◌+◌, List, ℕ, ℤ, IfOk, IfErr, OnErr, OnOk, ◌<◌, ◌≤◌, ◌-◌, ◌^◌, length, drop, Ok, Err, MatchResult, ◌↔◌, true, false};
+ghost use Rattle.adv_io.specs.Answers.{IsErrOr};
 ghost use Rattle.adv_text.specs.Spelling.{greatest, signed, Number, Quoted};
-ghost use Rattle.adv_text.specs.Reading.{Spot, spot, SameEnd, past_whitespace, past_sign, amount_at, number_at, quoted_at, opening_at, Stands, IsFaultOf, Fault, fault_answer, IsText, IsErrOrMemory};
+ghost use Rattle.adv_text.specs.Reading.{Spot, spot, SameEnd, past_whitespace, past_sign, amount_at, number_at, quoted_at, opening_at, Stands, IsFaultOf, Fault, fault_answer, IsText};
 ghost use Rattle.adv_text.specs.Laws.{NumberFault, StringFault};
 
 use crate::fast::{plain_string, short_amount, short_number};
@@ -134,7 +135,7 @@ impl<'a> Scan<'a> {
         ensures exact { (fault : Fault) → result ≡ Err (fault_answer fault)
             → StringFault self.old fault }
         ensures expected { (fault : Fault) → StringFault self.old fault
-            → IsErrOrMemory result (fault_answer fault) }
+            → IsErrOr TextFault.Memory result (fault_answer fault) }
         ensures stays { OnErr result (self.new ≡ self.old) }
 
         // The same as a function of the spot.

@@ -1,6 +1,7 @@
 -- What a reading says of texts and faults.
 use Rattle.std.proofs.Common.{◌≡◌, ℕ, suc, ◌⊎◌, inl, inr, ◌<◌, List, [], ◌∷◌, get_or, Result, Ok, Err, refl, sym, ap, subst, ◌∙◌}
 use Rattle.std.specs.Prelude.{IfOk, IfErr, MatchResult}
+use Rattle.adv_io.specs.Answers.{IsErrOr}
 use Rattle.std.proofs.lemmas.Bool.{and_from, lt-ltb}
 use Rattle.adv_text.specs.Laws.{AreBytes}
 use Rattle.adv_text.specs.Reading.{Spot, spot, no_number, big_number, no_quote, open_string, long_string}
@@ -12,7 +13,7 @@ use Rattle.scott_format.specs.declared.faults.FormatFault.TheVariants as answer
 use Rattle.scott_format.specs.Faults.{Fault, text, limit, no_start, negative_action, fault_answer}
 use Rattle.scott_format.specs.Plan.{run}
 use Rattle.scott_format.specs.File.{file, IsReadFrom, DatText, DatFault, value_of, database_in}
-use Rattle.scott_format.specs.Reading.{Stands, IsDb, IsErrOrMemory}
+use Rattle.scott_format.specs.Reading.{Stands, IsDb}
 use Rattle.scott_format.specs.Laws.{TextOrFault, NeverBoth, OneDatabase, TextKeepsLimits, DatabaseIn, FaultIn}
 use Rattle.scott_format.specs.TextLaws.{TextLaws}
 use Rattle.scott_format.proofs.Exact.{value_is, one_fault, run-spelled, spelled-run}
@@ -145,7 +146,7 @@ module _ (laws : TextLaws) where
         stands fault (run file (spot 0 bytes)) (subst (λ (f : FormatFault). Stands f (run file (spot 0 bytes))) (err_is given (fault_answer fault) e) faulty)
 
     pub expected : (r : Result Db FormatFault) → IfOk r (λ db. IsReadFrom bytes db) → IfErr r (λ fault. Stands fault (run file (spot 0 bytes)))
-        → (fault : Fault) → DatFault bytes fault → IsErrOrMemory r (fault_answer fault)
+        → (fault : Fault) → DatFault bytes fault → IsErrOr answer.Memory r (fault_answer fault)
     expected (Ok db) value faulty fault h = absurd (both (db, value.0) fault value.1 h)
     expected (Err given) value faulty fault h =
         elim (fault_or_memory given (run file (spot 0 bytes)) faulty) [

@@ -1,6 +1,6 @@
 -- What a function of the reader answers, held to a plan.
 use Rattle.std.specs.Prelude.{◌≡◌, Option, Some, None, Result, Ok, Err}
-use Rattle.adv_io.specs.Answers.{IsExpected, IsErrOr}
+use Rattle.adv_io.specs.Answers.{IsExpected}
 use Rattle.adv_text.specs.Reading.{Spot, no_number, big_number, no_quote, open_string, long_string}
 use Rattle.scott_format.specs.declared.faults.FormatFault.{FormatFault}
 use Rattle.scott_format.specs.declared.faults.FormatFault.TheVariants as answer
@@ -38,7 +38,3 @@ Follows plan s r after = Gives (λ x. x) plan s r after
 abbrev pub IsDb : Result Db FormatFault → Database → Type 0
 IsDb (Ok read) db = read ≡ db
 IsDb (Err fault) db = fault ≡ answer.Memory
-
--- this fault was answered, unless memory ran out
-abbrev pub IsErrOrMemory : Result Db FormatFault → FormatFault → Type 0
-IsErrOrMemory r fault = IsErrOr answer.Memory r fault

@@ -1,11 +1,12 @@
 //! Reading a database's text.
 ghost use Rattle.std.specs.Prelude.{◌≡◌, ◌≤◌, length, IfOk, IfErr, MatchResult, Ok, Err};
+ghost use Rattle.adv_io.specs.Answers.{IsErrOr};
 ghost use Rattle.scott_types.specs.Database.{Database};
 ghost use Rattle.adv_text.specs.Reading.{spot};
 ghost use Rattle.scott_format.specs.Faults.{Fault, fault_answer};
 ghost use Rattle.scott_format.specs.Plan.{run};
 ghost use Rattle.scott_format.specs.File.{file, IsReadFrom, DatText, DatFault, database_in};
-ghost use Rattle.scott_format.specs.Reading.{Stands, IsDb, IsErrOrMemory};
+ghost use Rattle.scott_format.specs.Reading.{Stands, IsDb};
 
 use crate::faults::FormatFault;
 use crate::readers::{DATABASE_LIMIT, DbReader};
@@ -43,7 +44,7 @@ pub fn read_db(alloc: Global, bytes: &[u8]) -> Result<Db, FormatFault>
     // runs out.
     ensures exact { (fault : Fault) → result ≡ Err (fault_answer fault) → DatFault bytes.now fault }
     ensures expected { (fault : Fault) → DatFault bytes.now fault
-        → IsErrOrMemory result (fault_answer fault) }
+        → IsErrOr FormatFault.Memory result (fault_answer fault) }
 
     // The answer is what the bytes read as, unless memory runs out.
     ensures as_read { MatchResult result (λ db. database_in bytes.now ≡ Ok db)

@@ -1,6 +1,7 @@
 -- What a reading says of texts and faults.
 use Rattle.std.proofs.Common.{◌≡◌, ℕ, suc, ◌<◌, ◌⊎◌, inl, inr, List, [], ◌∷◌, get_or, Result, Ok, Err, refl, sym, ap, subst, ◌∙◌}
 use Rattle.std.specs.Prelude.{IfOk, MatchResult}
+use Rattle.adv_io.specs.Answers.{IsErrOr}
 use Rattle.std.proofs.lemmas.Bool.{and_from, lt-ltb}
 use Rattle.adv_text.specs.Laws.{AreBytes}
 use Rattle.adv_text.specs.Reading.{Spot, spot}
@@ -9,7 +10,7 @@ use Rattle.source_reader.specs.declared.faults.SourceFault.{SourceFault}
 use Rattle.source_reader.specs.declared.faults.SourceFault.TheVariants as answer
 use Rattle.source_reader.specs.Faults.{Fault, unexpected, big_number, open_string, long_string, long_name, fault_answer, Stands, Reads}
 use Rattle.source_reader.specs.Plan.{run}
-use Rattle.source_reader.specs.Text.{source, value_of, source_in, SourceText, TextFault, IsSource, IsErrOrMemory}
+use Rattle.source_reader.specs.Text.{source, value_of, source_in, SourceText, TextFault, IsSource}
 use Rattle.source_reader.specs.WellFormed.{WellFormed}
 use Rattle.source_reader.specs.Laws.{TokenIsExact, TokenFaultIsExact, TextOrFault, NeverBoth, OneSource, OneFault, SourceIn, FaultIn, TextIsWellFormed}
 use Rattle.source_reader.proofs.Exact.{one_value, one_fault, not_both, run-spelled, spelled-run, run-faulty, faulty-run}
@@ -136,7 +137,7 @@ module _ (exact : TokenIsExact) (faults : TokenFaultIsExact) where
         subst (λ (f : SourceFault). Stands f (run source (spot 0 bytes))) (err_is given (fault_answer fault) is) e in
         run-faulty exact faults source (spot 0 bytes) fault (stands fault (run source (spot 0 bytes)) same)
 
-    pub expected : (r : Result Source SourceFault) → Reads (run source (spot 0 bytes)) r after → (fault : Fault) → TextFault bytes fault → IsErrOrMemory r (fault_answer fault)
+    pub expected : (r : Result Source SourceFault) → Reads (run source (spot 0 bytes)) r after → (fault : Fault) → TextFault bytes fault → IsErrOr answer.Memory r (fault_answer fault)
     expected (Ok tree) e fault h = absurd (not_both (tree, after) fault e (faulty-run exact faults source (spot 0 bytes) fault h))
     expected (Err given) e fault h =
         elim (fault_or_memory given (run source (spot 0 bytes)) e) [

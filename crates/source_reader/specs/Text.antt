@@ -1,6 +1,5 @@
 -- The text of a source.
 use Rattle.std.specs.Prelude.{ℕ, ◌≡◌, List, [], ◌∷◌, ℤ, Result, Ok, Err, codes}
-use Rattle.adv_io.specs.Answers.{IsErrOr}
 use Rattle.adv_text.specs.Reading.{Spot, spot}
 use Rattle.source_reader.specs.declared.settings.Settings.{Settings}
 use Rattle.source_reader.specs.declared.tree.At.{At}
@@ -117,7 +116,3 @@ source_in bytes = value_of (run source (spot 0 bytes))
 abbrev pub IsSource : Result Source SourceFault → Source → Type 0
 IsSource (Ok read) tree = read ≡ tree
 IsSource (Err fault) tree = fault ≡ answer.Memory
-
--- this fault was answered, unless memory ran out
-abbrev pub IsErrOrMemory : Result Source SourceFault → SourceFault → Type 0
-IsErrOrMemory r fault = IsErrOr answer.Memory r fault

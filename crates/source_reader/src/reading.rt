@@ -1,9 +1,10 @@
 //! Reading the text of a source.
 ghost use Rattle.std.specs.Prelude.{◌≡◌, IfOk, MatchResult, Ok, Err};
+ghost use Rattle.adv_io.specs.Answers.{IsErrOr};
 ghost use Rattle.source_reader.specs.declared.tree.Source.{Source};
 ghost use Rattle.source_reader.specs.Faults.{Fault, fault_answer, Stands};
 ghost use Rattle.source_reader.specs.Plan.{Follows};
-ghost use Rattle.source_reader.specs.Text.{source, lists, source_in, SourceText, TextFault, IsSource, IsErrOrMemory};
+ghost use Rattle.source_reader.specs.Text.{source, lists, source_in, SourceText, TextFault, IsSource};
 ghost use Rattle.source_reader.specs.WellFormed.{WellFormed};
 
 use crate::faults::SourceFault;
@@ -70,7 +71,7 @@ pub fn read_source(alloc: Global, bytes: &[u8]) -> Result<Source, SourceFault>
     ensures exact { (fault : Fault) → result ≡ Err (fault_answer fault)
         → TextFault bytes.now fault }
     ensures expected { (fault : Fault) → TextFault bytes.now fault
-        → IsErrOrMemory result (fault_answer fault) }
+        → IsErrOr SourceFault.Memory result (fault_answer fault) }
 
     // The answer is what the bytes read as, unless memory runs out.
     ensures as_read { MatchResult result (λ tree. source_in bytes.now ≡ Ok tree)
