@@ -4,6 +4,7 @@ ghost use Rattle.scott_types.specs.State.{is_room_of};
 ghost use Rattle.adv_check.specs.Faults.{unless, naming_fault, condition_fault, parameters_fault, is_unused, meant_fault, opcode_fault, exit_fault};
 
 use crate::findings::{Fault, What};
+use scott_types::action_lines::{argument_of, condition_code};
 use scott_types::places::CARRIED;
 use scott_types::{Condition, Db, Opcode, Parameter};
 
@@ -51,8 +52,8 @@ pub fn naming_fault(db: &Db, kind: Parameter, number: u32) -> Option<Fault>
 pub fn condition_fault(db: &Db, packed: u32) -> Option<Fault>
     ensures { result ≡ condition_fault db.now packed }
 {
-    let condition = Condition::of((packed % 20) as u8);
-    naming_fault(db, condition.names(), packed / 20)
+    let condition = Condition::of(condition_code(packed));
+    naming_fault(db, condition.names(), argument_of(packed))
 }
 
 // What is wrong with the first parameter of an opcode that has a fault, of those that are left.

@@ -7,6 +7,7 @@ use crate::references::put_thing;
 use crate::sizes::Sizes;
 use adv_io::Memory;
 use scott_types::Condition;
+use scott_types::action_lines::{argument_of, condition_code};
 use source_reader::condition_word;
 use std::alloc::Global;
 
@@ -16,11 +17,11 @@ fn put_condition(alloc: Global, out: &mut Vec<u8>, sizes: &Sizes, packed: u32) -
     ensures { OnOk result
         (out.new.items ≡ out.old.items ++ text_of (condition sizes.now packed)) }
 {
-    let code = (packed % 20) as u8;
+    let code = condition_code(packed);
     out.push(b' ')?;
     out.extend_from_slice(condition_word(code))?;
     out.push(b' ')?;
-    put_thing(alloc, out, sizes, Condition::of(code).names(), packed / 20)?;
+    put_thing(alloc, out, sizes, Condition::of(code).names(), argument_of(packed))?;
     out.push(b';')?;
     Ok(())
 }

@@ -5,6 +5,7 @@ ghost use Rattle.adv_decompiler.specs.Lines.{head};
 
 use adv_io::Memory;
 use adv_text::put_integer;
+use scott_types::action_lines::{noun_of, verb_of};
 use std::alloc::Global;
 
 /// Writes the head of a vocabulary.
@@ -16,12 +17,12 @@ pub fn put_head(alloc: Global, out: &mut Vec<u8>, vocab: u32) -> Result<(), Memo
         out.extend_from_slice(b"\nalso")?;
         return Ok(());
     }
-    if vocab / 150 == 0 {
+    if verb_of(vocab) == 0 {
         out.extend_from_slice(b"\nauto ")?;
-        return put_integer(alloc, out, vocab % 150);
+        return put_integer(alloc, out, noun_of(vocab));
     }
     out.extend_from_slice(b"\nline ")?;
-    put_integer(alloc, out, vocab / 150)?;
+    put_integer(alloc, out, verb_of(vocab))?;
     out.push(b' ')?;
-    put_integer(alloc, out, vocab % 150)
+    put_integer(alloc, out, noun_of(vocab))
 }

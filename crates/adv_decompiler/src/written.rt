@@ -6,13 +6,14 @@ ghost use Rattle.scott_types.specs.Opcode.{opcode_of, uses};
 ghost use Rattle.adv_decompiler.specs.Written.{is_parameter, tests_first, takes, has_brackets, without_zeros};
 
 use scott_types::Opcode;
+use scott_types::action_lines::{argument_of, condition_code};
 
 /// How many conditions stand before the first parameter.
 pub fn tests_first(conds: &[u32]) -> usize
     ensures value { result ≡ tests_first conds.now }
     ensures within { result ≤ length conds.now }
 {
-    conds.iter().take_while(|c| !(**c % 20 == 0)).count()
+    conds.iter().take_while(|c| !(condition_code(**c) == 0)).count()
 }
 
 // How many parameters the opcode of a number takes.
@@ -35,7 +36,7 @@ fn takes(numbers: &[u32; 4]) -> usize
 fn are_parameters(conds: &[u32]) -> bool
     ensures { result ≡ list_all is_parameter conds.now }
 {
-    conds.iter().all(|c| *c % 20 == 0)
+    conds.iter().all(|c| condition_code(*c) == 0)
 }
 
 fn are_zeros(numbers: &[u32]) -> bool
@@ -70,5 +71,11 @@ pub fn arguments(conds: &[u32; 5]) -> [u32; 5]
     ensures { result ≡ map argument_of conds.now }
 {
     let [first, second, third, fourth, fifth] = *conds;
-    [first / 20, second / 20, third / 20, fourth / 20, fifth / 20]
+    [
+        argument_of(first),
+        argument_of(second),
+        argument_of(third),
+        argument_of(fourth),
+        argument_of(fifth),
+    ]
 }

@@ -5,6 +5,7 @@ ghost use Rattle.scott_types.specs.State.{Fits, place_of};
 ghost use Rattle.scott_rules.specs.Conditions.{start_place, holds};
 ghost use Rattle.scott_rules.specs.Actions.{condition_holds, passes};
 
+use scott_types::action_lines::{argument_of, condition_code};
 use scott_types::{Action, Condition, Db, State};
 
 // Where an item was when the game began: 0 for one that isn't there.
@@ -66,7 +67,7 @@ pub fn holds(db: &Db, state: &State, argument: u32, code: u8) -> bool
 fn condition_holds(db: &Db, state: &State, packed: u32) -> bool
     ensures { result ≡ condition_holds db.now state.now packed }
 {
-    test(db, state, packed / 20, Condition::of((packed % 20) as u8))
+    test(db, state, argument_of(packed), Condition::of(condition_code(packed)))
 }
 
 /// Whether all conditions of a line hold.

@@ -16,6 +16,7 @@ use crate::trying::try_group;
 use adv_counts::Tally;
 use adv_draws::Draws;
 use adv_io::{Console, ConsoleFault};
+use scott_types::action_lines::noun_of;
 use scott_types::verbs::AUTOMATIC;
 use scott_types::{Db, Halt, Ran, State};
 
@@ -35,7 +36,7 @@ fn lets_in(db: &Db, head: u16, draw: u8) -> bool
     ensures { result ≡ nat_le draw (noun_of (action_at db.now head).vocab) }
 {
     let action = &db.actions()[head as usize];
-    u32::from(draw) <= action.vocab % 150
+    u32::from(draw) <= noun_of(action.vocab)
 }
 
 // Tries the group of a head where its draw lets it in, and answers how far the step came.

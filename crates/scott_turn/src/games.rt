@@ -11,6 +11,7 @@ use crate::heads::next_head;
 use adv_io::Memory;
 use indexmap::IndexMap;
 use scott_index::WordIndex;
+use scott_types::action_lines::verb_of;
 use scott_types::{Column, Db, Style};
 use scott_vocab::Vocabulary;
 use std::alloc::Global;
@@ -76,7 +77,7 @@ fn put_first(
     if action.vocab == 0 {
         return Ok(None);
     }
-    let next = firsts.insert(action.vocab / 150, line)?;
+    let next = firsts.insert(verb_of(action.vocab), line)?;
     Ok(next)
 }
 

@@ -3,13 +3,14 @@ ghost use Rattle.std.specs.Prelude.{◌≡◌, [], MatchOption};
 ghost use Rattle.scott_turn.specs.Heads.{groups_for, is_head_of, ComesNext, TailGoesOn};
 ghost use Rattle.scott_turn.specs.Positions.{is_automatic};
 
+use scott_types::action_lines::verb_of;
 use scott_types::{Action, Db};
 
 // Whether a line is a head of a verb.
 fn is_head_of(action: &Action, verb: u16) -> bool
     ensures { result ≡ is_head_of verb action.now }
 {
-    action.vocab != 0 && action.vocab / 150 == u32::from(verb)
+    action.vocab != 0 && verb_of(action.vocab) == u32::from(verb)
 }
 
 /// Whether a line is a head of verb 0, which is tried by itself in each round.

@@ -15,6 +15,7 @@ use crate::games::Game;
 use crate::trying::try_group;
 use adv_counts::Tally;
 use adv_io::{Console, ConsoleFault};
+use scott_types::action_lines::noun_of;
 use scott_types::{Db, Found, Ran, State};
 
 /// A verb, and the noun that goes with it, by their numbers.
@@ -41,7 +42,7 @@ fn is_meant(db: &Db, head: u16, noun: Option<u16>) -> bool
     ensures { result ≡ is_for_noun (noun_of (action_at db.now head).vocab) noun }
 {
     let action = &db.actions()[head as usize];
-    is_for_noun(action.vocab % 150, noun)
+    is_for_noun(noun_of(action.vocab), noun)
 }
 
 // What a group that was tried gives in a search.

@@ -1,9 +1,42 @@
 //! An action line unpacked.
 ghost use Rattle.std.specs.Prelude.{◌≡◌, ◌<◌, slice_index};
-ghost use Rattle.scott_types.specs.Action.{argument_of, condition_code, opcode_numbers, parameters};
+ghost use Rattle.scott_types.specs.Action.{verb_of, noun_of, argument_of, condition_code, opcode_numbers, parameters};
 
 use crate::parts::Action;
 use arrayvec::ArrayVec;
+
+/// The number of the verb of a vocabulary.
+#[inline(always)]
+pub fn verb_of(vocab: u32) -> u32
+    ensures { result ≡ verb_of vocab }
+{
+    vocab / 150
+}
+
+/// The number of the noun of a vocabulary.
+#[inline(always)]
+pub fn noun_of(vocab: u32) -> u32
+    ensures { result ≡ noun_of vocab }
+{
+    vocab % 150
+}
+
+/// The argument of a condition, packed as in the file.
+#[inline(always)]
+pub fn argument_of(condition: u32) -> u32
+    ensures { result ≡ argument_of condition }
+{
+    condition / 20
+}
+
+/// The code of a condition, 0..19.
+#[inline(always)]
+pub fn condition_code(condition: u32) -> u8
+    ensures value { result ≡ condition_code condition }
+    ensures few { result < 20 }
+{
+    (condition % 20) as u8
+}
 
 /// The argument and the code, 0..19, of one of the five conditions.
 pub fn condition(action: &Action, i: usize) -> (u32, u8)
@@ -12,7 +45,7 @@ pub fn condition(action: &Action, i: usize) -> (u32, u8)
     ensures code { result.1 ≡ condition_code (slice_index action.now.conds i) }
 {
     let packed = action.conds[i];
-    (packed / 20, (packed % 20) as u8)
+    (argument_of(packed), condition_code(packed))
 }
 
 /// The number of one of the four opcodes.
@@ -42,8 +75,8 @@ pub fn parameters(action: &Action) -> ArrayVec<u32, 5>
 {
     let mut arguments = ArrayVec::new();
     for packed in &action.conds {
-        if *packed % 20 == 0 {
-            arguments.push(*packed / 20);
+        if condition_code(*packed) == 0 {
+            arguments.push(argument_of(*packed));
         }
     }
     arguments
