@@ -15,15 +15,15 @@ use crate::tables::Tables;
 use crate::texts::text_of;
 use crate::values::{in_range, number_fits, value_of};
 use scott_types::{Item, Room, Text, Word};
-use source_reader::{At, Bytes, ItemPart, MessagePart, Ref, RoomPart, Spot, WordPart};
+use source_reader::{At, ItemPart, MessagePart, Ref, RoomPart, Spot, WordPart};
 use std::alloc::Global;
 
 // That no entry before this one has its name.
-fn named_once(names: &Names, number: u16, name: &Option<At<Bytes>>) -> Result<(), CompileFault>
+fn named_once(names: &Names, number: u16, name: &Option<At<Text>>) -> Result<(), CompileFault>
     ensures { Meets (named_once (found_in names.now) number name.now) result }
 {
     if let Some(name) = name {
-        if let Some(first) = names.find(name.what.as_slice()) {
+        if let Some(first) = names.find(name.what.bytes()) {
             if first < i32::from(number) {
                 return Err(CompileFault::Twice(name.at));
             }

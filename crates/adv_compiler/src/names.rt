@@ -7,7 +7,8 @@ ghost use Rattle.adv_compiler.specs.Known.{has_name, named_from, title_of, colum
 
 use crate::faults::CompileFault;
 use indexmap::IndexMap;
-use source_reader::{At, Bytes, ItemPart, MessagePart, RoomPart, WordPart};
+use scott_types::Text;
+use source_reader::{At, ItemPart, MessagePart, RoomPart, WordPart};
 use std::alloc::Global;
 
 /// By what entries are found.
@@ -32,11 +33,11 @@ pub trait Keyed {
 }
 
 // The name, or none.
-fn title(name: &Option<At<Bytes>>) -> Option<&[u8]>
+fn title(name: &Option<At<Text>>) -> Option<&[u8]>
     ensures { option_copied result ≡ title_of name.now }
 {
     match name {
-        Some(name) => Some(name.what.as_slice()),
+        Some(name) => Some(name.what.bytes()),
         None => None,
     }
 }
@@ -70,8 +71,8 @@ impl Keyed for WordPart {
 
     fn key(&self, key: Key) -> Option<&[u8]> {
         match key {
-            Key::Verb => Some(self.verb.as_slice()),
-            Key::Noun => Some(self.noun.as_slice()),
+            Key::Verb => Some(self.verb.bytes()),
+            Key::Noun => Some(self.noun.bytes()),
             Key::Name => None,
         }
     }

@@ -4,13 +4,12 @@ ghost use Rattle.adv_compiler.specs.Faults.{Meets};
 
 use crate::faults::CompileFault;
 use scott_types::Text;
-use source_reader::Bytes;
 use std::alloc::Global;
 
-/// The text with these bytes.
-pub fn text_of(alloc: Global, bytes: &Bytes) -> Result<Text, CompileFault>
-    ensures { Meets (Ok bytes.now) result }
+/// A copy of a text.
+pub fn text_of(alloc: Global, text: &Text) -> Result<Text, CompileFault>
+    ensures { Meets (Ok text.now) result }
 {
-    let copied = Vec::from_slice(alloc, bytes.as_slice())?;
+    let copied = Vec::from_slice(alloc, text.bytes())?;
     Ok(Text::of(copied))
 }

@@ -24,7 +24,7 @@ pub fn value_of(names: &Names, at: usize, what: &Ref) -> Result<i32, CompileFaul
 {
     match what {
         Ref::Number(number) => Ok(*number),
-        Ref::Name(name) => match names.find(name.as_slice()) {
+        Ref::Name(name) => match names.find(name.bytes()) {
             Some(number) => Ok(number),
             None => Err(CompileFault::Unnamed(at)),
         },
@@ -37,7 +37,7 @@ pub fn thing_of(tables: &Tables, at: usize, what: &Ref) -> Result<i32, CompileFa
 {
     match what {
         Ref::Number(number) => Ok(*number),
-        Ref::Name(name) => match tables.items.find(name.as_slice()) {
+        Ref::Name(name) => match tables.items.find(name.bytes()) {
             Some(number) => Ok(number),
             None => value_of(&tables.rooms, at, what),
         },
@@ -50,7 +50,7 @@ pub fn vocab_of(names: &Names, at: usize, what: &Vocab) -> Result<i32, CompileFa
 {
     match what {
         Vocab::Number(number) => Ok(*number),
-        Vocab::Exact(text) => match names.find(text.as_slice()) {
+        Vocab::Exact(text) => match names.find(text.bytes()) {
             Some(number) => Ok(number),
             None => Err(CompileFault::Unnamed(at)),
         },

@@ -1,9 +1,9 @@
-//! A text of the database.
+//! A text of a database, or of its source.
 ghost use Rattle.std.specs.Prelude.{◌≡◌};
 
 use std::marker::Model;
 
-/// A text of the database, a byte string.
+/// A byte string: a text of a database, or a text, a word or a name of its source.
 ///
 /// A clause sees the list of its bytes.
 #[derive(Drop)]

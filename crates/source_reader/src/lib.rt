@@ -2,7 +2,6 @@
 //! reached.
 #![tactic(auto)]
 
-mod bytes;
 mod conditions;
 mod entries;
 mod fault_texts;
@@ -22,7 +21,6 @@ mod token_laws;
 mod tokens;
 mod tree;
 
-pub use bytes::Bytes;
 pub use faults::SourceFault;
 pub use names::{condition_word, opcode_word};
 pub use reading::read_source;

@@ -2,13 +2,13 @@
 ghost use Rattle.source_reader.specs.Plan.{Follows};
 ghost use Rattle.source_reader.specs.Entries.{command_head, automatic_head, line_head, comment, line_part};
 
-use crate::bytes::Bytes;
 use crate::faults::SourceFault;
 use crate::lists::{Piece, braced};
 use crate::singles::{any_token, is_word, number, symbol, vocab_word};
 use crate::tokens::Token;
 use crate::tree::{At, Cond, Entries, Head, LinePart, Op};
 use adv_text::Scan;
+use scott_types::Text;
 use std::alloc::Global;
 
 // Reads the verb and the noun of a line for a command.
@@ -49,7 +49,7 @@ fn line_head(alloc: Global, scan: &mut Scan, at: usize, first: &Token) -> Result
 
 // Reads a comment or none, and what ends the line.
 #[tactic(auto, using(crate::proofs::Plans::sections), unfolding(crate::specs::Entries::comment))]
-fn comment(alloc: Global, scan: &mut Scan) -> Result<Bytes, SourceFault>
+fn comment(alloc: Global, scan: &mut Scan) -> Result<Text, SourceFault>
     ensures { Follows comment scan.old result scan.new }
 {
     let At { at, what } = any_token(alloc, scan)?;
@@ -58,7 +58,7 @@ fn comment(alloc: Global, scan: &mut Scan) -> Result<Bytes, SourceFault>
             symbol(alloc, scan, b';')?;
             Ok(text)
         }
-        Token::Mark(b';') => Ok(Bytes::of(Vec::new(alloc))),
+        Token::Mark(b';') => Ok(Text::of(Vec::new(alloc))),
         _ => Err(SourceFault::Unexpected(at)),
     }
 }

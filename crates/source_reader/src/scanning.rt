@@ -4,11 +4,11 @@ ghost use Rattle.source_reader.specs.Faults.{Reads};
 ghost use Rattle.source_reader.specs.Tokens.{gap, past_gap, is_word_byte, word_size, begins_number, number_token, quoted_token, word_token, token_at};
 ghost use Rattle.adv_text.specs.Reading.{number_at, quoted_at};
 
-use crate::bytes::Bytes;
 use crate::faults::SourceFault;
 use crate::tokens::{Token, WORD_LIMIT, Word};
 use adv_io::is_whitespace;
 use adv_text::{Scan, TextFault};
+use scott_types::Text;
 use std::alloc::Global;
 
 // How many bytes of whitespace and comments stand first.
@@ -70,7 +70,7 @@ fn quoted(alloc: Global, scan: &mut Scan) -> Result<Token, SourceFault>
 {
     let at = scan.at();
     match scan.quoted(alloc) {
-        Ok(text) => Ok(Token::Quoted(Bytes::of(text))),
+        Ok(text) => Ok(Token::Quoted(Text::of(text))),
         Err(TextFault::LongString(_)) => Err(SourceFault::LongString(at)),
         Err(TextFault::Memory) => Err(SourceFault::Memory),
         Err(_) => Err(SourceFault::OpenString(at)),

@@ -3,13 +3,13 @@ ghost use Rattle.std.specs.Prelude.{◌≡◌};
 ghost use Rattle.source_reader.specs.Plan.{Follows};
 ghost use Rattle.source_reader.specs.Singles.{is_mark, is_word, is_end, is_end_mark, any_token, symbol, key, end_of_text, number, string, reference, item_place, vocab_word};
 
-use crate::bytes::Bytes;
 use crate::faults::SourceFault;
 use crate::names::is_name;
 use crate::scanning::{pass_gap, token};
 use crate::tokens::Token;
 use crate::tree::{At, Ref, Spot, Vocab};
 use adv_text::Scan;
+use scott_types::Text;
 use std::alloc::Global;
 
 /// Reads any token.
@@ -105,7 +105,7 @@ pub fn number(alloc: Global, scan: &mut Scan) -> Result<At<i32>, SourceFault>
 
 /// Reads a string.
 #[tactic(auto, using(crate::proofs::Plans::sections), unfolding(crate::specs::Singles::string))]
-pub fn string(alloc: Global, scan: &mut Scan) -> Result<Bytes, SourceFault>
+pub fn string(alloc: Global, scan: &mut Scan) -> Result<Text, SourceFault>
     ensures { Follows string scan.old result scan.new }
 {
     let At { at, what } = any_token(alloc, scan)?;

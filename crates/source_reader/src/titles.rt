@@ -2,20 +2,20 @@
 ghost use Rattle.source_reader.specs.Plan.{Follows};
 ghost use Rattle.source_reader.specs.Entries.{titled};
 
-use crate::bytes::Bytes;
 use crate::faults::SourceFault;
 use crate::names::is_name;
 use crate::singles::{any_token, string};
 use crate::tokens::Token;
 use crate::tree::At;
 use adv_text::Scan;
+use scott_types::Text;
 use std::alloc::Global;
 
 /// A name or none, and a text.
 #[derive(Drop)]
 pub struct Title {
-    pub name: Option<At<Bytes>>,
-    pub text: Bytes,
+    pub name: Option<At<Text>>,
+    pub text: Text,
 }
 
 /// Reads a name or none, and a string.

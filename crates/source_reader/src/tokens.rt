@@ -1,8 +1,8 @@
 //! The tokens of a source.
 ghost use Rattle.std.specs.Prelude.{◌≡◌, ◌≤◌, IfOk, length};
 
-use crate::bytes::Bytes;
 use arrayvec::ArrayVec;
+use scott_types::Text;
 use std::alloc::{AllocError, Global};
 use std::marker::Model;
 
@@ -44,10 +44,10 @@ impl Word {
     }
 
     /// The word as a byte string.
-    pub fn into_bytes(self, alloc: Global) -> Result<Bytes, AllocError>
+    pub fn into_bytes(self, alloc: Global) -> Result<Text, AllocError>
         ensures { IfOk result (λ bytes. bytes ≡ self) }
     {
-        Ok(Bytes::of(Vec::from_slice(alloc, self.as_slice())?))
+        Ok(Text::of(Vec::from_slice(alloc, self.as_slice())?))
     }
 }
 
@@ -56,7 +56,7 @@ impl Word {
 pub enum Token {
     Number(i32),
     /// A string between quotes.
-    Quoted(Bytes),
+    Quoted(Text),
     /// A name or a word of the language.
     Word(Word),
     /// Any other byte.

@@ -1,6 +1,6 @@
 //! The tree of a source. docs/SOURCE.md says what each part means.
-use crate::bytes::Bytes;
 use crate::sequences::Seq;
+use scott_types::Text;
 
 /// What stands at a place, counted in bytes from the beginning of the text.
 #[derive(Drop)]
@@ -20,7 +20,7 @@ pub struct Entries<T> {
 /// An entry of a list: its number, or its name.
 pub enum Ref {
     Number(i32),
-    Name(Bytes),
+    Name(Text),
 }
 
 impl Drop for Ref {
@@ -52,7 +52,7 @@ impl Drop for Spot {
 /// A verb or a noun of a line: its number, or the text that an entry of the vocabulary has.
 pub enum Vocab {
     Number(i32),
-    Exact(Bytes),
+    Exact(Text),
 }
 
 impl Drop for Vocab {
@@ -118,14 +118,14 @@ impl Drop for Op {
 /// An entry of the vocabulary.
 #[derive(Drop)]
 pub struct WordPart {
-    pub verb: Bytes,
-    pub noun: Bytes,
+    pub verb: Text,
+    pub noun: Text,
 }
 
 /// A room, with its exits north, south, east, west, up and down.
 pub struct RoomPart {
-    pub name: Option<At<Bytes>>,
-    pub text: Bytes,
+    pub name: Option<At<Text>>,
+    pub text: Text,
     pub exits: [At<Ref>; 6],
 }
 
@@ -142,14 +142,14 @@ impl Drop for RoomPart {
 /// A message.
 #[derive(Drop)]
 pub struct MessagePart {
-    pub name: Option<At<Bytes>>,
-    pub text: Bytes,
+    pub name: Option<At<Text>>,
+    pub text: Text,
 }
 
 /// An item, with the place where it is when a game begins.
 pub struct ItemPart {
-    pub name: Option<At<Bytes>>,
-    pub text: Bytes,
+    pub name: Option<At<Text>>,
+    pub text: Text,
     pub place: At<Spot>,
 }
 
@@ -168,7 +168,7 @@ pub struct LinePart {
     pub head: Head,
     pub conds: Seq<At<Cond>>,
     pub ops: Seq<At<Op>>,
-    pub comment: Bytes,
+    pub comment: Text,
 }
 
 impl Drop for LinePart {
