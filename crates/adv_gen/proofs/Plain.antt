@@ -195,7 +195,7 @@ command-plain VerbAndItem size g some few =
     (is_plain-append 5 1 chosen (codes " ") (verb-plain_text (3 + pick g 0 7) low) refl)
     (thing_noun-plain size (pick g 1 (2 * size)) few))
 
--- what is typed is in small letters
+-- what is typed is in lower case
 pub typed_command : (form : Form) (size : ℕ) (g : Lcg) (text : List ℕ) → 8 ≤ size → size ≤ 120
     → text ≡ command form size g
     → map line_byte (take 120 text) ≡ map to_ascii_lowercase (command form size g)

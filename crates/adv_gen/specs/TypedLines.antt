@@ -28,7 +28,7 @@ command_picks GetItem = 1
 command_picks DropAll = 0
 command_picks VerbAndItem = 2
 
--- in small letters
+-- in lower case
 abbrev pub typed_line : ℕ → ℕ → Lcg → List ℕ
 typed_line size j generator = map to_ascii_lowercase (command (form_of j) size generator)
 

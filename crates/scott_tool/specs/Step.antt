@@ -31,7 +31,7 @@ abbrev pub routine_meant : Option Meaning → Option ℕ
 routine_meant None = None
 routine_meant (Some m) = if is_routine m.kind then Some m.at else None
 
--- at what a run of a program pauses, if it has the routine; names are compared in small letters
+-- at what a run of a program pauses, if it has the routine; names are compared in lower case
 abbrev pub pausing_in : Width → List DirectiveTree → Pause → Option Pausing
 pausing_in width p (entering name) =
     option_map At (routine_meant (meanings width p (map to_ascii_lowercase name)))

@@ -207,7 +207,7 @@ fn routine_meant(meaning: Option<Meaning>) -> Option<usize>
     }
 }
 
-// The number of the directive that is the routine of this name, in small letters, if there is one.
+// The number of the directive that is the routine of this name, in lower case, if there is one.
 fn routine_at(alloc: Global, accepted: &Accepted, name: &str) -> Result<Option<usize>, Memory>
     ensures { IfOk result (λ at. at
         ≡ routine_meant (names_of accepted.now (map to_ascii_lowercase name.now))) }
