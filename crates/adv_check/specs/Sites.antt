@@ -26,8 +26,8 @@ abbrev pub each_from : {X : Type 0} → ℕ → (ℕ → X → List Site) → Li
 each_from first of xs = flat_map (λ pair. of pair.0 pair.1) (enumerate_from first xs)
 
 -- the places of one part in an entry, from 1 on
-abbrev pub row : Part → ℕ → List (Option Fault) → List Site
-row part index faults =
+abbrev pub part_sites : Part → ℕ → List (Option Fault) → List Site
+part_sites part index faults =
     each_from 1
     (λ place fault. record { part = part; index = index; place = place; fault = fault } ∷ [])
     faults
@@ -35,12 +35,12 @@ row part index faults =
 -- a line's five conditions and four opcodes
 abbrev pub action_sites : Database → ℕ → Action → List Site
 action_sites db line a =
-    row Condition line (map (condition_fault db) a.conds)
-    ++ row Opcode line (opcode_faults db (opcode_numbers a) (parameters a))
+    part_sites Condition line (map (condition_fault db) a.conds)
+    ++ part_sites Opcode line (opcode_faults db (opcode_numbers a) (parameters a))
 
 -- a room's six exits
 abbrev pub room_sites : Database → ℕ → Room → List Site
-room_sites db room r = row Exit room (map (exit_fault db) r.exits)
+room_sites db room r = part_sites Exit room (map (exit_fault db) r.exits)
 
 -- where an item starts
 abbrev pub item_sites : Database → ℕ → Item → List Site

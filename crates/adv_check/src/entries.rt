@@ -8,7 +8,7 @@ ghost use Rattle.adv_check.specs.Sites.{Site, action_sites, room_sites, item_sit
 
 use crate::faults::{condition_fault, exit_fault, naming_fault, opcode_fault};
 use crate::findings::{Fault, Part, Warning};
-use crate::rows::{add, add_row};
+use crate::adding::{add, add_part};
 use adv_io::Memory;
 use arrayvec::ArrayVec;
 use scott_types::action_lines::{opcode_numbers, parameters};
@@ -88,14 +88,14 @@ impl Warned for Action {
         index: u16,
         found: &mut Vec<Warning>,
     ) -> Result<(), Memory> {
-        add_row(
+        add_part(
             alloc,
             found,
             Part::Condition,
             index,
             &condition_faults(db, self),
         )?;
-        add_row(alloc, found, Part::Opcode, index, &opcode_faults(db, self))?;
+        add_part(alloc, found, Part::Opcode, index, &opcode_faults(db, self))?;
         Ok(())
     }
 }
@@ -110,7 +110,7 @@ impl Warned for Room {
         index: u16,
         found: &mut Vec<Warning>,
     ) -> Result<(), Memory> {
-        add_row(
+        add_part(
             alloc,
             found,
             Part::Exit,

@@ -8,7 +8,7 @@ pub mod findings;
 // What is wrong with one number, and with each entry of the lists.
 mod entries;
 mod faults;
-mod rows;
+mod adding;
 
 // All warnings, and the text of the report.
 mod reporting;

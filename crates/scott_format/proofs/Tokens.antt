@@ -20,23 +20,23 @@ pub data Feeds (X : Type 0) : Plan X → List Token → Plan X → Type 0 where
   one_perhaps : {z : ℤ} {next : Option ℤ → Plan X} {q : Plan X} {ts : List Token} → Fits32 z → Feeds X (next (Some z)) ts q → Feeds X (perhaps next) (num z ∷ ts) q
 
 -- each token after a byte of whitespace, but the first after a lead, and byte 10
-abbrev row : List ℕ → List Token → List ℕ → List ℕ
-row lead [] rest = 10 ∷ rest
-row lead (t ∷ ts) rest = lead ++ (token_text t ++ row (32 ∷ []) ts rest)
+abbrev tokens_text : List ℕ → List Token → List ℕ → List ℕ
+tokens_text lead [] rest = 10 ∷ rest
+tokens_text lead (t ∷ ts) rest = lead ++ (token_text t ++ tokens_text (32 ∷ []) ts rest)
 
-row-line : (lead : List ℕ) (t : Token) (ts : List Token) (rest : List ℕ) → row lead (t ∷ ts) rest ≡ lead ++ (line_text (t ∷ ts) ++ rest)
-row-line lead t [] rest = ap (λ (x : List ℕ). lead ++ x) (sym (append_assoc (token_text t) (10 ∷ []) rest))
-row-line lead t (u ∷ ts) rest =
+tokens_text-line : (lead : List ℕ) (t : Token) (ts : List Token) (rest : List ℕ) → tokens_text lead (t ∷ ts) rest ≡ lead ++ (line_text (t ∷ ts) ++ rest)
+tokens_text-line lead t [] rest = ap (λ (x : List ℕ). lead ++ x) (sym (append_assoc (token_text t) (10 ∷ []) rest))
+tokens_text-line lead t (u ∷ ts) rest =
     ap (λ (x : List ℕ). lead ++ x)
-    (ap (λ (x : List ℕ). token_text t ++ x) (row-line (32 ∷ []) u ts rest) ∙ sym (append_assoc (token_text t) (32 ∷ line_text (u ∷ ts)) rest))
+    (ap (λ (x : List ℕ). token_text t ++ x) (tokens_text-line (32 ∷ []) u ts rest) ∙ sym (append_assoc (token_text t) (32 ∷ line_text (u ∷ ts)) rest))
 
-NoDigit-row : (ts : List Token) (rest : List ℕ) → NoDigit (row (32 ∷ []) ts rest)
-NoDigit-row [] rest = refl
-NoDigit-row (t ∷ ts) rest = refl
+NoDigit-tokens : (ts : List Token) (rest : List ℕ) → NoDigit (tokens_text (32 ∷ []) ts rest)
+NoDigit-tokens [] rest = refl
+NoDigit-tokens (t ∷ ts) rest = refl
 
-NoQuote-row : (ts : List Token) (rest : List ℕ) → NoQuote (row (32 ∷ []) ts rest)
-NoQuote-row [] rest = refl
-NoQuote-row (t ∷ ts) rest = refl
+NoQuote-tokens : (ts : List Token) (rest : List ℕ) → NoQuote (tokens_text (32 ∷ []) ts rest)
+NoQuote-tokens [] rest = refl
+NoQuote-tokens (t ∷ ts) rest = refl
 
 -- at most one space
 pub data Lead : List ℕ → Type 0 where
@@ -48,36 +48,36 @@ after_lead P none bytes h = h
 after_lead P (one e) bytes h = (suc h.0, space e h.1)
 
 module _ (laws : TextLaws) where
-  -- a plan that is fed with tokens spells their row
-  row_spelled : {X : Type 0} {p q : Plan X} {ts : List Token} (x : X) (lead rest end : List ℕ) → Feeds X p ts q → Lead lead
-      → Spelled q x (10 ∷ rest) end → Spelled p x (row lead ts rest) end
-  row_spelled x lead rest end fed at h = h
-  row_spelled x lead rest end (checked e f) at h = (e, row_spelled x lead rest end f at h)
-  row_spelled x lead rest end (a_number {z = z} {ts = ts} fits f) at h =
-      let remaining = row (32 ∷ []) ts rest in (
+  -- a plan that is fed with tokens spells their text
+  tokens_spelled : {X : Type 0} {p q : Plan X} {ts : List Token} (x : X) (lead rest end : List ℕ) → Feeds X p ts q → Lead lead
+      → Spelled q x (10 ∷ rest) end → Spelled p x (tokens_text lead ts rest) end
+  tokens_spelled x lead rest end fed at h = h
+  tokens_spelled x lead rest end (checked e f) at h = (e, tokens_spelled x lead rest end f at h)
+  tokens_spelled x lead rest end (a_number {z = z} {ts = ts} fits f) at h =
+      let remaining = tokens_text (32 ∷ []) ts rest in (
         z,
         remaining,
-        after_lead _ at (number_text z ++ remaining) (laws.written_number_is_spelled z remaining fits (NoDigit-row ts rest)),
-        row_spelled x (32 ∷ []) rest end f (one refl) h,
+        after_lead _ at (number_text z ++ remaining) (laws.written_number_is_spelled z remaining fits (NoDigit-tokens ts rest)),
+        tokens_spelled x (32 ∷ []) rest end f (one refl) h,
       )
-  row_spelled x lead rest end (a_string {t = t} {ts = ts} fits f) at h =
-      let remaining = row (32 ∷ []) ts rest in (
+  tokens_spelled x lead rest end (a_string {t = t} {ts = ts} fits f) at h =
+      let remaining = tokens_text (32 ∷ []) ts rest in (
         t,
         remaining,
-        after_lead _ at (quoted_text t ++ remaining) (laws.written_string_is_spelled t remaining fits (NoQuote-row ts rest)),
-        row_spelled x (32 ∷ []) rest end f (one refl) h,
+        after_lead _ at (quoted_text t ++ remaining) (laws.written_string_is_spelled t remaining fits (NoQuote-tokens ts rest)),
+        tokens_spelled x (32 ∷ []) rest end f (one refl) h,
       )
-  row_spelled x lead rest end (one_perhaps {z = z} {ts = ts} fits f) at h =
-      let remaining = row (32 ∷ []) ts rest in
+  tokens_spelled x lead rest end (one_perhaps {z = z} {ts = ts} fits f) at h =
+      let remaining = tokens_text (32 ∷ []) ts rest in
       inl (
         z,
         remaining,
-        after_lead _ at (number_text z ++ remaining) (laws.written_number_is_spelled z remaining fits (NoDigit-row ts rest)),
-        row_spelled x (32 ∷ []) rest end f (one refl) h,
+        after_lead _ at (number_text z ++ remaining) (laws.written_number_is_spelled z remaining fits (NoDigit-tokens ts rest)),
+        tokens_spelled x (32 ∷ []) rest end f (one refl) h,
       )
 
   -- the same of a line
   pub line_spelled : {X : Type 0} (p q : Plan X) (t : Token) (ts : List Token) (x : X) (lead rest end : List ℕ) → Feeds X p (t ∷ ts) q → Lead lead
       → Spelled q x (10 ∷ rest) end → Spelled p x (lead ++ (line_text (t ∷ ts) ++ rest)) end
   line_spelled p q t ts x lead rest end f at h =
-      subst (λ (b : List ℕ). Spelled p x b end) (row-line lead t ts rest) (row_spelled x lead rest end f at h)
+      subst (λ (b : List ℕ). Spelled p x b end) (tokens_text-line lead t ts rest) (tokens_spelled x lead rest end f at h)

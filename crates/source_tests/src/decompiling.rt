@@ -112,8 +112,8 @@ fn a_plain_text_is_written_again(rt: HostRuntime) {
 }
 
 // Expects that each line is written as the second one.
-fn expect_written<R: Abort + AllocGlobal>(rt: &R, rows: &[(&[u8], &[u8])]) {
-    for (line, plain) in rows {
+fn expect_written<R: Abort + AllocGlobal>(rt: &R, cases: &[(&[u8], &[u8])]) {
+    for (line, plain) in cases {
         let text = [FRONT, line, BACK].concat(rt.alloc()).expect(rt, "memory");
         let expected = [PLAIN_FRONT, plain, PLAIN_BACK].concat(rt.alloc());
         expect!(rt; plain_of(rt, &text) == expected.expect(rt, "memory"));

@@ -1,6 +1,6 @@
 //! The warnings of places one after the other.
 ghost use Rattle.std.specs.Prelude.{◌≡◌, ◌≤◌, ◌++◌, [], ◌∷◌, OnOk, length};
-ghost use Rattle.adv_check.specs.Sites.{Site, row, warnings_of};
+ghost use Rattle.adv_check.specs.Sites.{Site, part_sites, warnings_of};
 
 use crate::findings::{Fault, Part, Warning};
 use adv_io::Memory;
@@ -32,7 +32,7 @@ pub fn add(
 
 /// Adds the warnings of one part of an entry at the end: the faults are those at its places, from 1
 /// on.
-pub fn add_row(
+pub fn add_part(
     alloc: Global,
     found: &mut Vec<Warning>,
     part: Part,
@@ -41,7 +41,7 @@ pub fn add_row(
 ) -> Result<(), Memory>
     requires { length faults.now ≤ 6 }
     ensures { OnOk result (found.new.items ≡ found.old.items
-        ++ warnings_of (row part index faults.now)) }
+        ++ warnings_of (part_sites part index faults.now)) }
 {
     for (i, fault) in faults.iter().enumerate() {
         add(alloc, found, part, index, (i + 1) as u8, *fault)?;

@@ -1,6 +1,6 @@
 use Rattle.std.proofs.Common.{◌+◌, [], ◌∷◌, None, arith, refl}
 use Rattle.adv_check.proofs.Joined.{one_more}
-use Rattle.adv_check.proofs.rows.add_row.Goals as goal
+use Rattle.adv_check.proofs.adding.add_part.Goals as goal
 
 pub loop-i-preserved : goal.loop-i-preserved
 loop-i-preserved c =
