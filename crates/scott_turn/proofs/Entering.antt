@@ -1,6 +1,7 @@
 -- The turn of one automatic group, by whether a draw is left.
 use Rattle.std.specs.Prelude.{nat_le}
-use Rattle.std.proofs.Common.{◌≡◌, ◌∙◌, ℕ, ◌+◌, Bool, true, false, List, [], ◌∷◌, length, Result, Ok, OnOk, IfOk, refl, sym, ap, subst, arith}
+use Rattle.std.proofs.Common.{◌≡◌, ◌∙◌, ℕ, ◌+◌, Bool, true, false, List, [], ◌∷◌, length, Result, Ok, OnOk, refl, sym, ap, subst, arith}
+use Rattle.std.proofs.lemmas.Result.{IfOk-weaker}
 use Rattle.adv_draws.specs.Supply.{Supply, supplied}
 use Rattle.adv_io.specs.Console.{ConsoleView, Speaks}
 use Rattle.adv_io.specs.Steps.{Drew, Step, Traced, after, shown_of, traced}
@@ -13,6 +14,7 @@ use Rattle.scott_types.specs.Style.{Game}
 use Rattle.scott_types.specs.Action.{noun_of}
 use Rattle.scott_rules.specs.Groups.{Group, AutoOutcome}
 use Rattle.scott_turn.specs.Tried.{tallied}
+use Rattle.scott_turn.specs.Done.{Does}
 use Rattle.scott_turn.specs.Turns.{entered, auto_turn}
 
 -- the draws that are left change nothing but themselves
@@ -31,17 +33,14 @@ module _ (game : Game) (g : Group) (s : State) (draws rest : List ℕ) (draw : �
       ≡ (let t = entered (nat_le draw (noun_of g.vocab)) game g s [] in traced (Drew draw ∷ t.events) (record { state = t.value.state; draws = rest; halt = t.value.halt }))
   whole = turn ∙ ap (after (Drew draw ∷ [])) (entered-draws (nat_le draw (noun_of g.vocab)) game g s rest)
 
-  pub turn_says : {old new : ConsoleView} {r : Result Halt ConsoleFault} → Speaks old new r (shown_of (entered (nat_le draw (noun_of g.vocab)) game g s []).events) → Speaks old new r (shown_of (auto_turn game g s draws).events)
-  turn_says {old = old} {new = new} {r = r} says = subst (λ (t : Traced Step AutoOutcome). Speaks old new r (shown_of t.events)) (sym whole) says
-
-  pub turn_tries : {T E : Type 0} (r : Result T E) (old new : List ℕ) → OnOk r (new ≡ tallied (entered (nat_le draw (noun_of g.vocab)) game g s []).events old) → OnOk r (new ≡ tallied (auto_turn game g s draws).events old)
-  turn_tries r old new tried = subst (λ (t : Traced Step AutoOutcome). OnOk r (new ≡ tallied t.events old)) (sym whole) tried
-
-  pub turn_state : (r : Result Halt ConsoleFault) (now : State) → OnOk r (now ≡ (entered (nat_le draw (noun_of g.vocab)) game g s []).value.state) → OnOk r (now ≡ (auto_turn game g s draws).value.state)
-  turn_state r now leaves = subst (λ (t : Traced Step AutoOutcome). OnOk r (now ≡ t.value.state)) (sym whole) leaves
-
-  pub turn_halt : (r : Result Halt ConsoleFault) → IfOk r (λ halt. halt ≡ (entered (nat_le draw (noun_of g.vocab)) game g s []).value.halt) → IfOk r (λ halt. halt ≡ (auto_turn game g s draws).value.halt)
-  turn_halt r halts = subst (λ (t : Traced Step AutoOutcome). IfOk r (λ halt. halt ≡ t.value.halt)) (sym whole) halts
+  pub turn_does : {old new : ConsoleView} (r : Result Halt ConsoleFault) (now : State) (old_counts new_counts : List ℕ)
+      → Does old new r (entered (nat_le draw (noun_of g.vocab)) game g s []) (λ halt. record { state = now; draws = []; halt = halt }) old_counts new_counts
+      → Does old new r (auto_turn game g s draws) (λ halt. record { state = now; draws = rest; halt = halt }) old_counts new_counts
+  turn_does {old = old} {new = new} r now old_counts new_counts does = record {
+    spoken = subst (λ (t : Traced Step AutoOutcome). Speaks old new r (shown_of t.events)) (sym whole) does.spoken;
+    tried = subst (λ (t : Traced Step AutoOutcome). OnOk r (new_counts ≡ tallied t.events old_counts)) (sym whole) does.tried;
+    left = IfOk-weaker r _ _ (λ halt is. ap (λ t. t.value) whole ∙ rw is refl) does.left;
+  }
 
   pub turn_draws : rest ≡ (auto_turn game g s draws).value.draws
   turn_draws = ap (λ t. t.value.draws) (sym whole)

@@ -1,5 +1,5 @@
 -- A group, part by part.
-use Rattle.std.proofs.Common.{◌≡◌, ◌∙◌, ℕ, ◌+◌, List, [], ◌∷◌, ◌++◌, true, false, Option, refl, sym, ap}
+use Rattle.std.proofs.Common.{◌≡◌, ◌∙◌, ℕ, ◌+◌, List, [], ◌∷◌, ◌++◌, true, false, Option, Result, Ok, Err, OnOk, IfOk, refl, sym, ap}
 use Rattle.std.specs.Prelude.{is_some}
 use Rattle.std.proofs.lemmas.List.{append-nil}
 use Rattle.scott_types.specs.declared.states.State.{State}
@@ -59,3 +59,10 @@ after_head-prefix (Over ending) game noun g t = sym (append-nil t.events)
 pub group-prefix : (game : Game) (noun : List ℕ) (g : Group) (s : State)
     → (group_tried game noun g s).events ≡ (try_action game noun g.head s).events ++ tail_steps (try_action game noun g.head s).value.ran game noun g (try_action game noun g.head s)
 group-prefix game noun g s = let t = try_action game noun g.head s in after_head-prefix t.value.ran game noun g t
+
+-- ---- an outcome, of the state that is left and of what was answered
+
+pub ran_left : {E : Type 0} (r : Result Ran E) (o : ActionOutcome) (s : State) → OnOk r (s ≡ o.state) → IfOk r (λ ran. ran ≡ o.ran)
+    → IfOk r (λ ran. o ≡ record { state = s; ran = ran })
+ran_left (Ok ran) o s state is = rw (state, is) refl
+ran_left (Err fault) o s state is = tt

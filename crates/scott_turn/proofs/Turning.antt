@@ -116,10 +116,6 @@ module _ (game : Game) (line head : ℕ) (s : State) (draws : List ℕ) (comes :
       let t = auto_turn game (group_at game.db head) s draws in
       ap (λ w. w.events) automatic-turn ∙ by_halt-prefix t.value.halt t (automatic game (groups_for game.db 0 (head + 1)))
 
--- after the last group nothing is left
-pub automatic-none : (game : Game) (line : ℕ) (s : State) (draws : List ℕ) → groups_for game.db 0 line ≡ [] → automatic game (groups_for game.db 0 line) s draws ≡ traced [] (record { state = s; draws = draws; halt = Through })
-automatic-none game line s draws none = ap (λ gs. automatic game gs s draws) none
-
 -- ---- the search walks over the groups of its verb alone
 
 search_group-for : (has : Bool) (game : Game) (typed : List ℕ) (verb : ℕ) (noun : Option ℕ) (g : Group) (gs hs : List Group) → has_verb verb g ≡ has

@@ -1,5 +1,5 @@
 -- What a walk says, and what it leaves.
-use Rattle.std.proofs.Common.{◌≡◌, ◌∙◌, ℕ, ◌-◌, Bool, true, false, cond, List, [], ◌++◌, length, Some, None, Result, refl, sym, ap}
+use Rattle.std.proofs.Common.{◌≡◌, ◌∙◌, ℕ, ◌-◌, Bool, true, false, cond, List, [], ◌++◌, length, Option, Some, None, Result, refl, sym, ap}
 use Rattle.std.proofs.lemmas.List.{map-append}
 use Rattle.std.specs.Prelude.{◌==◌, ◌&&◌}
 use Rattle.adv_io.specs.History.{says}
@@ -15,7 +15,7 @@ use Rattle.scott_types.specs.State.{is_dark}
 use Rattle.adv_io.specs.Steps.{Said, said_steps, shown_of, traced_text}
 use Rattle.scott_rules.specs.Outcomes.{goes_on}
 use Rattle.scott_rules.specs.Opcodes.{by_fall}
-use Rattle.scott_rules.specs.Rounds.{no_way, moved_to, walk_result}
+use Rattle.scott_rules.specs.Rounds.{no_way, moved_to, way, walk_result}
 use Rattle.scott_turn.specs.Ways.{way_text, way_over}
 use Rattle.scott_turn.proofs.Showing.{shown_said}
 
@@ -45,9 +45,15 @@ walk_result-shown_of game noun s room dark is_room is_dark_now =
     ∙ rw (is_room, is_dark_now) refl
 
 -- how a walk ends
-pub walk_result-over : (game : Game) (noun : ℕ) (s : State) (room : ℕ) (dark : Bool) → room ≡ beyond_exit game.db noun s → dark ≡ is_dark s → (walk_result game noun s).value.over ≡ way_over dark room
+walk_result-over : (game : Game) (noun : ℕ) (s : State) (room : ℕ) (dark : Bool) → room ≡ beyond_exit game.db noun s → dark ≡ is_dark s → (walk_result game noun s).value.over ≡ way_over dark room
 walk_result-over game noun s room dark is_room is_dark_now =
     way-over game.style (beyond_exit game.db noun s == 0) (is_dark s) (beyond_exit game.db noun s) s ∙ rw (is_room, is_dark_now) refl
+
+-- what a walk leaves, and how it ends
+pub walk_left : (game : Game) (noun : ℕ) (s : State) (room : ℕ) (dark : Bool) (new : State) (over : Option ℕ) → room ≡ beyond_exit game.db noun s → dark ≡ is_dark s
+    → new ≡ (way game.style room s).value.state → over ≡ way_over dark room → (walk_result game noun s).value ≡ record { state = new; over = over }
+walk_left game noun s room dark new over is_room is_dark_now state ends =
+    rw (state, ends, ← walk_result-over game noun s room dark is_room is_dark_now, is_room) refl
 
 -- what said the warning and the text of the way has told the walk
 pub walk_as_rules : {T E : Type 0} {old new : ConsoleView} {r : Result T E} (game : Game) (noun : ℕ) (s : State) (room : ℕ) (dark : Bool) (text : List ℕ) → room ≡ beyond_exit game.db noun s → dark ≡ is_dark s

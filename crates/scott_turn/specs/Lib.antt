@@ -6,4 +6,5 @@ pub mod Ways
 pub mod Rounds
 pub mod Fed
 pub mod Tried
+pub mod Done
 pub mod Played

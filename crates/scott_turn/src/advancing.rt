@@ -10,6 +10,7 @@ ghost use Rattle.scott_types.specs.declared.phrases.Phrase.TheVariants.{Prompt};
 ghost use Rattle.scott_types.specs.declared.endings.Position.TheVariants.{Fresh};
 ghost use Rattle.scott_types.specs.Phrase.{text_of};
 ghost use Rattle.scott_turn.specs.Tried.{tallied};
+ghost use Rattle.scott_turn.specs.Done.{Does, Shows};
 
 use crate::automatic::automatic;
 use crate::games::Game;
@@ -75,10 +76,9 @@ fn go_to_prompt<C: Console>(
     console: &mut C,
 ) -> Result<Position, ConsoleFault>
     requires { Fits game.now.db state.old }
-    ensures spoken { Speaks (C.seen console.old) (C.seen console.new) result
-        (shown_of (prompted halt game.now state.old []).events) }
-    ensures left { IfOk result (λ position. (prompted halt game.now state.old []).value
-        ≡ record { position = position; state = state.new; draws = [] }) }
+    ensures does { Shows (C.seen console.old) (C.seen console.new) result
+        (prompted halt game.now state.old [])
+        (λ position. record { position = position; state = state.new; draws = [] }) }
     ensures fits { Fits game.now.db state.new }
 {
     match halt {
@@ -98,17 +98,11 @@ fn advance_from<C: Console>(
     console: &mut C,
 ) -> Result<Position, ConsoleFault>
     requires { Fits game.now.db state.old }
-    ensures spoken { Speaks (C.seen console.old) (C.seen console.new) result
-        (shown_of (to_prompt game.now
-        (automatic game.now (groups_from game.now.db from) state.old draws.old.left)).events) }
-    ensures tried { OnOk result
-        (tally.new ≡ tallied (to_prompt game.now
-        (automatic game.now (groups_from game.now.db from) state.old draws.old.left)).events
-        tally.old) }
-    ensures left { IfOk result
-        (λ position. (to_prompt game.now
-        (automatic game.now (groups_from game.now.db from) state.old draws.old.left)).value
-        ≡ record { position = position; state = state.new; draws = draws.new.left }) }
+    ensures does { Does (C.seen console.old) (C.seen console.new) result
+        (to_prompt game.now
+        (automatic game.now (groups_from game.now.db from) state.old draws.old.left))
+        (λ position. record { position = position; state = state.new; draws = draws.new.left })
+        tally.old tally.new }
     ensures taken { supplied draws.new ≡ supplied draws.old }
     ensures fits { Fits game.now.db state.new }
 {
@@ -125,14 +119,10 @@ fn begin<C: Console>(
     console: &mut C,
 ) -> Result<Position, ConsoleFault>
     requires { Fits game.now.db state.old }
-    ensures spoken { Speaks (C.seen console.old) (C.seen console.new) result
-        (shown_of (advance game.now Position.Fresh state.old draws.old.left).events) }
-    ensures tried { OnOk result
-        (tally.new ≡ tallied (advance game.now Position.Fresh state.old draws.old.left).events
-        tally.old) }
-    ensures left { IfOk result (λ position.
-        (advance game.now Position.Fresh state.old draws.old.left).value
-        ≡ record { position = position; state = state.new; draws = draws.new.left }) }
+    ensures does { Does (C.seen console.old) (C.seen console.new) result
+        (advance game.now Position.Fresh state.old draws.old.left)
+        (λ position. record { position = position; state = state.new; draws = draws.new.left })
+        tally.old tally.new }
     ensures taken { supplied draws.new ≡ supplied draws.old }
     ensures fits { Fits game.now.db state.new }
 {
@@ -153,14 +143,10 @@ pub fn advance<C: Console>(
     console: &mut C,
 ) -> Result<Position, ConsoleFault>
     requires { Fits game.now.db state.old }
-    ensures spoken { Speaks (C.seen console.old) (C.seen console.new) result
-        (shown_of (advance game.now position state.old draws.old.left).events) }
-    ensures tried { OnOk result
-        (tally.new ≡ tallied (advance game.now position state.old draws.old.left).events
-        tally.old) }
-    ensures left { IfOk result (λ reached.
-        (advance game.now position state.old draws.old.left).value
-        ≡ record { position = reached; state = state.new; draws = draws.new.left }) }
+    ensures does { Does (C.seen console.old) (C.seen console.new) result
+        (advance game.now position state.old draws.old.left)
+        (λ reached. record { position = reached; state = state.new; draws = draws.new.left })
+        tally.old tally.new }
     ensures taken { supplied draws.new ≡ supplied draws.old }
     ensures fits { Fits game.now.db state.new }
 {

@@ -6,6 +6,7 @@ ghost use Rattle.scott_rules.specs.Transfer.{none_taken, all_items, is_too_dark,
 ghost use Rattle.adv_io.specs.Steps.{shown_of};
 ghost use Rattle.scott_turn.specs.ItemTurns.{item_turn, ends_all, over_in, is_taken_by};
 ghost use Rattle.scott_turn.specs.Tried.{tallied};
+ghost use Rattle.scott_turn.specs.Done.{Does};
 
 use crate::games::Game;
 use crate::item_turns::{ItemTurn, do_item_turn};
@@ -62,15 +63,14 @@ fn all_items<C: Console>(
     console: &mut C,
 ) -> Result<AllResult, ConsoleFault>
     requires { Fits game.now.db state.old }
-    ensures spoken { Speaks (C.seen console.old) (C.seen console.new) result
-        (shown_of (all_items transfer game.now typed.now 0 game.now.db.items state.old).events) }
-    ensures tried { OnOk result
-        (tally.new
-        ≡ tallied (all_items transfer game.now typed.now 0 game.now.db.items state.old).events
-        tally.old) }
-    ensures left { IfOk result (λ all_result.
-        (all_items transfer game.now typed.now 0 game.now.db.items state.old).value
-        ≡ record { state = state.new; over = all_result.over; any_taken = all_result.any_taken }) }
+    ensures does { Does (C.seen console.old) (C.seen console.new) result
+        (all_items transfer game.now typed.now 0 game.now.db.items state.old)
+        (λ all_result. record {
+          state = state.new;
+          over = all_result.over;
+          any_taken = all_result.any_taken;
+        })
+        tally.old tally.new }
     ensures fits { Fits game.now.db state.new }
 {
     let mut any_taken = false;
@@ -131,13 +131,9 @@ fn transfer_all_items<C: Console>(
     console: &mut C,
 ) -> Result<Option<u8>, ConsoleFault>
     requires { Fits game.now.db state.old }
-    ensures spoken { Speaks (C.seen console.old) (C.seen console.new) result
-        (shown_of (all_from false transfer game.now typed.now state.old).events) }
-    ensures tried { OnOk result
-        (tally.new ≡ tallied (all_from false transfer game.now typed.now state.old).events
-        tally.old) }
-    ensures left { IfOk result (λ over. (all_from false transfer game.now typed.now state.old).value
-        ≡ record { state = state.new; over = over }) }
+    ensures does { Does (C.seen console.old) (C.seen console.new) result
+        (all_from false transfer game.now typed.now state.old)
+        (λ over. record { state = state.new; over = over }) tally.old tally.new }
     ensures fits { Fits game.now.db state.new }
 {
     let all_result = all_items(game, state, tally, transfer, typed, console)?;
@@ -158,14 +154,9 @@ pub fn transfer_all<C: Console>(
     console: &mut C,
 ) -> Result<Option<u8>, ConsoleFault>
     requires { Fits game.now.db state.old }
-    ensures spoken { Speaks (C.seen console.old) (C.seen console.new) result
-        (shown_of (all_transferred transfer game.now typed.now state.old).events) }
-    ensures tried { OnOk result
-        (tally.new ≡ tallied (all_transferred transfer game.now typed.now state.old).events
-        tally.old) }
-    ensures left { IfOk result
-        (λ over. (all_transferred transfer game.now typed.now state.old).value
-        ≡ record { state = state.new; over = over }) }
+    ensures does { Does (C.seen console.old) (C.seen console.new) result
+        (all_transferred transfer game.now typed.now state.old)
+        (λ over. record { state = state.new; over = over }) tally.old tally.new }
     ensures fits { Fits game.now.db state.new }
 {
     if is_too_dark(state, transfer) {

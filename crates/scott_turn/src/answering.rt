@@ -10,6 +10,7 @@ ghost use Rattle.scott_rules.specs.Rounds.{turn_ended, command_done, command_res
 ghost use Rattle.scott_vocab.specs.Heard.{IsEntry};
 ghost use Rattle.adv_io.specs.Steps.{shown_of};
 ghost use Rattle.scott_turn.specs.Tried.{tallied};
+ghost use Rattle.scott_turn.specs.Done.{Does, Shows};
 
 use crate::commands::do_command;
 use crate::games::Game;
@@ -28,10 +29,9 @@ fn end_turn<C: Console>(
     console: &mut C,
 ) -> Result<Position, ConsoleFault>
     requires { Fits game.now.db state.old }
-    ensures spoken { Speaks (C.seen console.old) (C.seen console.new) result
-        (shown_of (turn_ended game.now.style over state.old).events) }
-    ensures left { IfOk result (λ position. (turn_ended game.now.style over state.old).value
-        ≡ record { position = position; state = state.new }) }
+    ensures does { Shows (C.seen console.old) (C.seen console.new) result
+        (turn_ended game.now.style over state.old)
+        (λ position. record { position = position; state = state.new }) }
     ensures fits { Fits game.now.db state.new }
 {
     match over {
@@ -54,16 +54,10 @@ fn do_turn<C: Console>(
 ) -> Result<Position, ConsoleFault>
     requires fits { Fits game.now.db state.old }
     requires there { IsEntry game.now.db command.noun }
-    ensures spoken { Speaks (C.seen console.old) (C.seen console.new) result
-        (shown_of (command_done game.now.style
-        (command_result game.now typed.now command.verb command.noun state.old)).events) }
-    ensures tried { OnOk result
-        (tally.new ≡ tallied (command_done game.now.style
-        (command_result game.now typed.now command.verb command.noun state.old)).events tally.old) }
-    ensures left { IfOk result
-        (λ position. (command_done game.now.style
-        (command_result game.now typed.now command.verb command.noun state.old)).value
-        ≡ record { position = position; state = state.new }) }
+    ensures does { Does (C.seen console.old) (C.seen console.new) result
+        (command_done game.now.style
+        (command_result game.now typed.now command.verb command.noun state.old))
+        (λ position. record { position = position; state = state.new }) tally.old tally.new }
     ensures fits { Fits game.now.db state.new }
 {
     let over = do_command(game, state, tally, command, typed, console)?;
@@ -106,15 +100,9 @@ pub fn answer<C: Console>(
     console: &mut C,
 ) -> Result<Position, ConsoleFault>
     requires { Fits game.now.db state.old }
-    ensures spoken { Speaks (C.seen console.old) (C.seen console.new) result
-        (shown_of (by_heard (heard game.now.db line.now) game.now line.now state.old).events) }
-    ensures tried { OnOk result
-        (tally.new
-        ≡ tallied (by_heard (heard game.now.db line.now) game.now line.now state.old).events
-        tally.old) }
-    ensures left { IfOk result
-        (λ position. (by_heard (heard game.now.db line.now) game.now line.now state.old).value
-        ≡ record { position = position; state = state.new }) }
+    ensures does { Does (C.seen console.old) (C.seen console.new) result
+        (by_heard (heard game.now.db line.now) game.now line.now state.old)
+        (λ position. record { position = position; state = state.new }) tally.old tally.new }
     ensures fits { Fits game.now.db state.new }
 {
     match command(game, line) {

@@ -10,6 +10,7 @@ ghost use Rattle.adv_io.specs.Steps.{shown_of};
 ghost use Rattle.scott_turn.specs.Heads.{group_at};
 ghost use Rattle.scott_turn.specs.Turns.{halt_of, entered, auto_turn, goes_through};
 ghost use Rattle.scott_turn.specs.Tried.{tallied};
+ghost use Rattle.scott_turn.specs.Done.{Does};
 
 use crate::games::Game;
 use crate::trying::try_group;
@@ -50,19 +51,10 @@ fn enter<C: Console>(
 ) -> Result<Halt, ConsoleFault>
     requires fits { Fits game.now.db state.old }
     requires there { head < length game.now.db.actions }
-    ensures spoken { let b = nat_le draw (noun_of (action_at game.now.db head).vocab) in
-        Speaks (C.seen console.old) (C.seen console.new) result
-        (shown_of (entered b game.now (group_at game.now.db head) state.old []).events) }
-    ensures tried { let b = nat_le draw (noun_of (action_at game.now.db head).vocab) in
-        OnOk result
-        (tally.new ≡ tallied (entered b game.now (group_at game.now.db head) state.old []).events
-        tally.old) }
-    ensures state { let b = nat_le draw (noun_of (action_at game.now.db head).vocab) in
-        OnOk result (state.new
-        ≡ (entered b game.now (group_at game.now.db head) state.old []).value.state) }
-    ensures halt { let b = nat_le draw (noun_of (action_at game.now.db head).vocab) in
-        IfOk result (λ halt.
-        halt ≡ (entered b game.now (group_at game.now.db head) state.old []).value.halt) }
+    ensures does { let b = nat_le draw (noun_of (action_at game.now.db head).vocab) in
+        Does (C.seen console.old) (C.seen console.new) result
+        (entered b game.now (group_at game.now.db head) state.old [])
+        (λ halt. record { state = state.new; draws = []; halt = halt }) tally.old tally.new }
     ensures fits { Fits game.now.db state.new }
 {
     if lets_in(game.db(), head, draw) {
@@ -84,18 +76,10 @@ fn auto_turn<C: Console>(
 ) -> Result<Halt, ConsoleFault>
     requires fits { Fits game.now.db state.old }
     requires there { head < length game.now.db.actions }
-    ensures spoken { Speaks (C.seen console.old) (C.seen console.new) result
-        (shown_of (auto_turn game.now
-        (group_at game.now.db head) state.old draws.old.left).events) }
-    ensures tried { OnOk result
-        (tally.new ≡ tallied (auto_turn game.now
-        (group_at game.now.db head) state.old draws.old.left).events tally.old) }
-    ensures state { OnOk result
-        (state.new ≡ (auto_turn game.now
-        (group_at game.now.db head) state.old draws.old.left).value.state) }
-    ensures halt { IfOk result
-        (λ halt. halt ≡ (auto_turn game.now
-        (group_at game.now.db head) state.old draws.old.left).value.halt) }
+    ensures does { Does (C.seen console.old) (C.seen console.new) result
+        (auto_turn game.now (group_at game.now.db head) state.old draws.old.left)
+        (λ halt. record { state = state.new; draws = draws.new.left; halt = halt })
+        tally.old tally.new }
     ensures draws { draws.new.left
         ≡ (auto_turn game.now (group_at game.now.db head) state.old draws.old.left).value.draws }
     ensures taken { supplied draws.new ≡ supplied draws.old }
@@ -132,15 +116,10 @@ pub fn automatic<C: Console>(
     console: &mut C,
 ) -> Result<Halt, ConsoleFault>
     requires { Fits game.now.db state.old }
-    ensures spoken { Speaks (C.seen console.old) (C.seen console.new) result
-        (shown_of (automatic game.now
-        (groups_from game.now.db from) state.old draws.old.left).events) }
-    ensures tried { OnOk result
-        (tally.new ≡ tallied (automatic game.now
-        (groups_from game.now.db from) state.old draws.old.left).events tally.old) }
-    ensures left { IfOk result
-        (λ halt. (automatic game.now (groups_from game.now.db from) state.old draws.old.left).value
-        ≡ record { state = state.new; draws = draws.new.left; halt = halt }) }
+    ensures does { Does (C.seen console.old) (C.seen console.new) result
+        (automatic game.now (groups_from game.now.db from) state.old draws.old.left)
+        (λ halt. record { state = state.new; draws = draws.new.left; halt = halt })
+        tally.old tally.new }
     ensures taken { supplied draws.new ≡ supplied draws.old }
     ensures fits { Fits game.now.db state.new }
 {

@@ -8,6 +8,7 @@ ghost use Rattle.scott_rules.specs.Transfer.{is_at_hand, item_named, one_moved, 
 ghost use Rattle.scott_vocab.specs.Heard.{IsEntry};
 ghost use Rattle.adv_io.specs.Steps.{shown_of};
 ghost use Rattle.scott_turn.specs.ItemTurns.{IsItem};
+ghost use Rattle.scott_turn.specs.Done.{Shows};
 
 use crate::games::Game;
 use crate::saying::say_only;
@@ -70,10 +71,9 @@ fn move_one<C: Console>(
 ) -> Result<Option<u8>, ConsoleFault>
     requires fits { Fits game.now.db state.old }
     requires there { IsItem game.now.db item }
-    ensures spoken { Speaks (C.seen console.old) (C.seen console.new) result
-        (shown_of (one_moved game.now.style transfer item state.old).events) }
-    ensures left { IfOk result (λ over. (one_moved game.now.style transfer item state.old).value
-        ≡ record { state = state.new; over = over }) }
+    ensures does { Shows (C.seen console.old) (C.seen console.new) result
+        (one_moved game.now.style transfer item state.old)
+        (λ over. record { state = state.new; over = over }) }
     ensures fits { Fits game.now.db state.new }
 {
     match item {
@@ -95,11 +95,9 @@ fn move_named<C: Console>(
 ) -> Result<Option<u8>, ConsoleFault>
     requires fits { Fits game.now.db state.old }
     requires there { noun < length game.now.db.words }
-    ensures spoken { Speaks (C.seen console.old) (C.seen console.new) result
-        (shown_of (one_transferred transfer game.now (Some noun) state.old).events) }
-    ensures left { IfOk result
-        (λ over. (one_transferred transfer game.now (Some noun) state.old).value
-        ≡ record { state = state.new; over = over }) }
+    ensures does { Shows (C.seen console.old) (C.seen console.new) result
+        (one_transferred transfer game.now (Some noun) state.old)
+        (λ over. record { state = state.new; over = over }) }
     ensures fits { Fits game.now.db state.new }
 {
     if is_refused(game.db(), state, transfer) {
@@ -123,10 +121,9 @@ pub fn transfer_one<C: Console>(
 ) -> Result<Option<u8>, ConsoleFault>
     requires fits { Fits game.now.db state.old }
     requires there { IsEntry game.now.db noun }
-    ensures spoken { Speaks (C.seen console.old) (C.seen console.new) result
-        (shown_of (one_transferred transfer game.now noun state.old).events) }
-    ensures left { IfOk result (λ over. (one_transferred transfer game.now noun state.old).value
-        ≡ record { state = state.new; over = over }) }
+    ensures does { Shows (C.seen console.old) (C.seen console.new) result
+        (one_transferred transfer game.now noun state.old)
+        (λ over. record { state = state.new; over = over }) }
     ensures fits { Fits game.now.db state.new }
 {
     match noun {

@@ -7,6 +7,7 @@ ghost use Rattle.scott_rules.specs.Rounds.{not_done, unmatched, by_found, by_act
 ghost use Rattle.scott_vocab.specs.Heard.{IsEntry};
 ghost use Rattle.adv_io.specs.Steps.{shown_of};
 ghost use Rattle.scott_turn.specs.Tried.{tallied};
+ghost use Rattle.scott_turn.specs.Done.{Does};
 
 use crate::all_items::transfer_all;
 use crate::choosing::transfer_one;
@@ -39,14 +40,9 @@ fn transfer<C: Console>(
 ) -> Result<Option<u8>, ConsoleFault>
     requires fits { Fits game.now.db state.old }
     requires there { IsEntry game.now.db noun }
-    ensures spoken { Speaks (C.seen console.old) (C.seen console.new) result
-        (shown_of (got_or_dropped transfer game.now typed.now noun state.old).events) }
-    ensures tried { OnOk result
-        (tally.new ≡ tallied (got_or_dropped transfer game.now typed.now noun state.old).events
-        tally.old) }
-    ensures left { IfOk result
-        (λ over. (got_or_dropped transfer game.now typed.now noun state.old).value
-        ≡ record { state = state.new; over = over }) }
+    ensures does { Does (C.seen console.old) (C.seen console.new) result
+        (got_or_dropped transfer game.now typed.now noun state.old)
+        (λ over. record { state = state.new; over = over }) tally.old tally.new }
     ensures fits { Fits game.now.db state.new }
 {
     if is_all(typed) {
@@ -79,15 +75,9 @@ fn do_unmatched<C: Console>(
 ) -> Result<Option<u8>, ConsoleFault>
     requires fits { Fits game.now.db state.old }
     requires there { IsEntry game.now.db command.noun }
-    ensures spoken { Speaks (C.seen console.old) (C.seen console.new) result
-        (shown_of (unmatched game.now typed.now command.verb command.noun found state.old).events) }
-    ensures tried { OnOk result
-        (tally.new
-        ≡ tallied (unmatched game.now typed.now command.verb command.noun found state.old).events
-        tally.old) }
-    ensures left { IfOk result
-        (λ over. (unmatched game.now typed.now command.verb command.noun found state.old).value
-        ≡ record { state = state.new; over = over }) }
+    ensures does { Does (C.seen console.old) (C.seen console.new) result
+        (unmatched game.now typed.now command.verb command.noun found state.old)
+        (λ over. record { state = state.new; over = over }) tally.old tally.new }
     ensures fits { Fits game.now.db state.new }
 {
     if command.verb == GET {
@@ -127,15 +117,9 @@ fn finish_command<C: Console>(
 ) -> Result<Option<u8>, ConsoleFault>
     requires fits { Fits game.now.db state.old }
     requires there { IsEntry game.now.db command.noun }
-    ensures spoken { Speaks (C.seen console.old) (C.seen console.new) result
-        (shown_of (by_found found game.now typed.now command.verb command.noun state.old).events) }
-    ensures tried { OnOk result
-        (tally.new
-        ≡ tallied (by_found found game.now typed.now command.verb command.noun state.old).events
-        tally.old) }
-    ensures left { IfOk result
-        (λ over. (by_found found game.now typed.now command.verb command.noun state.old).value
-        ≡ record { state = state.new; over = over }) }
+    ensures does { Does (C.seen console.old) (C.seen console.new) result
+        (by_found found game.now typed.now command.verb command.noun state.old)
+        (λ over. record { state = state.new; over = over }) tally.old tally.new }
     ensures fits { Fits game.now.db state.new }
 {
     match found {
@@ -157,15 +141,9 @@ fn do_by_actions<C: Console>(
 ) -> Result<Option<u8>, ConsoleFault>
     requires fits { Fits game.now.db state.old }
     requires there { IsEntry game.now.db command.noun }
-    ensures spoken { Speaks (C.seen console.old) (C.seen console.new) result
-        (shown_of (by_actions game.now typed.now command.verb command.noun state.old).events) }
-    ensures tried { OnOk result
-        (tally.new
-        ≡ tallied (by_actions game.now typed.now command.verb command.noun state.old).events
-        tally.old) }
-    ensures left { IfOk result
-        (λ over. (by_actions game.now typed.now command.verb command.noun state.old).value
-        ≡ record { state = state.new; over = over }) }
+    ensures does { Does (C.seen console.old) (C.seen console.new) result
+        (by_actions game.now typed.now command.verb command.noun state.old)
+        (λ over. record { state = state.new; over = over }) tally.old tally.new }
     ensures fits { Fits game.now.db state.new }
 {
     let found = search(game, state, tally, command, typed, console)?;
@@ -183,12 +161,9 @@ fn do_going<C: Console>(
 ) -> Result<Option<u8>, ConsoleFault>
     requires fits { Fits game.now.db state.old }
     requires there { IsEntry game.now.db noun }
-    ensures spoken { Speaks (C.seen console.old) (C.seen console.new) result
-        (shown_of (going game.now typed.now noun state.old).events) }
-    ensures tried { OnOk result
-        (tally.new ≡ tallied (going game.now typed.now noun state.old).events tally.old) }
-    ensures left { IfOk result (λ over. (going game.now typed.now noun state.old).value
-        ≡ record { state = state.new; over = over }) }
+    ensures does { Does (C.seen console.old) (C.seen console.new) result
+        (going game.now typed.now noun state.old)
+        (λ over. record { state = state.new; over = over }) tally.old tally.new }
     ensures fits { Fits game.now.db state.new }
 {
     match noun {
@@ -221,15 +196,9 @@ pub fn do_command<C: Console>(
 ) -> Result<Option<u8>, ConsoleFault>
     requires fits { Fits game.now.db state.old }
     requires there { IsEntry game.now.db command.noun }
-    ensures spoken { Speaks (C.seen console.old) (C.seen console.new) result
-        (shown_of (command_result game.now typed.now command.verb command.noun state.old).events) }
-    ensures tried { OnOk result
-        (tally.new
-        ≡ tallied (command_result game.now typed.now command.verb command.noun state.old).events
-        tally.old) }
-    ensures left { IfOk result
-        (λ over. (command_result game.now typed.now command.verb command.noun state.old).value
-        ≡ record { state = state.new; over = over }) }
+    ensures does { Does (C.seen console.old) (C.seen console.new) result
+        (command_result game.now typed.now command.verb command.noun state.old)
+        (λ over. record { state = state.new; over = over }) tally.old tally.new }
     ensures fits { Fits game.now.db state.new }
 {
     if command.verb == GO {

@@ -8,6 +8,7 @@ ghost use Rattle.scott_turn.specs.Rounds.{is_prompt};
 ghost use Rattle.adv_io.specs.Steps.{shown_of};
 ghost use Rattle.scott_turn.specs.Fed.{given, said, after_line};
 ghost use Rattle.scott_turn.specs.Tried.{tallied};
+ghost use Rattle.scott_turn.specs.Done.{Does};
 
 use crate::advancing::advance;
 use crate::answering::answer;
@@ -29,17 +30,10 @@ fn answer_and_advance<C: Console>(
     console: &mut C,
 ) -> Result<Position, ConsoleFault>
     requires { Fits game.now.db state.old }
-    ensures spoken { let t =
-        after_line true game.now line.now Position.Line state.old draws.old.left in
-        Speaks (C.seen console.old) (C.seen console.new) result (shown_of t.events) }
-    ensures tried { let t =
-        after_line true game.now line.now Position.Line state.old draws.old.left in
-        OnOk result
-        (tally.new ≡ tallied t.events tally.old) }
-    ensures left { let t =
-        after_line true game.now line.now Position.Line state.old draws.old.left in
-        IfOk result (λ reached. t.value
-        ≡ record { position = reached; state = state.new; draws = draws.new.left }) }
+    ensures does { Does (C.seen console.old) (C.seen console.new) result
+        (after_line true game.now line.now Position.Line state.old draws.old.left)
+        (λ reached. record { position = reached; state = state.new; draws = draws.new.left })
+        tally.old tally.new }
     ensures taken { supplied draws.new ≡ supplied draws.old }
     ensures fits { Fits game.now.db state.new }
 {
@@ -58,18 +52,11 @@ fn feed_line<C: Console>(
     console: &mut C,
 ) -> Result<Position, ConsoleFault>
     requires { Fits game.now.db state.old }
-    ensures spoken { let b = is_prompt position in
-        Speaks (C.seen console.old) (C.seen console.new) result
-        (shown_of (after_line b game.now line.now position state.old draws.old.left).events) }
-    ensures tried { let b = is_prompt position in
-        OnOk result
-        (tally.new
-        ≡ tallied (after_line b game.now line.now position state.old draws.old.left).events
-        tally.old) }
-    ensures left { let b = is_prompt position in
-        IfOk result
-        (λ reached. (after_line b game.now line.now position state.old draws.old.left).value
-        ≡ record { position = reached; state = state.new; draws = draws.new.left }) }
+    ensures does { let b = is_prompt position in
+        Does (C.seen console.old) (C.seen console.new) result
+        (after_line b game.now line.now position state.old draws.old.left)
+        (λ reached. record { position = reached; state = state.new; draws = draws.new.left })
+        tally.old tally.new }
     ensures taken { supplied draws.new ≡ supplied draws.old }
     ensures fits { Fits game.now.db state.new }
 {

@@ -12,6 +12,7 @@ ghost use Rattle.scott_rules.specs.Transfer.{verb_for, is_taken, is_refused};
 ghost use Rattle.adv_io.specs.Steps.{shown_of};
 ghost use Rattle.scott_turn.specs.ItemTurns.{moved_or_not, ending_in, item_actions, after_actions, item_turn};
 ghost use Rattle.scott_turn.specs.Tried.{tallied};
+ghost use Rattle.scott_turn.specs.Done.{Does, Shows};
 
 use crate::games::Game;
 use crate::searching::{Command, search};
@@ -87,15 +88,9 @@ fn try_item_actions<C: Console>(
 ) -> Result<Option<u8>, ConsoleFault>
     requires fits { Fits game.now.db state.old }
     requires there { i < length game.now.db.items }
-    ensures spoken { Speaks (C.seen console.old) (C.seen console.new) result
-        (shown_of (item_actions transfer game.now typed.now
-        (item_at game.now.db i) state.old).events) }
-    ensures tried { OnOk result
-        (tally.new ≡ tallied (item_actions transfer game.now typed.now
-        (item_at game.now.db i) state.old).events tally.old) }
-    ensures left { IfOk result
-        (λ over. (item_actions transfer game.now typed.now (item_at game.now.db i) state.old).value
-        ≡ record { state = state.new; over = over }) }
+    ensures does { Does (C.seen console.old) (C.seen console.new) result
+        (item_actions transfer game.now typed.now (item_at game.now.db i) state.old)
+        (λ over. record { state = state.new; over = over }) tally.old tally.new }
     ensures fits { Fits game.now.db state.new }
 {
     let command = command_for(game, transfer, i);
@@ -133,14 +128,10 @@ fn move_taken<C: Console>(
 ) -> Result<ItemTurn, ConsoleFault>
     requires fits { Fits game.now.db state.old }
     requires there { i < length game.now.db.items }
-    ensures spoken { let refused = is_refused transfer game.now.db state.old in
-        Speaks (C.seen console.old) (C.seen console.new) result
-        (shown_of (moved_or_not refused game.now.style transfer i
-        (item_at game.now.db i) state.old).events) }
-    ensures left { let refused = is_refused transfer game.now.db state.old in
-        IfOk result (λ item_turn.
-        (moved_or_not refused game.now.style transfer i (item_at game.now.db i) state.old).value
-        ≡ record { state = state.new; item_turn = item_turn }) }
+    ensures does { let refused = is_refused transfer game.now.db state.old in
+        Shows (C.seen console.old) (C.seen console.new) result
+        (moved_or_not refused game.now.style transfer i (item_at game.now.db i) state.old)
+        (λ item_turn. record { state = state.new; item_turn = item_turn }) }
     ensures fits { Fits game.now.db state.new }
 {
     if is_refused(game.db(), state, transfer) {
@@ -163,12 +154,9 @@ fn finish_item<C: Console>(
 ) -> Result<ItemTurn, ConsoleFault>
     requires fits { Fits game.now.db state.old }
     requires there { i < length game.now.db.items }
-    ensures spoken { Speaks (C.seen console.old) (C.seen console.new) result
-        (shown_of (after_actions over transfer game.now i
-        (item_at game.now.db i) state.old).events) }
-    ensures left { IfOk result
-        (λ found. (after_actions over transfer game.now i (item_at game.now.db i) state.old).value
-        ≡ record { state = state.new; item_turn = found }) }
+    ensures does { Shows (C.seen console.old) (C.seen console.new) result
+        (after_actions over transfer game.now i (item_at game.now.db i) state.old)
+        (λ found. record { state = state.new; item_turn = found }) }
     ensures fits { Fits game.now.db state.new }
 {
     match over {
@@ -189,16 +177,9 @@ fn take_item<C: Console>(
 ) -> Result<ItemTurn, ConsoleFault>
     requires fits { Fits game.now.db state.old }
     requires there { i < length game.now.db.items }
-    ensures spoken { Speaks (C.seen console.old) (C.seen console.new) result
-        (shown_of (item_turn true transfer game.now typed.now i
-        (item_at game.now.db i) state.old).events) }
-    ensures tried { OnOk result
-        (tally.new ≡ tallied (item_turn true transfer game.now typed.now i
-        (item_at game.now.db i) state.old).events tally.old) }
-    ensures left { IfOk result
-        (λ found. (item_turn true transfer game.now typed.now i
-        (item_at game.now.db i) state.old).value
-        ≡ record { state = state.new; item_turn = found }) }
+    ensures does { Does (C.seen console.old) (C.seen console.new) result
+        (item_turn true transfer game.now typed.now i (item_at game.now.db i) state.old)
+        (λ found. record { state = state.new; item_turn = found }) tally.old tally.new }
     ensures fits { Fits game.now.db state.new }
 {
     let over = try_item_actions(game, state, tally, transfer, i, typed, console)?;
@@ -219,18 +200,10 @@ pub fn do_item_turn<C: Console>(
 ) -> Result<ItemTurn, ConsoleFault>
     requires fits { Fits game.now.db state.old }
     requires there { i < length game.now.db.items }
-    ensures spoken { let any_taken = is_taken transfer i (item_at game.now.db i) state.old in
-        Speaks (C.seen console.old) (C.seen console.new) result
-        (shown_of (item_turn any_taken transfer game.now typed.now i
-        (item_at game.now.db i) state.old).events) }
-    ensures tried { let any_taken = is_taken transfer i (item_at game.now.db i) state.old in
-        OnOk result
-        (tally.new ≡ tallied (item_turn any_taken transfer game.now typed.now i
-        (item_at game.now.db i) state.old).events tally.old) }
-    ensures left { let any_taken = is_taken transfer i (item_at game.now.db i) state.old in
-        IfOk result (λ found.
-        (item_turn any_taken transfer game.now typed.now i (item_at game.now.db i) state.old).value
-        ≡ record { state = state.new; item_turn = found }) }
+    ensures does { let any_taken = is_taken transfer i (item_at game.now.db i) state.old in
+        Does (C.seen console.old) (C.seen console.new) result
+        (item_turn any_taken transfer game.now typed.now i (item_at game.now.db i) state.old)
+        (λ found. record { state = state.new; item_turn = found }) tally.old tally.new }
     ensures fits { Fits game.now.db state.new }
 {
     let item = &game.db().items()[i as usize];

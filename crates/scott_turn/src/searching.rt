@@ -10,6 +10,7 @@ ghost use Rattle.adv_io.specs.Steps.{shown_of};
 ghost use Rattle.scott_turn.specs.Heads.{group_at};
 ghost use Rattle.scott_turn.specs.Turns.{found_of, search_turn, ends_search, at_least};
 ghost use Rattle.scott_turn.specs.Tried.{tallied};
+ghost use Rattle.scott_turn.specs.Done.{Does};
 
 use crate::games::Game;
 use crate::trying::try_group;
@@ -68,21 +69,10 @@ fn search_turn<C: Console>(
 ) -> Result<Found, ConsoleFault>
     requires fits { Fits game.now.db state.old }
     requires there { head < length game.now.db.actions }
-    ensures spoken { let b = is_for_noun (noun_of (action_at game.now.db head).vocab) noun in
-        Speaks (C.seen console.old) (C.seen console.new) result
-        (shown_of (search_turn b game.now typed.now (group_at game.now.db head) state.old).events) }
-    ensures tried { let b = is_for_noun (noun_of (action_at game.now.db head).vocab) noun in
-        OnOk result
-        (tally.new
-        ≡ tallied (search_turn b game.now typed.now (group_at game.now.db head) state.old).events
-        tally.old) }
-    ensures state { let b = is_for_noun (noun_of (action_at game.now.db head).vocab) noun in
-        OnOk result (state.new
-        ≡ (search_turn b game.now typed.now (group_at game.now.db head) state.old).value.state) }
-    ensures found { let b = is_for_noun (noun_of (action_at game.now.db head).vocab) noun in
-        IfOk result (λ found.
-        found ≡ (search_turn b game.now typed.now
-        (group_at game.now.db head) state.old).value.found) }
+    ensures does { let b = is_for_noun (noun_of (action_at game.now.db head).vocab) noun in
+        Does (C.seen console.old) (C.seen console.new) result
+        (search_turn b game.now typed.now (group_at game.now.db head) state.old)
+        (λ found. record { state = state.new; found = found }) tally.old tally.new }
     ensures fits { Fits game.now.db state.new }
 {
     if is_meant(game.db(), head, noun) {
@@ -128,16 +118,9 @@ pub fn search<C: Console>(
     console: &mut C,
 ) -> Result<Found, ConsoleFault>
     requires { Fits game.now.db state.old }
-    ensures spoken { Speaks (C.seen console.old) (C.seen console.new) result
-        (shown_of (search_result game.now typed.now command.verb command.noun
-        (groups game.now.db) state.old).events) }
-    ensures tried { OnOk result
-        (tally.new ≡ tallied (search_result game.now typed.now command.verb command.noun
-        (groups game.now.db) state.old).events tally.old) }
-    ensures left { IfOk result
-        (λ found. (search_result game.now typed.now command.verb command.noun
-        (groups game.now.db) state.old).value
-        ≡ record { state = state.new; found = found }) }
+    ensures does { Does (C.seen console.old) (C.seen console.new) result
+        (search_result game.now typed.now command.verb command.noun (groups game.now.db) state.old)
+        (λ found. record { state = state.new; found = found }) tally.old tally.new }
     ensures fits { Fits game.now.db state.new }
 {
     let mut before = Found::NoMatch;

@@ -10,6 +10,7 @@ ghost use Rattle.scott_rules.specs.Groups.{over_of, tail_action, tail_tried, pas
 ghost use Rattle.adv_io.specs.Steps.{shown_of};
 ghost use Rattle.scott_turn.specs.Heads.{tail_from, group_at};
 ghost use Rattle.scott_turn.specs.Tried.{tallied};
+ghost use Rattle.scott_turn.specs.Done.{Does};
 
 use crate::games::Game;
 use crate::heads::tail_goes_on;
@@ -53,14 +54,9 @@ fn try_action<C: Console>(
 ) -> Result<Ran, ConsoleFault>
     requires fits { Fits game.now.db state.old }
     requires there { line < length game.now.db.actions }
-    ensures spoken { Speaks (C.seen console.old) (C.seen console.new) result
-        (shown_of (try_action game.now noun.now line state.old).events) }
-    ensures tried { OnOk result
-        (tally.new ≡ tallied (try_action game.now noun.now line state.old).events tally.old) }
-    ensures state { OnOk result (state.new
-        ≡ (try_action game.now noun.now line state.old).value.state) }
-    ensures ran { IfOk result
-        (λ ran. ran ≡ (try_action game.now noun.now line state.old).value.ran) }
+    ensures does { Does (C.seen console.old) (C.seen console.new) result
+        (try_action game.now noun.now line state.old)
+        (λ ran. record { state = state.new; ran = ran }) tally.old tally.new }
     ensures fits { Fits game.now.db state.new }
 {
     note(game, tally, line);
@@ -88,14 +84,9 @@ fn try_tail_action<C: Console>(
 ) -> Result<Option<u8>, ConsoleFault>
     requires fits { Fits game.now.db state.old }
     requires there { line < length game.now.db.actions }
-    ensures spoken { Speaks (C.seen console.old) (C.seen console.new) result
-        (shown_of (tail_action game.now noun.now line state.old).events) }
-    ensures tried { OnOk result
-        (tally.new ≡ tallied (tail_action game.now noun.now line state.old).events tally.old) }
-    ensures state { OnOk result (state.new
-        ≡ (tail_action game.now noun.now line state.old).value.state) }
-    ensures over { IfOk result
-        (λ over. over ≡ (tail_action game.now noun.now line state.old).value.over) }
+    ensures does { Does (C.seen console.old) (C.seen console.new) result
+        (tail_action game.now noun.now line state.old)
+        (λ over. record { state = state.new; over = over }) tally.old tally.new }
     ensures fits { Fits game.now.db state.new }
 {
     let ran = try_action(game, state, tally, line, noun, console)?;
@@ -112,18 +103,9 @@ fn try_tail<C: Console>(
     console: &mut C,
 ) -> Result<Option<u8>, ConsoleFault>
     requires { Fits game.now.db state.old }
-    ensures spoken { Speaks (C.seen console.old) (C.seen console.new) result
-        (shown_of (tail_tried game.now noun.now (tail_from game.now.db from) state.old).events) }
-    ensures tried { OnOk result
-        (tally.new
-        ≡ tallied (tail_tried game.now noun.now (tail_from game.now.db from) state.old).events
-        tally.old) }
-    ensures state { OnOk result
-        (state.new
-        ≡ (tail_tried game.now noun.now (tail_from game.now.db from) state.old).value.state) }
-    ensures over { IfOk result
-        (λ over. over
-        ≡ (tail_tried game.now noun.now (tail_from game.now.db from) state.old).value.over) }
+    ensures does { Does (C.seen console.old) (C.seen console.new) result
+        (tail_tried game.now noun.now (tail_from game.now.db from) state.old)
+        (λ over. record { state = state.new; over = over }) tally.old tally.new }
     ensures fits { Fits game.now.db state.new }
 {
     let _lines = game.db().actions();
@@ -163,17 +145,9 @@ pub fn try_group<C: Console>(
 ) -> Result<Ran, ConsoleFault>
     requires fits { Fits game.now.db state.old }
     requires there { head < length game.now.db.actions }
-    ensures spoken { Speaks (C.seen console.old) (C.seen console.new) result
-        (shown_of (group_tried game.now noun.now (group_at game.now.db head) state.old).events) }
-    ensures tried { OnOk result
-        (tally.new
-        ≡ tallied (group_tried game.now noun.now (group_at game.now.db head) state.old).events
-        tally.old) }
-    ensures state { OnOk result (state.new
-        ≡ (group_tried game.now noun.now (group_at game.now.db head) state.old).value.state) }
-    ensures ran { IfOk result
-        (λ ran. ran
-        ≡ (group_tried game.now noun.now (group_at game.now.db head) state.old).value.ran) }
+    ensures does { Does (C.seen console.old) (C.seen console.new) result
+        (group_tried game.now noun.now (group_at game.now.db head) state.old)
+        (λ ran. record { state = state.new; ran = ran }) tally.old tally.new }
     ensures fits { Fits game.now.db state.new }
 {
     let _lines = game.db().actions();

@@ -9,6 +9,7 @@ ghost use Rattle.scott_types.specs.State.{Fits, is_dark};
 ghost use Rattle.scott_rules.specs.Commands.{is_direction};
 ghost use Rattle.scott_rules.specs.Rounds.{way, walk_result};
 ghost use Rattle.adv_io.specs.Steps.{shown_of};
+ghost use Rattle.scott_turn.specs.Done.{Shows};
 ghost use Rattle.scott_turn.specs.Ways.{way_text, way_over};
 ghost use Rattle.scott_types.specs.declared.styles.Style.{Style as AnyStyle};
 
@@ -67,10 +68,9 @@ pub fn walk<C: Console>(
 ) -> Result<Option<u8>, ConsoleFault>
     requires fits { Fits game.now.db state.old }
     requires direction { IsTrue (is_direction noun) }
-    ensures spoken { Speaks (C.seen console.old) (C.seen console.new) result
-        (shown_of (walk_result game.now noun state.old).events) }
-    ensures left { IfOk result (λ over. (walk_result game.now noun state.old).value
-        ≡ record { state = state.new; over = over }) }
+    ensures does { Shows (C.seen console.old) (C.seen console.new) result
+        (walk_result game.now noun state.old)
+        (λ over. record { state = state.new; over = over }) }
     ensures fits { Fits game.now.db state.new }
 {
     walk_fits();

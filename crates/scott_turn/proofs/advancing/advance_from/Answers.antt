@@ -17,10 +17,12 @@ returns g c =
     let game = c.args.game.now in
     let t = automatic game (groups_from game.db c.args.from) c.args.state.now c.args.draws.now.left in
     record {
-      spoken = steps_then t.events (prompted t.value.halt game t.value.state t.value.draws).events c.in_ok-halt.ensures.spoken
-          (rw (prompted-as_rules game t.value c.automatic.new.state c.automatic.new.draws.left c.in_ok-halt.halt c.in_ok-halt.ensures.left) c.go_to_prompt.ensures.spoken);
-      tried = tallied-only c.go_to_prompt.result t.events (prompted t.value.halt game t.value.state t.value.draws).events c.args.tally.now (prompted-none t.value.halt game t.value.state t.value.draws) c.in_ok-halt.ensures.tried;
-      left = IfOk-weaker c.go_to_prompt.result _ _ (λ position left. prompted-left game t.value c.automatic.new.state c.automatic.new.draws.left c.in_ok-halt.halt c.in_ok-halt.ensures.left position c.go_to_prompt.new.state left) c.go_to_prompt.ensures.left;
+      does = record {
+        spoken = steps_then t.events (prompted t.value.halt game t.value.state t.value.draws).events c.in_ok-halt.ensures.does.spoken
+          (rw (prompted-as_rules game t.value c.automatic.new.state c.automatic.new.draws.left c.in_ok-halt.halt c.in_ok-halt.ensures.does.left) c.go_to_prompt.ensures.does.spoken);
+        tried = tallied-only c.go_to_prompt.result t.events (prompted t.value.halt game t.value.state t.value.draws).events c.args.tally.now (prompted-none t.value.halt game t.value.state t.value.draws) c.in_ok-halt.ensures.does.tried;
+        left = IfOk-weaker c.go_to_prompt.result _ _ (λ position left. prompted-left game t.value c.automatic.new.state c.automatic.new.draws.left c.in_ok-halt.halt c.in_ok-halt.ensures.does.left position c.go_to_prompt.new.state left) c.go_to_prompt.ensures.does.left;
+      };
       taken = c.automatic.ensures.taken;
       fits = c.go_to_prompt.ensures.fits;
     }
@@ -31,9 +33,11 @@ returns-in_err-halt g c =
     let t = automatic game (groups_from game.db c.args.from) c.args.state.now c.args.draws.now.left in
     let p = err_from_is_err_and c.from_residual.result c.from_residual.ensures.1 in
     record {
-      spoken = rw (p.1) (steps_stop p.0 t.events (prompted t.value.halt game t.value.state t.value.draws).events c.in_err-halt.ensures.spoken);
-      left = rw (p.1) tt;
+      does = rw (p.1) (record {
+        spoken = steps_stop p.0 t.events (prompted t.value.halt game t.value.state t.value.draws).events c.in_err-halt.ensures.does.spoken;
+        tried = tt;
+        left = tt;
+      });
       taken = c.automatic.ensures.taken;
-      tried = rw (p.1) tt;
       fits = c.automatic.ensures.fits;
     }

@@ -18,10 +18,12 @@ returns g c =
     let game = c.args.game.now in
     let s = c.args.state.now in
     record {
-      spoken = steps_then (said_steps (look_due game s)) (to_prompt game (automatic game (groups game.db) (unmarked s) c.args.draws.now.left)).events c.in_ok-look_if_due.ensures.spoken
-          (rw c.look_if_due.ensures.state at c.advance_from.ensures.spoken);
-      tried = tallied_then c.advance_from.result (said_steps (look_due game s)) (to_prompt game (automatic game (groups game.db) (unmarked s) c.args.draws.now.left)).events c.args.tally.now c.advance_from.new.tally (sym (tallied-said (look_due game s) c.args.tally.now)) (rw c.look_if_due.ensures.state at c.advance_from.ensures.tried);
-      left = rw c.look_if_due.ensures.state at c.advance_from.ensures.left;
+      does = record {
+        spoken = steps_then (said_steps (look_due game s)) (to_prompt game (automatic game (groups game.db) (unmarked s) c.args.draws.now.left)).events c.in_ok-look_if_due.ensures.spoken
+          (rw c.look_if_due.ensures.state at c.advance_from.ensures.does.spoken);
+        tried = tallied_then c.advance_from.result (said_steps (look_due game s)) (to_prompt game (automatic game (groups game.db) (unmarked s) c.args.draws.now.left)).events c.args.tally.now c.advance_from.new.tally (sym (tallied-said (look_due game s) c.args.tally.now)) (rw c.look_if_due.ensures.state at c.advance_from.ensures.does.tried);
+        left = rw c.look_if_due.ensures.state at c.advance_from.ensures.does.left;
+      };
       taken = c.advance_from.ensures.taken;
       fits = c.advance_from.ensures.fits;
     }
@@ -32,9 +34,11 @@ returns-in_err-look_if_due g c =
     let s = c.args.state.now in
     let p = err_from_is_err_and c.from_residual.result c.from_residual.ensures.1 in
     record {
-      spoken = rw (p.1) (steps_stop p.0 (said_steps (look_due game s)) (to_prompt game (automatic game (groups game.db) (unmarked s) c.args.draws.now.left)).events c.in_err-look_if_due.ensures.spoken);
-      left = rw (p.1) tt;
+      does = rw (p.1) (record {
+        spoken = steps_stop p.0 (said_steps (look_due game s)) (to_prompt game (automatic game (groups game.db) (unmarked s) c.args.draws.now.left)).events c.in_err-look_if_due.ensures.spoken;
+        tried = tt;
+        left = tt;
+      });
       taken = refl;
-      tried = rw (p.1) tt;
       fits = c.look_if_due.ensures.fits;
     }

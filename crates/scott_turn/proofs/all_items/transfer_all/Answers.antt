@@ -11,9 +11,11 @@ pub returns-then-is_too_dark : goal.returns-then-is_too_dark
 returns-then-is_too_dark g c =
     let dark : is_too_dark c.args.transfer c.args.state.now ≡ true = sym c.is_too_dark.ensures ∙ c.if-is_too_dark.true in
     record {
-      spoken = rw dark (rw c.text.ensures at c.say_only.ensures.spoken);
-      tried = rw dark (tallied-none c.say_only.result (said_steps (text_of DarkGet)) c.args.tally.now (noted-said (text_of DarkGet)));
-      left = rw dark (IfOk-weaker c.say_only.result _ _ (λ over is. rw is refl) c.say_only.ensures.over);
+      does = rw dark (record {
+        spoken = rw c.text.ensures at c.say_only.ensures.spoken;
+        tried = tallied-none c.say_only.result (said_steps (text_of DarkGet)) c.args.tally.now (noted-said (text_of DarkGet));
+        left = IfOk-weaker c.say_only.result _ _ (λ over is. rw is refl) c.say_only.ensures.over;
+      });
       fits = c.requires;
     }
 
@@ -21,8 +23,6 @@ pub returns-else-is_too_dark : goal.returns-else-is_too_dark
 returns-else-is_too_dark g c =
     let light : is_too_dark c.args.transfer c.args.state.now ≡ false = sym c.is_too_dark.ensures ∙ c.if-is_too_dark.false in
     record {
-      spoken = rw light c.transfer_all_items.ensures.spoken;
-      tried = rw light c.transfer_all_items.ensures.tried;
-      left = rw light c.transfer_all_items.ensures.left;
+      does = rw light c.transfer_all_items.ensures.does;
       fits = c.transfer_all_items.ensures.fits;
     }

@@ -14,9 +14,11 @@ pub returns-in-Blank : goal.returns-in-Blank
 returns-in-Blank g c =
     let blank : heard c.args.game.now.db c.args.line.now ≡ Blank = sym c.command.ensures.value ∙ c.in-Blank.is in
     record {
-      spoken = rw (blank, shown_said (text_of Prompt)) c.ask_again.ensures.spoken;
-      tried = rw blank (tallied-none c.ask_again.result (said_steps (text_of Prompt)) c.args.tally.now (noted-said (text_of Prompt)));
-      left = rw blank (IfOk-weaker c.ask_again.result _ _ (λ position at. rw at refl) c.ask_again.ensures.position);
+      does = record {
+        spoken = rw (blank, shown_said (text_of Prompt)) c.ask_again.ensures.spoken;
+        tried = rw blank (tallied-none c.ask_again.result (said_steps (text_of Prompt)) c.args.tally.now (noted-said (text_of Prompt)));
+        left = rw blank (IfOk-weaker c.ask_again.result _ _ (λ position at. rw at refl) c.ask_again.ensures.position);
+      };
       fits = c.requires;
     }
 
@@ -26,8 +28,10 @@ returns-in-Unknown g c =
     let size = c.in-Unknown.length in
     let unknown : heard c.args.game.now.db c.args.line.now ≡ Unknown start size = sym c.command.ensures.value ∙ c.in-Unknown.is in
     record {
-      spoken = rw (unknown, shown_said (unknown_word (word_at c.args.line.now (start, size)) ++ text_of Prompt)) (rw c.word_at.ensures at c.refuse_word.ensures.spoken);
-      tried = rw unknown (tallied-none c.refuse_word.result (said_steps (unknown_word (word_at c.args.line.now (start, size)) ++ text_of Prompt)) c.args.tally.now (noted-said (unknown_word (word_at c.args.line.now (start, size)) ++ text_of Prompt)));
-      left = rw unknown (IfOk-weaker c.refuse_word.result _ _ (λ position at. rw at refl) c.refuse_word.ensures.position);
+      does = record {
+        spoken = rw (unknown, shown_said (unknown_word (word_at c.args.line.now (start, size)) ++ text_of Prompt)) (rw c.word_at.ensures at c.refuse_word.ensures.spoken);
+        tried = rw unknown (tallied-none c.refuse_word.result (said_steps (unknown_word (word_at c.args.line.now (start, size)) ++ text_of Prompt)) c.args.tally.now (noted-said (unknown_word (word_at c.args.line.now (start, size)) ++ text_of Prompt)));
+        left = rw unknown (IfOk-weaker c.refuse_word.result _ _ (λ position at. rw at refl) c.refuse_word.ensures.position);
+      };
       fits = c.requires;
     }

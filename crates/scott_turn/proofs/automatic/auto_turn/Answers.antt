@@ -1,7 +1,7 @@
 use Rattle.std.proofs.Common.{◌∙◌, refl, sym, ap}
 use Rattle.adv_draws.specs.Supply.{supplied}
 use Rattle.scott_turn.specs.Heads.{group_at}
-use Rattle.scott_turn.proofs.Entering.{turn_says, turn_tries, turn_state, turn_halt, turn_draws, turn_waits, waiting_says, one_taken}
+use Rattle.scott_turn.proofs.Entering.{turn_does, turn_draws, turn_waits, waiting_says, one_taken}
 use Rattle.scott_turn.specs.Tried.{tallied}
 use Rattle.scott_turn.proofs.automatic.auto_turn.Goals as goal
 
@@ -15,10 +15,7 @@ returns-in-Some g c =
     let draw = c.in-Some.draw in
     let given = c.in-Some.ensures.given in
     record {
-      spoken = turn_says game group s before.left now.left draw given c.enter.ensures.spoken;
-      tried = turn_tries game group s before.left now.left draw given c.enter.result c.args.tally.now c.enter.new.tally c.enter.ensures.tried;
-      state = turn_state game group s before.left now.left draw given c.enter.result c.enter.new.state c.enter.ensures.state;
-      halt = turn_halt game group s before.left now.left draw given c.enter.result c.enter.ensures.halt;
+      does = turn_does game group s before.left now.left draw given c.enter.result c.enter.new.state c.args.tally.now c.enter.new.tally c.enter.ensures.does;
       draws = turn_draws game group s before.left now.left draw given;
       taken = one_taken before now draw given c.in-Some.ensures.counted;
       fits = c.enter.ensures.fits;
@@ -33,10 +30,11 @@ returns-in-None g c =
     let none = c.in-None.ensures.none.0 refl in
     let waits = sym (turn_waits game group s draws none) in
     record {
-      spoken = waiting_says game group s draws none (g.C.Console.seen c.args.console.now);
-      tried = ap (λ t. tallied t.events c.args.tally.now) waits;
-      state = ap (λ t. t.value.state) waits;
-      halt = ap (λ t. t.value.halt) waits;
+      does = record {
+        spoken = waiting_says game group s draws none (g.C.Console.seen c.args.console.now);
+        tried = ap (λ t. tallied t.events c.args.tally.now) waits;
+        left = rw (ap (λ d. d.left) c.in-None.ensures.unchanged ∙ none) (ap (λ t. t.value) (turn_waits game group s draws none));
+      };
       draws = ap (λ d. d.left) c.in-None.ensures.unchanged ∙ none ∙ ap (λ t. t.value.draws) waits;
       taken = ap supplied c.in-None.ensures.unchanged;
       fits = c.requires.fits;

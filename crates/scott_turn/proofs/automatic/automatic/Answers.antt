@@ -37,13 +37,14 @@ returns-in_err-halt g c =
     let p = err_from_is_err_and c.from_residual.result c.from_residual.ensures.1 in
     let comes = comes_here game.db 0 head (rw c.in-Some.is at c.loop-next.invariant.at_head) in
     record {
-      spoken = rw (p.1)
-          (along_stop p.0 t.events (after_halt t.value.halt t (automatic game (groups_for game.db 0 (head + 1)))) (rw c.in-Some.is at c.loop-next.invariant.along)
+      does = rw (p.1) (record {
+        spoken = along_stop p.0 t.events (after_halt t.value.halt t (automatic game (groups_for game.db 0 (head + 1)))) (rw c.in-Some.is at c.loop-next.invariant.along)
           (automatic-prefix game head head c.loop-next.state c.loop-next.draws.left comes)
-          c.in_err-halt.ensures.spoken);
-      left = rw (p.1) tt;
+          c.in_err-halt.ensures.does.spoken;
+        tried = tt;
+        left = tt;
+      });
       taken = c.auto_turn.ensures.taken ∙ c.loop-next.invariant.taken;
-      tried = rw (p.1) tt;
       fits = c.auto_turn.ensures.fits;
     }
 
@@ -52,14 +53,15 @@ returns-then-not-goes_on g c =
     let game = c.args.game.now in
     let head = c.in-Some.head in
     let comes = comes_here game.db 0 head (rw c.in-Some.is at c.loop-next.invariant.at_head) in
-    let stop = automatic-stop game head head c.loop-next.state c.loop-next.draws.left comes c.in_ok-halt.halt c.in_ok-halt.ensures.halt (sym c.if-not-goes_on.ensures) in
+    let stop = automatic-stop game head head c.loop-next.state c.loop-next.draws.left comes c.in_ok-halt.halt (sym (ap (λ v. v.halt) c.in_ok-halt.ensures.does.left)) (sym c.if-not-goes_on.ensures) in
     record {
-      spoken = along_end (auto_turn game (group_at game.db head) c.loop-next.state c.loop-next.draws.left).events (rw c.in-Some.is at c.loop-next.invariant.along)
-          (ap (λ w. w.events) stop) c.in_ok-halt.ensures.spoken;
-      tried = tallied_end (auto_turn game (group_at game.db head) c.loop-next.state c.loop-next.draws.left).events (automatic game (groups_for game.db 0 head) c.loop-next.state c.loop-next.draws.left).events c.loop-next.tally
-          (rw c.in-Some.is at c.loop-next.invariant.tried) (ap (λ w. w.events) stop) c.in_ok-halt.ensures.tried;
-      left = along_value (rw c.in-Some.is at c.loop-next.invariant.along) ∙ ap (λ w. w.value) stop
-          ∙ rw (c.in_ok-halt.ensures.state, c.in_ok-halt.ensures.draws, c.in_ok-halt.ensures.halt) refl;
+      does = record {
+        spoken = along_end (auto_turn game (group_at game.db head) c.loop-next.state c.loop-next.draws.left).events (rw c.in-Some.is at c.loop-next.invariant.along)
+          (ap (λ w. w.events) stop) c.in_ok-halt.ensures.does.spoken;
+        tried = tallied_end (auto_turn game (group_at game.db head) c.loop-next.state c.loop-next.draws.left).events (automatic game (groups_for game.db 0 head) c.loop-next.state c.loop-next.draws.left).events c.loop-next.tally
+          (rw c.in-Some.is at c.loop-next.invariant.tried) (ap (λ w. w.events) stop) c.in_ok-halt.ensures.does.tried;
+        left = along_value (rw c.in-Some.is at c.loop-next.invariant.along) ∙ ap (λ w. w.value) stop ∙ c.in_ok-halt.ensures.does.left;
+      };
       taken = c.auto_turn.ensures.taken ∙ c.loop-next.invariant.taken;
       fits = c.auto_turn.ensures.fits;
     }
@@ -88,17 +90,17 @@ loop-next-preserved g c =
       tried = tallied_on t.events (automatic game (groups_for game.db 0 (line_of game.db c.head_after-next.result)) c.auto_turn.new.state c.auto_turn.new.draws.left).events
           (automatic game (groups_for game.db 0 head) c.loop-next.state c.loop-next.draws.left).events c.loop-next.tally
           (rw c.in-Some.is at c.loop-next.invariant.tried)
-          (ap (λ w. w.events) (automatic-on game head head c.loop-next.state c.loop-next.draws.left comes c.in_ok-halt.halt c.in_ok-halt.ensures.halt (sym c.if-not-goes_on.ensures)
-          c.auto_turn.new.state c.in_ok-halt.ensures.state c.auto_turn.new.draws.left c.in_ok-halt.ensures.draws
+          (ap (λ w. w.events) (automatic-on game head head c.loop-next.state c.loop-next.draws.left comes c.in_ok-halt.halt (sym (ap (λ v. v.halt) c.in_ok-halt.ensures.does.left)) (sym c.if-not-goes_on.ensures)
+          c.auto_turn.new.state (sym (ap (λ v. v.state) c.in_ok-halt.ensures.does.left)) c.auto_turn.new.draws.left c.in_ok-halt.ensures.draws
           ∙ ap (λ gs. after t.events (automatic game gs c.auto_turn.new.state c.auto_turn.new.draws.left)) (groups_for-found game.db 0 (head + 1) c.head_after-next.result rest)))
-          c.in_ok-halt.ensures.tried;
+          c.in_ok-halt.ensures.does.tried;
       fits = c.auto_turn.ensures.fits;
       taken = c.auto_turn.ensures.taken ∙ c.loop-next.invariant.taken;
       along = along_step t.events (automatic game (groups_for game.db 0 (line_of game.db c.head_after-next.result)) c.auto_turn.new.state c.auto_turn.new.draws.left) (rw c.in-Some.is at c.loop-next.invariant.along)
-          (automatic-on game head head c.loop-next.state c.loop-next.draws.left comes c.in_ok-halt.halt c.in_ok-halt.ensures.halt (sym c.if-not-goes_on.ensures)
-          c.auto_turn.new.state c.in_ok-halt.ensures.state c.auto_turn.new.draws.left c.in_ok-halt.ensures.draws
+          (automatic-on game head head c.loop-next.state c.loop-next.draws.left comes c.in_ok-halt.halt (sym (ap (λ v. v.halt) c.in_ok-halt.ensures.does.left)) (sym c.if-not-goes_on.ensures)
+          c.auto_turn.new.state (sym (ap (λ v. v.state) c.in_ok-halt.ensures.does.left)) c.auto_turn.new.draws.left c.in_ok-halt.ensures.draws
           ∙ ap (λ gs. after t.events (automatic game gs c.auto_turn.new.state c.auto_turn.new.draws.left)) (groups_for-found game.db 0 (head + 1) c.head_after-next.result rest))
-          c.in_ok-halt.ensures.spoken;
+          c.in_ok-halt.ensures.does.spoken;
     }
 
 pub returns : goal.returns
@@ -108,10 +110,12 @@ returns g c =
     let along = rw c.in_default.is at c.loop-next.invariant.along in
     let none = ap (λ gs. automatic game gs c.loop-next.state c.loop-next.draws.left) (groups_for-none db 0) in
     record {
-      spoken = along_done _ along (ap (λ w. w.events) none);
-      tried = tallied_end [] (automatic game (groups_for db 0 (length db.actions)) c.loop-next.state c.loop-next.draws.left).events c.loop-next.tally
+      does = record {
+        spoken = along_done _ along (ap (λ w. w.events) none);
+        tried = tallied_end [] (automatic game (groups_for db 0 (length db.actions)) c.loop-next.state c.loop-next.draws.left).events c.loop-next.tally
           (rw c.in_default.is at c.loop-next.invariant.tried) (ap (λ w. w.events) none) refl;
-      left = along_value along ∙ ap (λ w. w.value) none;
+        left = along_value along ∙ ap (λ w. w.value) none;
+      };
       taken = c.loop-next.invariant.taken;
       fits = c.loop-next.invariant.fits;
     }

@@ -13,10 +13,11 @@ pub returns-in_ok-ran : goal.returns-in_ok-ran
 returns-in_ok-ran g c =
     let enters : nat_le c.args.draw (noun_of (action_at c.args.game.now.db c.args.head).vocab) ≡ true = sym (rw c.db.ensures at c.lets_in.ensures) ∙ c.if-lets_in.true in
     record {
-      spoken = rw enters (as_ok _ c.in_ok-ran.ensures.spoken);
-      tried = rw enters c.in_ok-ran.ensures.tried;
-      state = rw enters c.in_ok-ran.ensures.state;
-      halt = rw enters (c.halt_of.ensures ∙ ap (λ ran. halt_of (over_of ran)) c.in_ok-ran.ensures.ran);
+      does = record {
+        spoken = rw enters (as_ok _ c.in_ok-ran.ensures.does.spoken);
+        tried = rw enters c.in_ok-ran.ensures.does.tried;
+        left = rw (enters, c.in_ok-ran.ensures.does.left, c.halt_of.ensures) refl;
+      };
       fits = c.try_group.ensures.fits;
     }
 
@@ -25,10 +26,11 @@ returns-in_err-ran g c =
     let enters : nat_le c.args.draw (noun_of (action_at c.args.game.now.db c.args.head).vocab) ≡ true = sym (rw c.db.ensures at c.lets_in.ensures) ∙ c.if-lets_in.true in
     let p = err_from_is_err_and c.from_residual.result c.from_residual.ensures.1 in
     record {
-      spoken = rw (p.1, enters) (as_err p.0 c.in_err-ran.ensures.spoken);
-      state = rw (p.1) tt;
-      halt = rw (p.1) tt;
-      tried = rw (p.1) tt;
+      does = record {
+        spoken = rw (p.1, enters) (as_err p.0 c.in_err-ran.ensures.does.spoken);
+        tried = rw (p.1) tt;
+        left = rw (p.1) tt;
+      };
       fits = c.try_group.ensures.fits;
     }
 
@@ -36,9 +38,6 @@ pub returns-else-lets_in : goal.returns-else-lets_in
 returns-else-lets_in g c =
     let out : nat_le c.args.draw (noun_of (action_at c.args.game.now.db c.args.head).vocab) ≡ false = sym (rw c.db.ensures at c.lets_in.ensures) ∙ c.if-lets_in.false in
     record {
-      spoken = rw out (nothing_said _ _);
-      tried = rw out refl;
-      state = rw out refl;
-      halt = rw out refl;
+      does = rw out (record { spoken = nothing_said _ _; tried = refl; left = refl });
       fits = c.requires.fits;
     }

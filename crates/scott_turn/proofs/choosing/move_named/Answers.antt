@@ -7,8 +7,10 @@ pub returns-then-is_refused : goal.returns-then-is_refused
 returns-then-is_refused g c =
     let refused : is_refused c.args.transfer c.args.game.now.db c.args.state.now ≡ true = sym (rw c.db.ensures at c.is_refused.ensures) ∙ c.if-is_refused.true in
     record {
-      spoken = rw refused (rw (c.text_in.ensures, c.style.ensures) at c.say_only.ensures.spoken);
-      left = rw refused (IfOk-weaker c.say_only.result _ _ (λ over is. rw is refl) c.say_only.ensures.over);
+      does = rw refused (record {
+        spoken = rw (c.text_in.ensures, c.style.ensures) at c.say_only.ensures.spoken;
+        left = IfOk-weaker c.say_only.result _ _ (λ over is. rw is refl) c.say_only.ensures.over;
+      });
       fits = c.requires.fits;
     }
 
@@ -16,7 +18,9 @@ pub returns-else-is_refused : goal.returns-else-is_refused
 returns-else-is_refused g c =
     let goes : is_refused c.args.transfer c.args.game.now.db c.args.state.now ≡ false = sym (rw c.db.ensures at c.is_refused.ensures) ∙ c.if-is_refused.false in
     record {
-      spoken = rw goes (rw (c.item_for-item.ensures.value, c.db-else-is_refused.ensures) at c.move_one.ensures.spoken);
-      left = rw goes (rw (c.item_for-item.ensures.value, c.db-else-is_refused.ensures) at c.move_one.ensures.left);
+      does = rw goes (record {
+        spoken = rw (c.item_for-item.ensures.value, c.db-else-is_refused.ensures) at c.move_one.ensures.does.spoken;
+        left = rw (c.item_for-item.ensures.value, c.db-else-is_refused.ensures) at c.move_one.ensures.does.left;
+      });
       fits = c.move_one.ensures.fits;
     }

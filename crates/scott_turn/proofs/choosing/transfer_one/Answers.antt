@@ -4,8 +4,10 @@ use Rattle.scott_turn.proofs.choosing.transfer_one.Goals as goal
 
 pub returns-in-None : goal.returns-in-None
 returns-in-None g c = record {
-  spoken = rw c.in-None.is (rw c.text.ensures at c.say_only.ensures.spoken);
-  left = rw c.in-None.is (IfOk-weaker c.say_only.result _ _ (λ over is. rw is refl) c.say_only.ensures.over);
+  does = rw c.in-None.is (record {
+    spoken = rw c.text.ensures at c.say_only.ensures.spoken;
+    left = IfOk-weaker c.say_only.result _ _ (λ over is. rw is refl) c.say_only.ensures.over;
+  });
   fits = c.requires.fits;
 }
 
@@ -14,7 +16,6 @@ move_named-requires g c = record { fits = c.requires.fits; there = rw c.in-Some.
 
 pub returns-in-Some : goal.returns-in-Some
 returns-in-Some g c = record {
-  spoken = rw c.in-Some.is c.move_named.ensures.spoken;
-  left = rw c.in-Some.is c.move_named.ensures.left;
+  does = rw c.in-Some.is c.move_named.ensures.does;
   fits = c.move_named.ensures.fits;
 }

@@ -13,13 +13,15 @@ returns g c =
     let verb = c.args.command.verb in
     let noun = c.args.command.noun in
     let t = search_result game c.args.typed.now verb noun (groups game.db) c.args.state.now in
-    let state : c.search.new.state ≡ t.value.state = sym (ap (λ o. o.state) c.in_ok-found.ensures.left) in
-    let found : c.in_ok-found.found ≡ t.value.found = sym (ap (λ o. o.found) c.in_ok-found.ensures.left) in
+    let state : c.search.new.state ≡ t.value.state = sym (ap (λ o. o.state) c.in_ok-found.ensures.does.left) in
+    let found : c.in_ok-found.found ≡ t.value.found = sym (ap (λ o. o.found) c.in_ok-found.ensures.does.left) in
     record {
-      spoken = steps_then t.events (by_found t.value.found game c.args.typed.now verb noun t.value.state).events c.in_ok-found.ensures.spoken
-          (rw (state, found) at c.finish_command.ensures.spoken);
-      tried = tallied_then c.finish_command.result t.events (by_found t.value.found game c.args.typed.now verb noun t.value.state).events c.args.tally.now c.finish_command.new.tally c.in_ok-found.ensures.tried (rw (state, found) at c.finish_command.ensures.tried);
-      left = rw (state, found) at c.finish_command.ensures.left;
+      does = record {
+        spoken = steps_then t.events (by_found t.value.found game c.args.typed.now verb noun t.value.state).events c.in_ok-found.ensures.does.spoken
+          (rw (state, found) at c.finish_command.ensures.does.spoken);
+        tried = tallied_then c.finish_command.result t.events (by_found t.value.found game c.args.typed.now verb noun t.value.state).events c.args.tally.now c.finish_command.new.tally c.in_ok-found.ensures.does.tried (rw (state, found) at c.finish_command.ensures.does.tried);
+        left = rw (state, found) at c.finish_command.ensures.does.left;
+      };
       fits = c.finish_command.ensures.fits;
     }
 
@@ -31,8 +33,10 @@ returns-in_err-found g c =
     let t = search_result game c.args.typed.now verb noun (groups game.db) c.args.state.now in
     let p = err_from_is_err_and c.from_residual.result c.from_residual.ensures.1 in
     record {
-      spoken = rw (p.1) (steps_stop p.0 t.events (by_found t.value.found game c.args.typed.now verb noun t.value.state).events c.in_err-found.ensures.spoken);
-      left = rw (p.1) tt;
-      tried = rw (p.1) tt;
+      does = rw (p.1) (record {
+        spoken = steps_stop p.0 t.events (by_found t.value.found game c.args.typed.now verb noun t.value.state).events c.in_err-found.ensures.does.spoken;
+        tried = tt;
+        left = tt;
+      });
       fits = c.search.ensures.fits;
     }

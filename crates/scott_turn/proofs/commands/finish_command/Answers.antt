@@ -10,32 +10,24 @@ do_unmatched-requires-in-NoMatch g c = record { fits = c.requires.fits; there = 
 
 pub returns-in-Over : goal.returns-in-Over
 returns-in-Over g c = record {
-  spoken = rw c.in-Over.is (nothing_said _ _);
-  tried = rw c.in-Over.is refl;
-  left = rw c.in-Over.is refl;
+  does = rw c.in-Over.is (record { spoken = nothing_said _ _; tried = refl; left = refl });
   fits = c.requires.fits;
 }
 
 pub returns-in-Done : goal.returns-in-Done
 returns-in-Done g c = record {
-  spoken = rw c.in-Done.is (nothing_said _ _);
-  tried = rw c.in-Done.is refl;
-  left = rw c.in-Done.is refl;
+  does = rw c.in-Done.is (record { spoken = nothing_said _ _; tried = refl; left = refl });
   fits = c.requires.fits;
 }
 
 pub returns-in-Matched : goal.returns-in-Matched
 returns-in-Matched g c = record {
-  spoken = rw c.in-Matched.is c.do_unmatched.ensures.spoken;
-  tried = rw c.in-Matched.is c.do_unmatched.ensures.tried;
-  left = rw c.in-Matched.is c.do_unmatched.ensures.left;
+  does = rw c.in-Matched.is c.do_unmatched.ensures.does;
   fits = c.do_unmatched.ensures.fits;
 }
 
 pub returns-in-NoMatch : goal.returns-in-NoMatch
 returns-in-NoMatch g c = record {
-  spoken = rw c.in-NoMatch.is c.do_unmatched-in-NoMatch.ensures.spoken;
-  tried = rw c.in-NoMatch.is c.do_unmatched-in-NoMatch.ensures.tried;
-  left = rw c.in-NoMatch.is c.do_unmatched-in-NoMatch.ensures.left;
+  does = rw c.in-NoMatch.is c.do_unmatched-in-NoMatch.ensures.does;
   fits = c.do_unmatched-in-NoMatch.ensures.fits;
 }

@@ -10,13 +10,15 @@ pub returns : goal.returns
 returns g c =
     let game = c.args.game.now in
     let a = by_heard (heard game.db c.args.line.now) game c.args.line.now c.args.state.now in
-    let state : c.answer.new.state ≡ a.value.state = sym (ap (λ v. v.state) c.in_ok-position.ensures.left) in
-    let position : c.in_ok-position.position ≡ a.value.position = sym (ap (λ v. v.position) c.in_ok-position.ensures.left) in
+    let state : c.answer.new.state ≡ a.value.state = sym (ap (λ v. v.state) c.in_ok-position.ensures.does.left) in
+    let position : c.in_ok-position.position ≡ a.value.position = sym (ap (λ v. v.position) c.in_ok-position.ensures.does.left) in
     record {
-      spoken = steps_then a.events (advance game a.value.position a.value.state c.args.draws.now.left).events c.in_ok-position.ensures.spoken
-          (rw (state, position) at c.advance.ensures.spoken);
-      tried = tallied_then c.advance.result a.events (advance game a.value.position a.value.state c.args.draws.now.left).events c.args.tally.now c.advance.new.tally c.in_ok-position.ensures.tried (rw (state, position) at c.advance.ensures.tried);
-      left = rw (state, position) at c.advance.ensures.left;
+      does = record {
+        spoken = steps_then a.events (advance game a.value.position a.value.state c.args.draws.now.left).events c.in_ok-position.ensures.does.spoken
+          (rw (state, position) at c.advance.ensures.does.spoken);
+        tried = tallied_then c.advance.result a.events (advance game a.value.position a.value.state c.args.draws.now.left).events c.args.tally.now c.advance.new.tally c.in_ok-position.ensures.does.tried (rw (state, position) at c.advance.ensures.does.tried);
+        left = rw (state, position) at c.advance.ensures.does.left;
+      };
       fits = c.advance.ensures.fits;
       taken = c.advance.ensures.taken;
     }
@@ -27,9 +29,11 @@ returns-in_err-position g c =
     let a = by_heard (heard game.db c.args.line.now) game c.args.line.now c.args.state.now in
     let p = err_from_is_err_and c.from_residual.result c.from_residual.ensures.1 in
     record {
-      spoken = rw (p.1) (steps_stop p.0 a.events (advance game a.value.position a.value.state c.args.draws.now.left).events c.in_err-position.ensures.spoken);
-      left = rw (p.1) tt;
-      tried = rw (p.1) tt;
+      does = rw (p.1) (record {
+        spoken = steps_stop p.0 a.events (advance game a.value.position a.value.state c.args.draws.now.left).events c.in_err-position.ensures.does.spoken;
+        tried = tt;
+        left = tt;
+      });
       fits = c.answer.ensures.fits;
       taken = refl;
     }

@@ -7,9 +7,7 @@ pub returns-else-is_prompt : goal.returns-else-is_prompt
 returns-else-is_prompt g c =
     let dropped : is_prompt c.args.position ≡ false = sym c.is_prompt.ensures ∙ c.if-is_prompt.false in
     record {
-      spoken = rw dropped (nothing_said _ _);
-      tried = rw dropped refl;
-      left = rw dropped refl;
+      does = rw dropped (record { spoken = nothing_said _ _; tried = refl; left = refl });
       taken = refl;
       fits = c.requires;
     }

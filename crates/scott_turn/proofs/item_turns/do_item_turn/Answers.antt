@@ -16,9 +16,7 @@ returns-then-is_taken g c =
     let item : c.index-items-i.result ≡ item_at game.db i = get_or_read game.db.items i c.index-items-i.result c.requires.there (rw items at c.index-items-i.is) (record { text = []; place = 0 }) in
     let taken : is_taken c.args.transfer i (item_at game.db i) c.args.state.now ≡ true = sym (rw item at c.is_taken.ensures) ∙ c.if-is_taken.true in
     record {
-      spoken = rw taken c.take_item.ensures.spoken;
-      tried = rw taken c.take_item.ensures.tried;
-      left = rw taken c.take_item.ensures.left;
+      does = rw taken c.take_item.ensures.does;
       fits = c.take_item.ensures.fits;
     }
 
@@ -30,8 +28,6 @@ returns-else-is_taken g c =
     let item : c.index-items-i.result ≡ item_at game.db i = get_or_read game.db.items i c.index-items-i.result c.requires.there (rw items at c.index-items-i.is) (record { text = []; place = 0 }) in
     let passed : is_taken c.args.transfer i (item_at game.db i) c.args.state.now ≡ false = sym (rw item at c.is_taken.ensures) ∙ c.if-is_taken.false in
     record {
-      spoken = rw passed (nothing_said _ _);
-      tried = rw passed refl;
-      left = rw passed refl;
+      does = rw passed (record { spoken = nothing_said _ _; tried = refl; left = refl });
       fits = c.requires.fits;
     }

@@ -4,14 +4,12 @@ use Rattle.scott_turn.proofs.item_turns.finish_item.Goals as goal
 
 pub returns-in-Some : goal.returns-in-Some
 returns-in-Some g c = record {
-  spoken = rw c.in-Some.is (nothing_said _ _);
-  left = rw c.in-Some.is refl;
+  does = rw c.in-Some.is (record { spoken = nothing_said _ _; left = refl });
   fits = c.requires.fits;
 }
 
 pub returns-in-None : goal.returns-in-None
 returns-in-None g c = record {
-  spoken = rw c.in-None.is c.move_taken.ensures.spoken;
-  left = rw c.in-None.is c.move_taken.ensures.left;
+  does = rw c.in-None.is c.move_taken.ensures.does;
   fits = c.move_taken.ensures.fits;
 }

@@ -26,13 +26,13 @@ returns-in-Ok g c =
     let less : (seen c.take.new.self).bound < (seen c.args.console.now).bound = rw c.in-Ok-Got.field-0-is at c.in-Ok-Got.ensures.bounded in
     record {
       as_rules = next_answered (seen c.args.console.now) (seen c.take.new.self) (seen c.answer.new.console) ((seen c.args.console.now).left) c.args.game.now c.args.state.now c.answer.new.state c.take.new.line c.in-Ok.position
-          (rw c.in-Ok-Got.field-0-is at c.in-Ok-Got.ensures.lines) (rw c.in-Ok-Got.field-0-is at c.in-Ok-Got.ensures.taken) c.in-Ok.ensures.spoken c.in-Ok.ensures.left;
-      tried = next_tries ((seen c.args.console.now).left) ((seen c.take.new.self).left) c.args.game.now c.args.state.now c.take.new.line c.args.tally.now c.answer.new.tally (rw c.in-Ok-Got.field-0-is at c.in-Ok-Got.ensures.lines) c.in-Ok.ensures.tried;
-      falls = omega (arith, c.in-Ok.ensures.spoken.bounded);
-      bounded = omega (arith, c.in-Ok.ensures.spoken.bounded);
-      cause = cause_then c.in-Ok-Got.ensures.cause (cause_again _ c.in-Ok.ensures.spoken.cause);
+          (rw c.in-Ok-Got.field-0-is at c.in-Ok-Got.ensures.lines) (rw c.in-Ok-Got.field-0-is at c.in-Ok-Got.ensures.taken) c.in-Ok.ensures.does.spoken c.in-Ok.ensures.does.left;
+      tried = next_tries ((seen c.args.console.now).left) ((seen c.take.new.self).left) c.args.game.now c.args.state.now c.take.new.line c.args.tally.now c.answer.new.tally (rw c.in-Ok-Got.field-0-is at c.in-Ok-Got.ensures.lines) c.in-Ok.ensures.does.tried;
+      falls = omega (arith, c.in-Ok.ensures.does.spoken.bounded);
+      bounded = omega (arith, c.in-Ok.ensures.does.spoken.bounded);
+      cause = cause_then c.in-Ok-Got.ensures.cause (cause_again _ c.in-Ok.ensures.does.spoken.cause);
       fits = c.answer.ensures.fits;
-      ends = rw c.in-Ok.ensures.left at (c.answer_stands.ensures c.args.game.now c.take.new.line
+      ends = rw c.in-Ok.ensures.does.left at (c.answer_stands.ensures c.args.game.now c.take.new.line
           c.args.state.now);
     }
 
@@ -42,11 +42,11 @@ returns-in-Err-answer g c =
     let less : (seen c.take.new.self).bound < (seen c.args.console.now).bound = rw c.in-Ok-Got.field-0-is at c.in-Ok-Got.ensures.bounded in
     record {
       as_rules = next_part (seen c.args.console.now) (seen c.take.new.self) (seen c.answer.new.console) ((seen c.args.console.now).left) c.args.game.now c.args.state.now c.answer.new.state c.take.new.line c.in-Err-answer.fault
-          (rw c.in-Ok-Got.field-0-is at c.in-Ok-Got.ensures.lines) (rw c.in-Ok-Got.field-0-is at c.in-Ok-Got.ensures.taken) c.in-Err-answer.ensures.spoken;
+          (rw c.in-Ok-Got.field-0-is at c.in-Ok-Got.ensures.lines) (rw c.in-Ok-Got.field-0-is at c.in-Ok-Got.ensures.taken) c.in-Err-answer.ensures.does.spoken;
       tried = IfSome_always ((seen c.args.console.now).left) tt;
       falls = tt;
-      bounded = omega (arith, c.in-Err-answer.ensures.spoken.bounded);
-      cause = cause_then c.in-Ok-Got.ensures.cause (cause_fails _ c.in-Err-answer.ensures.spoken.cause);
+      bounded = omega (arith, c.in-Err-answer.ensures.does.spoken.bounded);
+      cause = cause_then c.in-Ok-Got.ensures.cause (cause_fails _ c.in-Err-answer.ensures.does.spoken.cause);
       fits = c.answer.ensures.fits;
       ends = tt;
     }

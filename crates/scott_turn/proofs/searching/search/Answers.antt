@@ -24,8 +24,8 @@ loop-next-init g c =
       along = rw (search_result-for game c.args.typed.now verb c.args.command.noun c.args.state.now, groups_for-found game.db verb 0 c.first_head-next.result c.first_head-next.ensures) (along_start _ _);
     }
 
-pub returns-in_err-found-clause-spoken : goal.returns-in_err-found-clause-spoken
-returns-in_err-found-clause-spoken g c =
+pub returns-in_err-found-clause-does : goal.returns-in_err-found-clause-does
+returns-in_err-found-clause-does g c =
     let game = c.args.game.now in
     let typed = c.args.typed.now in
     let verb = c.args.command.verb in
@@ -34,45 +34,31 @@ returns-in_err-found-clause-spoken g c =
     let t = search_turn (is_for_noun (noun_at game head) noun) game typed (group_at game.db head) c.loop-next.state in
     let p = err_from_is_err_and c.from_residual.result c.from_residual.ensures.1 in
     let comes = comes_here game.db verb head (rw c.in-Some.is at c.loop-next.invariant.at_head) in
-    rw (p.1)
-    (along_stop p.0 t.events (after_turn t.value.found t (search_result game typed verb noun (groups_for game.db verb (head + 1)))) (rw c.in-Some.is at c.loop-next.invariant.along)
-    (search_result-prefix game typed verb noun head head c.loop-next.state comes c.loop-next.before)
-    c.in_err-found.ensures.spoken)
+    rw (p.1) (record {
+      spoken = along_stop p.0 t.events (after_turn t.value.found t (search_result game typed verb noun (groups_for game.db verb (head + 1)))) (rw c.in-Some.is at c.loop-next.invariant.along)
+          (search_result-prefix game typed verb noun head head c.loop-next.state comes c.loop-next.before)
+          c.in_err-found.ensures.does.spoken;
+      tried = tt;
+      left = tt;
+    })
 
-pub returns-then-ends_search-clause-spoken : goal.returns-then-ends_search-clause-spoken
-returns-then-ends_search-clause-spoken g c =
+pub returns-then-ends_search-clause-does : goal.returns-then-ends_search-clause-does
+returns-then-ends_search-clause-does g c =
     let game = c.args.game.now in
+    let typed = c.args.typed.now in
     let verb = c.args.command.verb in
     let noun = c.args.command.noun in
     let head = c.in-Some.head in
+    let t = search_turn (is_for_noun (noun_at game head) noun) game typed (group_at game.db head) c.loop-next.state in
     let comes = comes_here game.db verb head (rw c.in-Some.is at c.loop-next.invariant.at_head) in
-    along_end (search_turn (is_for_noun (noun_at game head) noun) game c.args.typed.now (group_at game.db head) c.loop-next.state).events (rw c.in-Some.is at c.loop-next.invariant.along)
-    (ap (λ w. w.events) (search_result-end game c.args.typed.now verb noun head head c.loop-next.state comes c.in_ok-found.found c.loop-next.before c.in_ok-found.ensures.found (sym c.if-ends_search.ensures)))
-    c.in_ok-found.ensures.spoken
-
-pub returns-then-ends_search-clause-tried : goal.returns-then-ends_search-clause-tried
-returns-then-ends_search-clause-tried g c =
-    let game = c.args.game.now in
-    let verb = c.args.command.verb in
-    let noun = c.args.command.noun in
-    let head = c.in-Some.head in
-    let comes = comes_here game.db verb head (rw c.in-Some.is at c.loop-next.invariant.at_head) in
-    tallied_end (search_turn (is_for_noun (noun_at game head) noun) game c.args.typed.now (group_at game.db head) c.loop-next.state).events
-    (with_before c.loop-next.before (search_result game c.args.typed.now verb noun (groups_for game.db verb head) c.loop-next.state)).events c.loop-next.tally
-    (rw c.in-Some.is at c.loop-next.invariant.tried)
-    (ap (λ w. w.events) (search_result-end game c.args.typed.now verb noun head head c.loop-next.state comes c.in_ok-found.found c.loop-next.before c.in_ok-found.ensures.found (sym c.if-ends_search.ensures)))
-    c.in_ok-found.ensures.tried
-
-pub returns-then-ends_search-clause-left : goal.returns-then-ends_search-clause-left
-returns-then-ends_search-clause-left g c =
-    let game = c.args.game.now in
-    let verb = c.args.command.verb in
-    let noun = c.args.command.noun in
-    let head = c.in-Some.head in
-    let comes = comes_here game.db verb head (rw c.in-Some.is at c.loop-next.invariant.at_head) in
-    along_value (rw c.in-Some.is at c.loop-next.invariant.along)
-    ∙ ap (λ w. w.value) (search_result-end game c.args.typed.now verb noun head head c.loop-next.state comes c.in_ok-found.found c.loop-next.before c.in_ok-found.ensures.found (sym c.if-ends_search.ensures))
-    ∙ rw (c.in_ok-found.ensures.state, c.in_ok-found.ensures.found) refl
+    let along = rw c.in-Some.is at c.loop-next.invariant.along in
+    let last = search_result-end game typed verb noun head head c.loop-next.state comes c.in_ok-found.found c.loop-next.before (sym (ap (λ v. v.found) c.in_ok-found.ensures.does.left)) (sym c.if-ends_search.ensures) in
+    record {
+      spoken = along_end t.events along (ap (λ w. w.events) last) c.in_ok-found.ensures.does.spoken;
+      tried = tallied_end t.events (with_before c.loop-next.before (search_result game typed verb noun (groups_for game.db verb head) c.loop-next.state)).events c.loop-next.tally
+          (rw c.in-Some.is at c.loop-next.invariant.tried) (ap (λ w. w.events) last) c.in_ok-found.ensures.does.tried;
+      left = along_value along ∙ ap (λ w. w.value) last ∙ c.in_ok-found.ensures.does.left;
+    }
 
 pub search_turn-requires : goal.search_turn-requires
 search_turn-requires g c = record {
@@ -111,17 +97,17 @@ loop-next-preserved g c =
           (tallied_on t.events (with_before (at_least found before) (search_result game typed verb noun (groups_for game.db verb (line_of game.db c.head_after-next.result)) c.search_turn.new.state)).events
           (with_before before (search_result game typed verb noun (groups_for game.db verb head) c.loop-next.state)).events c.loop-next.tally
           (rw c.in-Some.is at c.loop-next.invariant.tried)
-          (ap (λ w. w.events) (search_result-on game typed verb noun head head c.loop-next.state comes found before c.in_ok-found.ensures.found (sym c.if-ends_search.ensures) c.loop-next.invariant.begun
-          c.search_turn.new.state c.in_ok-found.ensures.state
+          (ap (λ w. w.events) (search_result-on game typed verb noun head head c.loop-next.state comes found before (sym (ap (λ v. v.found) c.in_ok-found.ensures.does.left)) (sym c.if-ends_search.ensures) c.loop-next.invariant.begun
+          c.search_turn.new.state (sym (ap (λ v. v.state) c.in_ok-found.ensures.does.left))
           ∙ ap (λ gs. after t.events (with_before (at_least found before) (search_result game typed verb noun gs c.search_turn.new.state))) (groups_for-found game.db verb (head + 1) c.head_after-next.result rest)))
-          c.in_ok-found.ensures.tried);
+          c.in_ok-found.ensures.does.tried);
       begun = rw c.at_least-before.ensures (at_least-begun found before (sym c.if-ends_search.ensures) c.loop-next.invariant.begun);
       along = rw c.at_least-before.ensures
           (along_step t.events (with_before (at_least found before) (search_result game typed verb noun (groups_for game.db verb (line_of game.db c.head_after-next.result)) c.search_turn.new.state)) (rw c.in-Some.is at c.loop-next.invariant.along)
-          (search_result-on game typed verb noun head head c.loop-next.state comes found before c.in_ok-found.ensures.found (sym c.if-ends_search.ensures) c.loop-next.invariant.begun
-          c.search_turn.new.state c.in_ok-found.ensures.state
+          (search_result-on game typed verb noun head head c.loop-next.state comes found before (sym (ap (λ v. v.found) c.in_ok-found.ensures.does.left)) (sym c.if-ends_search.ensures) c.loop-next.invariant.begun
+          c.search_turn.new.state (sym (ap (λ v. v.state) c.in_ok-found.ensures.does.left))
           ∙ ap (λ gs. after t.events (with_before (at_least found before) (search_result game typed verb noun gs c.search_turn.new.state))) (groups_for-found game.db verb (head + 1) c.head_after-next.result rest))
-          c.in_ok-found.ensures.spoken);
+          c.in_ok-found.ensures.does.spoken);
     }
 
 pub returns : goal.returns
@@ -131,9 +117,11 @@ returns g c =
     let along = rw c.in_default.is at c.loop-next.invariant.along in
     let none = search_result-none game c.args.typed.now verb c.args.command.noun (length game.db.actions) c.loop-next.state c.loop-next.before (groups_for-none game.db verb) c.loop-next.invariant.begun in
     record {
-      spoken = along_done _ along (ap (λ w. w.events) none);
-      tried = tallied_end [] (with_before c.loop-next.before (search_result game c.args.typed.now verb c.args.command.noun (groups_for game.db verb (length game.db.actions)) c.loop-next.state)).events c.loop-next.tally
+      does = record {
+        spoken = along_done _ along (ap (λ w. w.events) none);
+        tried = tallied_end [] (with_before c.loop-next.before (search_result game c.args.typed.now verb c.args.command.noun (groups_for game.db verb (length game.db.actions)) c.loop-next.state)).events c.loop-next.tally
           (rw c.in_default.is at c.loop-next.invariant.tried) (ap (λ w. w.events) none) refl;
-      left = along_value along ∙ ap (λ w. w.value) none;
+        left = along_value along ∙ ap (λ w. w.value) none;
+      };
       fits = c.loop-next.invariant.fits;
     }

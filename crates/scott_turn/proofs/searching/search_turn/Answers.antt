@@ -12,10 +12,11 @@ pub returns-in_ok-ran : goal.returns-in_ok-ran
 returns-in_ok-ran g c =
     let meant : is_for_noun (noun_of (action_at c.args.game.now.db c.args.head).vocab) c.args.noun ≡ true = sym (rw c.db.ensures at c.is_meant.ensures) ∙ c.if-is_meant.true in
     record {
-      spoken = rw meant (as_ok _ c.in_ok-ran.ensures.spoken);
-      tried = rw meant c.in_ok-ran.ensures.tried;
-      state = rw meant c.in_ok-ran.ensures.state;
-      found = rw meant (c.found_of.ensures ∙ ap found_of c.in_ok-ran.ensures.ran);
+      does = record {
+        spoken = rw meant (as_ok _ c.in_ok-ran.ensures.does.spoken);
+        tried = rw meant c.in_ok-ran.ensures.does.tried;
+        left = rw (meant, c.in_ok-ran.ensures.does.left, c.found_of.ensures) refl;
+      };
       fits = c.try_group.ensures.fits;
     }
 
@@ -24,10 +25,11 @@ returns-in_err-ran g c =
     let meant : is_for_noun (noun_of (action_at c.args.game.now.db c.args.head).vocab) c.args.noun ≡ true = sym (rw c.db.ensures at c.is_meant.ensures) ∙ c.if-is_meant.true in
     let p = err_from_is_err_and c.from_residual.result c.from_residual.ensures.1 in
     record {
-      spoken = rw (p.1, meant) (as_err p.0 c.in_err-ran.ensures.spoken);
-      state = rw (p.1) tt;
-      found = rw (p.1) tt;
-      tried = rw (p.1) tt;
+      does = record {
+        spoken = rw (p.1, meant) (as_err p.0 c.in_err-ran.ensures.does.spoken);
+        tried = rw (p.1) tt;
+        left = rw (p.1) tt;
+      };
       fits = c.try_group.ensures.fits;
     }
 
@@ -35,9 +37,6 @@ pub returns-else-is_meant : goal.returns-else-is_meant
 returns-else-is_meant g c =
     let other : is_for_noun (noun_of (action_at c.args.game.now.db c.args.head).vocab) c.args.noun ≡ false = sym (rw c.db.ensures at c.is_meant.ensures) ∙ c.if-is_meant.false in
     record {
-      spoken = rw other (nothing_said _ _);
-      tried = rw other refl;
-      state = rw other refl;
-      found = rw other refl;
+      does = rw other (record { spoken = nothing_said _ _; tried = refl; left = refl });
       fits = c.requires.fits;
     }

@@ -1,7 +1,7 @@
-use Rattle.std.proofs.Common.{◌≡◌, ◌∙◌, ◌+◌, true, sym, ap}
+use Rattle.std.proofs.Common.{◌≡◌, ◌∙◌, ◌+◌, true, refl, sym, ap}
 use Rattle.scott_types.specs.declared.endings.Ran.TheVariants.{Passed}
 use Rattle.scott_rules.specs.Actions.{try_action}
-use Rattle.scott_rules.specs.Groups.{tail_tried, passed_or_over}
+use Rattle.scott_rules.specs.Groups.{tail_tried}
 use Rattle.scott_turn.specs.Heads.{tail_from, group_at}
 use Rattle.adv_io.proofs.Along.{as_ok, as_err, steps_then, steps_stop}
 use Rattle.scott_turn.proofs.Tries.{group-goes_on, group-prefix, tail_steps}
@@ -13,16 +13,17 @@ returns-in-Ok-try_tail g c =
     let game = c.args.game.now in
     let noun = c.args.noun.now in
     let t = try_action game noun c.args.head c.args.state.now in
-    let on : t.value.ran ≡ Passed true = sym c.in-Ok-Passed-true.ensures.ran ∙ c.in-Ok-Passed-true.field-0-is ∙ ap Passed c.in-Ok-Passed-true.field-0-0-test in
-    let goes = group-goes_on game noun (group_at game.db c.args.head) c.args.state.now on in
+    let head = c.in-Ok-Passed-true.ensures.does in
+    let on : t.value.ran ≡ Passed true = ap (λ v. v.ran) head.left ∙ c.in-Ok-Passed-true.field-0-is ∙ ap Passed c.in-Ok-Passed-true.field-0-0-test in
+    let state : c.try_action.new.state ≡ t.value.state = sym (ap (λ v. v.state) head.left) in
+    let rest = tail_tried game noun (tail_from game.db (c.args.head + 1)) t.value.state in
+    let tail = rw state at c.in-Ok-try_tail.ensures.does in
     record {
-      spoken = rw goes
-          (steps_then t.events (tail_tried game noun (tail_from game.db (c.args.head + 1)) t.value.state).events
-          c.in-Ok-Passed-true.ensures.spoken
-          (as_ok _ (rw c.in-Ok-Passed-true.ensures.state at c.in-Ok-try_tail.ensures.spoken)));
-      tried = rw goes (tallied_both t.events (tail_tried game noun (tail_from game.db (c.args.head + 1)) t.value.state).events c.args.tally.now c.in-Ok-Passed-true.ensures.tried (rw c.in-Ok-Passed-true.ensures.state at c.in-Ok-try_tail.ensures.tried));
-      state = rw goes (rw c.in-Ok-Passed-true.ensures.state at c.in-Ok-try_tail.ensures.state);
-      ran = rw goes (c.with_tail.ensures ∙ ap passed_or_over (rw c.in-Ok-Passed-true.ensures.state at c.in-Ok-try_tail.ensures.over));
+      does = rw (group-goes_on game noun (group_at game.db c.args.head) c.args.state.now on) (record {
+        spoken = steps_then t.events rest.events head.spoken (as_ok _ tail.spoken);
+        tried = tallied_both t.events rest.events c.args.tally.now head.tried tail.tried;
+        left = rw (tail.left, c.with_tail.ensures) refl;
+      });
       fits = c.try_tail.ensures.fits;
     }
 
@@ -31,15 +32,16 @@ returns-in-Err-try_tail g c =
     let game = c.args.game.now in
     let noun = c.args.noun.now in
     let t = try_action game noun c.args.head c.args.state.now in
-    let on : t.value.ran ≡ Passed true = sym c.in-Ok-Passed-true.ensures.ran ∙ c.in-Ok-Passed-true.field-0-is ∙ ap Passed c.in-Ok-Passed-true.field-0-0-test in
+    let on : t.value.ran ≡ Passed true = ap (λ v. v.ran) c.in-Ok-Passed-true.ensures.does.left ∙ c.in-Ok-Passed-true.field-0-is ∙ ap Passed c.in-Ok-Passed-true.field-0-0-test in
     record {
-      spoken = rw (group-goes_on game noun (group_at game.db c.args.head) c.args.state.now on)
+      does = record {
+        spoken = rw (group-goes_on game noun (group_at game.db c.args.head) c.args.state.now on)
           (steps_then t.events (tail_tried game noun (tail_from game.db (c.args.head + 1)) t.value.state).events
-          c.in-Ok-Passed-true.ensures.spoken
-          (as_err _ (rw c.in-Ok-Passed-true.ensures.state at c.in-Err-try_tail.ensures.spoken)));
-      tried = tt;
-      state = tt;
-      ran = tt;
+          c.in-Ok-Passed-true.ensures.does.spoken
+          (as_err _ (rw (sym (ap (λ v. v.state) c.in-Ok-Passed-true.ensures.does.left)) at c.in-Err-try_tail.ensures.does.spoken)));
+        tried = tt;
+        left = tt;
+      };
       fits = c.try_tail.ensures.fits;
     }
 
@@ -49,10 +51,11 @@ returns-in-Err g c =
     let noun = c.args.noun.now in
     let t = try_action game noun c.args.head c.args.state.now in
     record {
-      spoken = rw (group-prefix game noun (group_at game.db c.args.head) c.args.state.now)
-          (steps_stop c.in-Err.fault t.events (tail_steps t.value.ran game noun (group_at game.db c.args.head) t) c.in-Err.ensures.spoken);
-      tried = tt;
-      state = tt;
-      ran = tt;
+      does = record {
+        spoken = rw (group-prefix game noun (group_at game.db c.args.head) c.args.state.now)
+          (steps_stop c.in-Err.fault t.events (tail_steps t.value.ran game noun (group_at game.db c.args.head) t) c.in-Err.ensures.does.spoken);
+        tried = tt;
+        left = tt;
+      };
       fits = c.try_action.ensures.fits;
     }

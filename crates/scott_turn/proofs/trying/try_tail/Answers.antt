@@ -16,13 +16,13 @@ returns-in_err-over g c =
     let t = tail_action game noun line c.loop-state.state in
     let p = err_from_is_err_and c.from_residual.result c.from_residual.ensures.1 in
     record {
-      spoken = rw (p.1)
-          (along_stop p.0 t.events (after_part t.value.over t (tail_tried game noun (tail_from game.db (line + 1)))) c.loop-state.invariant.along
+      does = rw (p.1) (record {
+        spoken = along_stop p.0 t.events (after_part t.value.over t (tail_tried game noun (tail_from game.db (line + 1)))) c.loop-state.invariant.along
           (tail-prefix game noun line c.loop-state.state (rw c.db-in-loop-state.ensures at c.loop-state-test.ensures.1))
-          c.in_err-over.ensures.spoken);
-      state = rw (p.1) tt;
-      over = rw (p.1) tt;
-      tried = rw (p.1) tt;
+          c.in_err-over.ensures.does.spoken;
+        tried = tt;
+        left = tt;
+      });
       fits = c.try_tail_action.ensures.fits;
     }
 
@@ -32,13 +32,14 @@ returns-then-is_some g c =
     let noun = c.args.noun.now in
     let line = c.loop-state.line in
     let t = tail_action game noun line c.loop-state.state in
-    let last = tail-over game noun line c.loop-state.state c.in_ok-over.over c.in_ok-over.ensures.over (rw c.db-in-loop-state.ensures at c.loop-state-test.ensures.1) (sym c.if-is_some.ensures) in
+    let last = tail-over game noun line c.loop-state.state c.in_ok-over.over (sym (ap (λ v. v.over) c.in_ok-over.ensures.does.left)) (rw c.db-in-loop-state.ensures at c.loop-state-test.ensures.1) (sym c.if-is_some.ensures) in
     let whole = along_value c.loop-state.invariant.along ∙ ap (λ w. w.value) last in
     record {
-      spoken = along_end t.events c.loop-state.invariant.along (ap (λ w. w.events) last) c.in_ok-over.ensures.spoken;
-      tried = tallied_end t.events (tail_tried game noun (tail_from game.db line) c.loop-state.state).events c.loop-state.tally c.loop-state.invariant.tried (ap (λ w. w.events) last) c.in_ok-over.ensures.tried;
-      state = c.in_ok-over.ensures.state ∙ sym (ap (λ v. v.state) whole);
-      over = c.in_ok-over.ensures.over ∙ sym (ap (λ v. v.over) whole);
+      does = record {
+        spoken = along_end t.events c.loop-state.invariant.along (ap (λ w. w.events) last) c.in_ok-over.ensures.does.spoken;
+        tried = tallied_end t.events (tail_tried game noun (tail_from game.db line) c.loop-state.state).events c.loop-state.tally c.loop-state.invariant.tried (ap (λ w. w.events) last) c.in_ok-over.ensures.does.tried;
+        left = whole ∙ c.in_ok-over.ensures.does.left;
+      };
       fits = c.try_tail_action.ensures.fits;
     }
 
@@ -51,12 +52,12 @@ loop-state-preserved g c =
     record {
       few = c.loop-state.invariant.few;
       tried = tallied_on t.events (tail_tried game noun (tail_from game.db (line + 1)) c.try_tail_action.new.state).events (tail_tried game noun (tail_from game.db line) c.loop-state.state).events c.loop-state.tally c.loop-state.invariant.tried
-          (ap (λ w. w.events) (tail-on game noun line c.loop-state.state c.in_ok-over.over c.in_ok-over.ensures.over (rw c.db-in-loop-state.ensures at c.loop-state-test.ensures.1) (sym c.if-is_some.ensures) c.try_tail_action.new.state c.in_ok-over.ensures.state))
-          c.in_ok-over.ensures.tried;
+          (ap (λ w. w.events) (tail-on game noun line c.loop-state.state c.in_ok-over.over (sym (ap (λ v. v.over) c.in_ok-over.ensures.does.left)) (rw c.db-in-loop-state.ensures at c.loop-state-test.ensures.1) (sym c.if-is_some.ensures) c.try_tail_action.new.state (sym (ap (λ v. v.state) c.in_ok-over.ensures.does.left))))
+          c.in_ok-over.ensures.does.tried;
       fits = c.try_tail_action.ensures.fits;
       along = along_step t.events (tail_tried game noun (tail_from game.db (line + 1)) c.try_tail_action.new.state) c.loop-state.invariant.along
-          (tail-on game noun line c.loop-state.state c.in_ok-over.over c.in_ok-over.ensures.over (rw c.db-in-loop-state.ensures at c.loop-state-test.ensures.1) (sym c.if-is_some.ensures) c.try_tail_action.new.state c.in_ok-over.ensures.state)
-          c.in_ok-over.ensures.spoken;
+          (tail-on game noun line c.loop-state.state c.in_ok-over.over (sym (ap (λ v. v.over) c.in_ok-over.ensures.does.left)) (rw c.db-in-loop-state.ensures at c.loop-state-test.ensures.1) (sym c.if-is_some.ensures) c.try_tail_action.new.state (sym (ap (λ v. v.state) c.in_ok-over.ensures.does.left)))
+          c.in_ok-over.ensures.does.spoken;
     }
 
 pub returns : goal.returns
@@ -67,9 +68,10 @@ returns g c =
     let none = ap (λ lines. tail_tried game noun lines c.loop-state.state) (rw c.db-in-loop-state.ensures at c.loop-state-test.ensures) in
     let whole = along_value c.loop-state.invariant.along ∙ ap (λ w. w.value) none in
     record {
-      spoken = along_done _ c.loop-state.invariant.along (ap (λ w. w.events) none);
-      tried = tallied_end [] (tail_tried game noun (tail_from game.db line) c.loop-state.state).events c.loop-state.tally c.loop-state.invariant.tried (ap (λ w. w.events) none) refl;
-      state = sym (ap (λ v. v.state) whole);
-      over = sym (ap (λ v. v.over) whole);
+      does = record {
+        spoken = along_done _ c.loop-state.invariant.along (ap (λ w. w.events) none);
+        tried = tallied_end [] (tail_tried game noun (tail_from game.db line) c.loop-state.state).events c.loop-state.tally c.loop-state.invariant.tried (ap (λ w. w.events) none) refl;
+        left = whole;
+      };
       fits = c.loop-state.invariant.fits;
     }
