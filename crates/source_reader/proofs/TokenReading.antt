@@ -33,10 +33,6 @@ read t after = Ok (t, after)
 abbrev pub refused : Fault → Result (Token × Spot) Fault
 refused fault = Err fault
 
-one_reading : (t u : Token) (a b : Spot) → read t a ≡ read u b → (t ≡ u) × (a ≡ b)
-one_reading t u a b e =
-    let same : (t, a) ≡ (u, b) = cc in (ap (λ (x : Token × Spot). x.0) same, ap (λ (x : Token × Spot). x.1) same)
-
 one_refusal : (f g : Fault) → refused f ≡ refused g → f ≡ g
 one_refusal f g e = cc
 
