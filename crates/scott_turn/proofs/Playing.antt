@@ -115,221 +115,351 @@ next_part old mid new (Some (next ∷ others)) game s now line fault takes took 
     subst (λ l. GrewByPrefix old.history new.history (shown_of (next_answer game (l ∷ others) s))) takes.0
     (part_on old.history mid.history new.history (Take line ∷ []) (shown_of (by_heard (heard game.db line) game line s).events) took says.part)
 
--- ---- a round
+-- ---- where a play stands
 
--- a round that stopped before a line was wanted
-pub round_stops : {T : Type 0} {x : T} (old new : ConsoleView) (before : Option (List (List ℕ))) (game : Game) (position reached : Position) (s now : State) (draws rest : List ℕ)
-    → before ≡ old.left
-    → Speaks {E = ConsoleFault} old new (Ok x) (shown_of (advance game position s draws).events)
-    → (advance game position s draws).value ≡ record { position = reached; state = now; draws = rest } → is_prompt reached ≡ false
-    → IfSome before (λ lines. GoesRound old new (Ok (record { position = reached; stopped = true })) (go game position s lines draws) game now rest)
-round_stops old new None game position reached s now draws rest as_rules says leaves stops = tt
-round_stops old new (Some lines) game position reached s now draws rest as_rules says leaves stops = record {
-  went = record {
-    done = (advance game position s draws).events;
-    rest = lines;
-    grew = says.said;
-    lines = says.lines_stay ∙ sym as_rules;
-    whole_is =
-        go-stops game position s lines draws (ap (λ v. is_prompt v.position) leaves ∙ stops)
-        ∙ ap (λ v. traced (advance game position s draws).events (record { position = v.position; state = v.state; lines = lines; draws = v.draws })) leaves
-        ∙ ap (λ es. traced es (record { position = reached; state = now; lines = lines; draws = rest })) (sym (append-nil (advance game position s draws).events));
-  };
-  part = tt;
-}
+-- what the console shows, the position, the state, the draws that are left, and how often each line
+-- was tried
+pub record Point : Type 0 where
+  pub seen : ConsoleView
+  pub position : Position
+  pub state : State
+  pub draws : List ℕ
+  pub counts : List ℕ
 
--- a round that failed before its prompt
-pub round_fails : {T E : Type 0} {d : E} (old new : ConsoleView) (before : Option (List (List ℕ))) (game : Game) (position : Position) (s now : State) (draws rest : List ℕ) (fault : ConsoleFault)
-    → Speaks {T = T} old new (Err d) (shown_of (advance game position s draws).events)
-    → IfSome before (λ lines. GoesRound old new (Err fault) (go game position s lines draws) game now rest)
-round_fails old new None game position s now draws rest fault says = tt
-round_fails old new (Some lines) game position s now draws rest fault says =
-    let later = after_prompt game position s draws lines (is_prompt (advance game position s draws).value.position) refl in
+-- the play that goes on from there
+abbrev pub play_from : Game → Point → List (List ℕ) → Traced Step PlayEnd
+play_from game p lines = go game p.position p.state lines p.draws
+
+-- what is done up to the prompt, and where that ends
+abbrev pub up_from : Game → Point → Traced Step RoundEnd
+up_from game p = advance game p.position p.state p.draws
+
+abbrev pub end_of : Point → RoundEnd
+end_of p = record { position = p.position; state = p.state; draws = p.draws }
+
+-- ---- a round: from `here` up to `up`, and then to `to`
+
+module _ (game : Game) (here up : Point) (leaves : (up_from game here).value ≡ end_of up) where
+  -- one that stopped before a line was wanted
+  pub round_stops : {T : Type 0} {x : T} (before : Option (List (List ℕ))) → before ≡ here.seen.left
+      → Speaks {E = ConsoleFault} here.seen up.seen (Ok x) (shown_of (up_from game here).events)
+      → is_prompt up.position ≡ false → IfSome before (λ lines. GoesRound here.seen up.seen
+      (Ok (record { position = up.position; stopped = true })) (play_from game here lines)
+      game up.state up.draws)
+  round_stops None as_rules says stops = tt
+  round_stops (Some lines) as_rules says stops = record {
+    went = record {
+      done = (up_from game here).events;
+      rest = lines;
+      grew = says.said;
+      lines = says.lines_stay ∙ sym as_rules;
+      whole_is =
+          go-stops game here.position here.state lines here.draws
+          (ap (λ v. is_prompt v.position) leaves ∙ stops)
+          ∙ ap (λ v. traced (up_from game here).events (record {
+            position = v.position;
+            state = v.state;
+            lines = lines;
+            draws = v.draws;
+          })) leaves
+          ∙ ap (λ es. traced es (record {
+            position = up.position;
+            state = up.state;
+            lines = lines;
+            draws = up.draws;
+          })) (sym (append-nil (up_from game here).events));
+    };
+    part = tt;
+  }
+
+  module _ (to : Point) where
+    -- one whose line was due, and wasn't there
+    pub round_waits : {T : Type 0} {x : T} (before : Option (List (List ℕ)))
+        → before ≡ here.seen.left
+        → Speaks {E = ConsoleFault} here.seen up.seen (Ok x) (shown_of (up_from game here).events)
+        → IfSome up.seen.left (λ lines. AnswersNext up.seen to.seen game lines (Ok None) up.state to.state)
+        → IfSome before (λ lines. GoesRound here.seen to.seen
+        (Ok (record { position = up.position; stopped = true })) (play_from game here lines)
+        game to.state up.draws)
+    round_waits None as_rules says waits = tt
+    round_waits (Some lines) as_rules says waits = by_lines lines
+        (subst (λ o. IfSome o (λ ls. AnswersNext up.seen to.seen game ls (Ok None) up.state to.state))
+        (says.lines_stay ∙ sym as_rules) waits)
+      where
+        by_lines : (lines : List (List ℕ))
+            → AnswersNext up.seen to.seen game lines (Ok None) up.state to.state
+            → GoesRound here.seen to.seen (Ok (record { position = up.position; stopped = true }))
+            (play_from game here lines) game to.state up.draws
+        by_lines [] none = record {
+          went = record {
+            done = (up_from game here).events;
+            rest = [];
+            grew = none.0 ∙ says.said;
+            lines = none.1;
+            whole_is =
+                go-ends game here.position here.state here.draws
+                ∙ ap (λ v. traced (up_from game here).events (record {
+                  position = v.position;
+                  state = v.state;
+                  lines = [];
+                  draws = v.draws;
+                })) leaves
+                ∙ ap (λ r. traced (up_from game here).events (record {
+                  position = up.position;
+                  state = r;
+                  lines = [];
+                  draws = up.draws;
+                })) (sym none.2)
+                ∙ ap (λ es. traced es (record {
+                  position = up.position;
+                  state = to.state;
+                  lines = [];
+                  draws = up.draws;
+                })) (sym (append-nil (up_from game here).events));
+          };
+          part = tt;
+        }
+        by_lines (line ∷ others) none = absurd none
+
+    -- one whose line was answered
+    pub round_goes : {T : Type 0} {x : T} (before : Option (List (List ℕ)))
+        → before ≡ here.seen.left
+        → Speaks {E = ConsoleFault} here.seen up.seen (Ok x) (shown_of (up_from game here).events)
+        → is_prompt up.position ≡ true
+        → IfSome up.seen.left (λ lines. AnswersNext up.seen to.seen game lines
+        (Ok (Some to.position)) up.state to.state)
+        → IfSome before (λ lines. GoesRound here.seen to.seen
+        (Ok (record { position = to.position; stopped = false })) (play_from game here lines)
+        game to.state up.draws)
+    round_goes None as_rules says at goes = tt
+    round_goes (Some lines) as_rules says at goes = by_lines lines
+        (subst (λ o. IfSome o (λ ls. AnswersNext up.seen to.seen game ls (Ok (Some to.position))
+        up.state to.state)) (says.lines_stay ∙ sym as_rules) goes)
+      where
+        t : Traced Step RoundEnd
+        t = up_from game here
+
+        by_lines : (lines : List (List ℕ))
+            → AnswersNext up.seen to.seen game lines (Ok (Some to.position)) up.state to.state
+            → GoesRound here.seen to.seen (Ok (record { position = to.position; stopped = false }))
+            (play_from game here lines) game to.state up.draws
+        by_lines [] some = absurd some
+        by_lines (line ∷ others) some = record {
+          went = record {
+            done = t.events ++ (answer game line up.state).events;
+            rest = others;
+            grew = rw (shown_of-append t.events (answer game line up.state).events)
+                (grown_on here.seen.history up.seen.history to.seen.history (shown_of t.events)
+                (shown_of (answer game line up.state).events) says.said some.0);
+            lines = some.1;
+            whole_is =
+                go-answers game here.position here.state line others here.draws
+                (ap (λ v. is_prompt v.position) leaves ∙ at)
+                ∙ ap (λ v. after t.events (after (answer game line v.state).events
+                (go game (answer game line v.state).value.position
+                (answer game line v.state).value.state others v.draws))) leaves
+                ∙ ap (λ v. after t.events (after (answer game line up.state).events
+                (go game v.position v.state others up.draws))) some.2
+                ∙ after-after t.events (answer game line up.state).events
+                (go game to.position to.state others up.draws);
+          };
+          part = tt;
+        }
+
+    -- one whose line couldn't be taken, or whose answer failed
+    pub round_breaks : {T : Type 0} {x : T} (before : Option (List (List ℕ)))
+        (fault : ConsoleFault) → before ≡ here.seen.left
+        → Speaks {E = ConsoleFault} here.seen up.seen (Ok x) (shown_of (up_from game here).events)
+        → is_prompt up.position ≡ true
+        → IfSome up.seen.left (λ lines. AnswersNext up.seen to.seen game lines (Err fault)
+        up.state to.state)
+        → IfSome before (λ lines. GoesRound here.seen to.seen (Err fault)
+        (play_from game here lines) game to.state up.draws)
+    round_breaks None fault as_rules says at breaks = tt
+    round_breaks (Some lines) fault as_rules says at breaks = by_lines lines
+        (subst (λ o. IfSome o (λ ls. AnswersNext up.seen to.seen game ls (Err fault)
+        up.state to.state)) (says.lines_stay ∙ sym as_rules) breaks)
+      where
+        t : Traced Step RoundEnd
+        t = up_from game here
+
+        by_lines : (lines : List (List ℕ))
+            → AnswersNext up.seen to.seen game lines (Err fault) up.state to.state
+            → GoesRound here.seen to.seen (Err fault) (play_from game here lines) game to.state
+            up.draws
+        by_lines [] part = record {
+          went = tt;
+          part = rw (ap (λ w. w.events) (go-ends game here.position here.state here.draws))
+              (subst (λ es. GrewByPrefix here.seen.history to.seen.history es)
+              (append-nil (shown_of t.events))
+              (part_on here.seen.history up.seen.history to.seen.history (shown_of t.events) []
+              says.said part));
+        }
+        by_lines (line ∷ others) part =
+            let later = (go game (answer game line t.value.state).value.position
+            (answer game line t.value.state).value.state others t.value.draws).events in
+            let whole = go-answers game here.position here.state line others here.draws
+            (ap (λ v. is_prompt v.position) leaves ∙ at) in
+            let answered = shown_of (answer game line up.state).events in
+            let grew = part_on here.seen.history up.seen.history to.seen.history (shown_of t.events)
+            (answered ++ shown_of later) says.said
+            (part_of_more up.seen.history to.seen.history answered (shown_of later) part) in
+            let all : shown_of t.events ++ (answered ++ shown_of later)
+            ≡ shown_of (play_from game here (line ∷ others)).events =
+            ap (λ v. shown_of t.events ++ (shown_of (answer game line v.state).events
+            ++ shown_of later)) (sym leaves)
+            ∙ ap (λ es. shown_of t.events ++ es)
+            (sym (shown_of-append (answer game line t.value.state).events later))
+            ∙ sym (shown_of-append t.events ((answer game line t.value.state).events ++ later))
+            ∙ ap (λ w. shown_of w.events) (sym whole) in
+            record {
+              went = tt;
+              part = subst (λ es. GrewByPrefix here.seen.history to.seen.history es) all grew;
+            }
+
+-- one that failed before its prompt
+pub round_fails : {T E : Type 0} {d : E} (game : Game) (here up : Point)
+    (before : Option (List (List ℕ))) (fault : ConsoleFault)
+    → Speaks {T = T} here.seen up.seen (Err d) (shown_of (up_from game here).events)
+    → IfSome before (λ lines. GoesRound here.seen up.seen (Err fault) (play_from game here lines)
+    game up.state up.draws)
+round_fails game here up None fault says = tt
+round_fails game here up (Some lines) fault says =
+    let t = up_from game here in
+    let later = after_prompt game here.position here.state here.draws lines
+    (is_prompt t.value.position) refl in
     record {
       went = tt;
-      part = rw (later.1, shown_of-append (advance game position s draws).events later.0)
-          (part_of_more old.history new.history (shown_of (advance game position s draws).events) (shown_of later.0) says.part);
+      part = rw (later.1, shown_of-append t.events later.0)
+          (part_of_more here.seen.history up.seen.history (shown_of t.events) (shown_of later.0)
+          says.part);
     }
-
--- a round whose line was due, and wasn't there
-pub round_waits : {T : Type 0} {x : T} (old mid new : ConsoleView) (before : Option (List (List ℕ))) (game : Game) (position reached : Position) (s now last : State) (draws rest : List ℕ)
-    → before ≡ old.left
-    → Speaks {E = ConsoleFault} old mid (Ok x) (shown_of (advance game position s draws).events)
-    → (advance game position s draws).value ≡ record { position = reached; state = now; draws = rest }
-    → IfSome mid.left (λ lines. AnswersNext mid new game lines (Ok None) now last)
-    → IfSome before (λ lines. GoesRound old new (Ok (record { position = reached; stopped = true })) (go game position s lines draws) game last rest)
-round_waits old mid new None game position reached s now last draws rest as_rules says leaves waits = tt
-round_waits old mid new (Some lines) game position reached s now last draws rest as_rules says leaves waits =
-    by_actions lines (subst (λ o. IfSome o (λ ls. AnswersNext mid new game ls (Ok None) now last)) (says.lines_stay ∙ sym as_rules) waits)
-  where
-    by_actions : (lines : List (List ℕ)) → AnswersNext mid new game lines (Ok None) now last
-        → GoesRound old new (Ok (record { position = reached; stopped = true })) (go game position s lines draws) game last rest
-    by_actions [] none = record {
-      went = record {
-        done = (advance game position s draws).events;
-        rest = [];
-        grew = none.0 ∙ says.said;
-        lines = none.1;
-        whole_is =
-            go-ends game position s draws
-            ∙ ap (λ v. traced (advance game position s draws).events (record { position = v.position; state = v.state; lines = []; draws = v.draws })) leaves
-            ∙ ap (λ r. traced (advance game position s draws).events (record { position = reached; state = r; lines = []; draws = rest })) (sym none.2)
-            ∙ ap (λ es. traced es (record { position = reached; state = last; lines = []; draws = rest })) (sym (append-nil (advance game position s draws).events));
-      };
-      part = tt;
-    }
-    by_actions (line ∷ others) none = absurd none
-
--- a round whose line was answered
-pub round_goes : {T : Type 0} {x : T} (old mid new : ConsoleView) (before : Option (List (List ℕ))) (game : Game) (position reached later : Position) (s now last : State) (draws rest : List ℕ)
-    → before ≡ old.left
-    → Speaks {E = ConsoleFault} old mid (Ok x) (shown_of (advance game position s draws).events)
-    → (advance game position s draws).value ≡ record { position = reached; state = now; draws = rest } → is_prompt reached ≡ true
-    → IfSome mid.left (λ lines. AnswersNext mid new game lines (Ok (Some later)) now last)
-    → IfSome before (λ lines. GoesRound old new (Ok (record { position = later; stopped = false })) (go game position s lines draws) game last rest)
-round_goes old mid new None game position reached later s now last draws rest as_rules says leaves at goes = tt
-round_goes old mid new (Some lines) game position reached later s now last draws rest as_rules says leaves at goes =
-    by_actions lines (subst (λ o. IfSome o (λ ls. AnswersNext mid new game ls (Ok (Some later)) now last)) (says.lines_stay ∙ sym as_rules) goes)
-  where
-    t : Traced Step RoundEnd
-    t = advance game position s draws
-
-    by_actions : (lines : List (List ℕ)) → AnswersNext mid new game lines (Ok (Some later)) now last
-        → GoesRound old new (Ok (record { position = later; stopped = false })) (go game position s lines draws) game last rest
-    by_actions [] some = absurd some
-    by_actions (line ∷ others) some = record {
-      went = record {
-        done = t.events ++ (answer game line now).events;
-        rest = others;
-        grew = rw (shown_of-append t.events (answer game line now).events) (grown_on old.history mid.history new.history (shown_of t.events) (shown_of (answer game line now).events) says.said some.0);
-        lines = some.1;
-        whole_is =
-            go-answers game position s line others draws (ap (λ v. is_prompt v.position) leaves ∙ at)
-            ∙ ap (λ v. after t.events (after (answer game line v.state).events (go game (answer game line v.state).value.position (answer game line v.state).value.state others v.draws))) leaves
-            ∙ ap (λ v. after t.events (after (answer game line now).events (go game v.position v.state others rest))) some.2
-            ∙ after-after t.events (answer game line now).events (go game later last others rest);
-      };
-      part = tt;
-    }
-
--- a round whose line couldn't be taken, or whose answer failed
-pub round_breaks : {T : Type 0} {x : T} (old mid new : ConsoleView) (before : Option (List (List ℕ))) (game : Game) (position reached : Position) (s now last : State) (draws rest : List ℕ) (d fault : ConsoleFault)
-    → before ≡ old.left
-    → Speaks {E = ConsoleFault} old mid (Ok x) (shown_of (advance game position s draws).events)
-    → (advance game position s draws).value ≡ record { position = reached; state = now; draws = rest } → is_prompt reached ≡ true
-    → IfSome mid.left (λ lines. AnswersNext mid new game lines (Err d) now last)
-    → IfSome before (λ lines. GoesRound old new (Err fault) (go game position s lines draws) game last rest)
-round_breaks old mid new None game position reached s now last draws rest d fault as_rules says leaves at breaks = tt
-round_breaks old mid new (Some lines) game position reached s now last draws rest d fault as_rules says leaves at breaks =
-    by_actions lines (subst (λ o. IfSome o (λ ls. AnswersNext mid new game ls (Err d) now last)) (says.lines_stay ∙ sym as_rules) breaks)
-  where
-    t : Traced Step RoundEnd
-    t = advance game position s draws
-
-    by_actions : (lines : List (List ℕ)) → AnswersNext mid new game lines (Err d) now last
-        → GoesRound old new (Err fault) (go game position s lines draws) game last rest
-    by_actions [] part = record {
-      went = tt;
-      part = rw (ap (λ w. w.events) (go-ends game position s draws)) (append_nothing (part_on old.history mid.history new.history (shown_of t.events) [] says.said part));
-    }
-      where
-        append_nothing : GrewByPrefix old.history new.history (shown_of t.events ++ []) → GrewByPrefix old.history new.history (shown_of t.events)
-        append_nothing p = subst (λ es. GrewByPrefix old.history new.history es) (append-nil (shown_of t.events)) p
-    by_actions (line ∷ others) part =
-        let rest_of = (go game (answer game line t.value.state).value.position (answer game line t.value.state).value.state others t.value.draws).events in
-        let whole = go-answers game position s line others draws (ap (λ v. is_prompt v.position) leaves ∙ at) in
-        let here = part_on old.history mid.history new.history (shown_of t.events) (shown_of (answer game line now).events ++ shown_of rest_of) says.said
-        (part_of_more mid.history new.history (shown_of (answer game line now).events) (shown_of rest_of) part) in
-        let all : shown_of t.events ++ (shown_of (answer game line now).events ++ shown_of rest_of) ≡ shown_of (go game position s (line ∷ others) draws).events =
-        ap (λ v. shown_of t.events ++ (shown_of (answer game line v.state).events ++ shown_of rest_of)) (sym leaves)
-        ∙ ap (λ es. shown_of t.events ++ es) (sym (shown_of-append (answer game line t.value.state).events rest_of))
-        ∙ sym (shown_of-append t.events ((answer game line t.value.state).events ++ rest_of))
-        ∙ ap (λ w. shown_of w.events) (sym whole) in
-        record { went = tt; part = subst (λ es. GrewByPrefix old.history new.history es) all here }
 
 -- ---- the whole play
 
--- what was shown so far, and the play that is still to come from here
-pub record Ahead (old now : ConsoleView) (whole : Traced Step PlayEnd) (game : Game) (position : Position) (s : State) (draws : List ℕ) : Type 0 where
+-- what was shown since the first point, and the play that is still to come from here
+pub record Ahead (game : Game) (first here : Point) (whole : Traced Step PlayEnd) : Type 0 where
   pub done : List Step
   pub rest : List (List ℕ)
-  pub grew : now.history ≡ grown old.history (shown_of done)
-  pub lines : now.left ≡ Some rest
-  pub whole_is : whole ≡ after done (go game position s rest draws)
+  pub grew : here.seen.history ≡ grown first.seen.history (shown_of done)
+  pub lines : here.seen.left ≡ Some rest
+  pub whole_is : whole ≡ after done (play_from game here rest)
 
 -- nothing was shown yet
-pub ahead_start : (console : ConsoleView) (before : Option (List (List ℕ))) (game : Game) (position : Position) (s : State) (draws : List ℕ) → before ≡ console.left
-    → IfSome before (λ lines. Ahead console console (go game position s lines draws) game position s draws)
-ahead_start console None game position s draws as_rules = tt
-ahead_start console (Some lines) game position s draws as_rules = record { done = []; rest = lines; grew = sym (grown-nil console.history); lines = sym as_rules; whole_is = refl }
+pub ahead_start : (game : Game) (first : Point) (before : Option (List (List ℕ)))
+    → before ≡ first.seen.left
+    → IfSome before (λ lines. Ahead game first first (play_from game first lines))
+ahead_start game first None as_rules = tt
+ahead_start game first (Some lines) as_rules = record {
+  done = [];
+  rest = lines;
+  grew = sym (grown-nil first.seen.history);
+  lines = sym as_rules;
+  whole_is = refl;
+}
 
-module _ (old now new : ConsoleView) (whole : List (List ℕ) → Traced Step PlayEnd) (game : Game) (position : Position) (s : State) (draws : List ℕ) where
-  -- a round after those so far
-  with_round : (r : Result Round ConsoleFault) (last : State) (rest : List ℕ) (Q : Traced Step PlayEnd → Type 0)
-      → ((w : Traced Step PlayEnd) (a : Ahead old now w game position s draws) → GoesRound now new r (go game position s a.rest draws) game last rest → Q w)
-      → (before : Option (List (List ℕ)))
-      → IfSome before (λ lines. Ahead old now (whole lines) game position s draws)
-      → IfSome now.left (λ lines. GoesRound now new r (go game position s lines draws) game last rest)
+-- a round after those so far, from `here` on to `to`
+module _ (game : Game) (first here to : Point) (whole : List (List ℕ) → Traced Step PlayEnd) where
+  abbrev pub SoFar : Option (List (List ℕ)) → Type 0
+  SoFar before = IfSome before (λ lines. Ahead game first here (whole lines))
+
+  abbrev pub RoundGives : Result Round ConsoleFault → Type 0
+  RoundGives r = IfSome here.seen.left (λ lines. GoesRound here.seen to.seen r
+      (play_from game here lines) game to.state to.draws)
+
+  with_round : (r : Result Round ConsoleFault) (Q : Traced Step PlayEnd → Type 0)
+      → ((w : Traced Step PlayEnd) (a : Ahead game first here w)
+      → GoesRound here.seen to.seen r (play_from game here a.rest) game to.state to.draws → Q w)
+      → (before : Option (List (List ℕ))) → SoFar before → RoundGives r
       → IfSome before (λ lines. Q (whole lines))
-  with_round r last rest Q step None ahead round = tt
-  with_round r last rest Q step (Some lines) ahead round =
-      step (whole lines) ahead (subst (λ o. IfSome o (λ ls. GoesRound now new r (go game position s ls draws) game last rest)) ahead.lines round)
+  with_round r Q step None ahead round = tt
+  with_round r Q step (Some lines) ahead round = step (whole lines) ahead
+      (subst (λ o. IfSome o (λ ls. GoesRound here.seen to.seen r (play_from game here ls) game
+      to.state to.draws)) ahead.lines round)
 
   -- one that goes on
-  pub ahead_step : (before : Option (List (List ℕ))) (round : Round) (last : State) (rest : List ℕ) → round.stopped ≡ false
-      → IfSome before (λ lines. Ahead old now (whole lines) game position s draws)
-      → IfSome now.left (λ lines. GoesRound now new (Ok round) (go game position s lines draws) game last rest)
-      → IfSome before (λ lines. Ahead old new (whole lines) game round.position last rest)
-  ahead_step before round last rest goes ahead went = with_round (Ok round) last rest (λ w. Ahead old new w game round.position last rest) step before ahead went
+  pub ahead_step : (before : Option (List (List ℕ))) (stopped : Bool) → stopped ≡ false
+      → SoFar before → RoundGives (Ok (record { position = to.position; stopped = stopped }))
+      → IfSome before (λ lines. Ahead game first to (whole lines))
+  ahead_step before stopped goes ahead went = with_round
+      (Ok (record { position = to.position; stopped = stopped })) (λ w. Ahead game first to w) step
+      before ahead went
     where
-      step : (w : Traced Step PlayEnd) (a : Ahead old now w game position s draws) → GoesRound now new (Ok round) (go game position s a.rest draws) game last rest → Ahead old new w game round.position last rest
+      step : (w : Traced Step PlayEnd) (a : Ahead game first here w)
+          → GoesRound here.seen to.seen (Ok (record { position = to.position; stopped = stopped }))
+          (play_from game here a.rest) game to.state to.draws → Ahead game first to w
       step w a g = record {
         done = a.done ++ g.went.done;
         rest = g.went.rest;
-        grew = rw (shown_of-append a.done g.went.done) (grown_on old.history now.history new.history (shown_of a.done) (shown_of g.went.done) a.grew g.went.grew);
+        grew = rw (shown_of-append a.done g.went.done) (grown_on first.seen.history
+            here.seen.history to.seen.history (shown_of a.done) (shown_of g.went.done) a.grew
+            g.went.grew);
         lines = g.went.lines;
         whole_is =
             a.whole_is
-            ∙ ap (after a.done) (g.went.whole_is ∙ ap (λ b. after g.went.done (from_there b game round.position last g.went.rest rest)) goes)
-            ∙ after-after a.done g.went.done (go game round.position last g.went.rest rest);
+            ∙ ap (after a.done) (g.went.whole_is ∙ ap (λ b. after g.went.done
+            (from_there b game to.position to.state g.went.rest to.draws)) goes)
+            ∙ after-after a.done g.went.done (play_from game to g.went.rest);
       }
 
   -- one where the play stopped
-  pub ahead_end : (before : Option (List (List ℕ))) (round : Round) (last : State) (rest : List ℕ) → round.stopped ≡ true
-      → IfSome before (λ lines. Ahead old now (whole lines) game position s draws)
-      → IfSome now.left (λ lines. GoesRound now new (Ok round) (go game position s lines draws) game last rest)
-      → IfSome before (λ lines. PlaysOut old new (Ok round.position) (whole lines) last rest)
-  ahead_end before round last rest stops ahead went = with_round (Ok round) last rest (λ w. PlaysOut old new (Ok round.position) w last rest) step before ahead went
+  pub ahead_end : (before : Option (List (List ℕ))) (stopped : Bool) → stopped ≡ true
+      → SoFar before → RoundGives (Ok (record { position = to.position; stopped = stopped }))
+      → IfSome before (λ lines.
+      PlaysOut first.seen to.seen (Ok to.position) (whole lines) to.state to.draws)
+  ahead_end before stopped stops ahead went = with_round
+      (Ok (record { position = to.position; stopped = stopped }))
+      (λ w. PlaysOut first.seen to.seen (Ok to.position) w to.state to.draws) step before ahead went
     where
-      step : (w : Traced Step PlayEnd) (a : Ahead old now w game position s draws) → GoesRound now new (Ok round) (go game position s a.rest draws) game last rest → PlaysOut old new (Ok round.position) w last rest
+      step : (w : Traced Step PlayEnd) (a : Ahead game first here w)
+          → GoesRound here.seen to.seen (Ok (record { position = to.position; stopped = stopped }))
+          (play_from game here a.rest) game to.state to.draws
+          → PlaysOut first.seen to.seen (Ok to.position) w to.state to.draws
       step w a g =
-          let is : w ≡ traced (a.done ++ (g.went.done ++ [])) (record { position = round.position; state = last; lines = g.went.rest; draws = rest }) =
-          a.whole_is ∙ ap (after a.done) (g.went.whole_is ∙ ap (λ b. after g.went.done (from_there b game round.position last g.went.rest rest)) stops) in
+          let is : w ≡ traced (a.done ++ (g.went.done ++ [])) (record {
+            position = to.position;
+            state = to.state;
+            lines = g.went.rest;
+            draws = to.draws;
+          }) = a.whole_is ∙ ap (after a.done) (g.went.whole_is ∙ ap (λ b. after g.went.done
+          (from_there b game to.position to.state g.went.rest to.draws)) stops) in
           record {
             shows =
-                grown_on old.history now.history new.history (shown_of a.done) (shown_of g.went.done) a.grew g.went.grew
-                ∙ ap (grown old.history) (sym (shown_of-append a.done g.went.done)
+                grown_on first.seen.history here.seen.history to.seen.history (shown_of a.done)
+                (shown_of g.went.done) a.grew g.went.grew
+                ∙ ap (grown first.seen.history) (sym (shown_of-append a.done g.went.done)
                 ∙ ap (λ es. shown_of (a.done ++ es)) (sym (append-nil g.went.done))
                 ∙ ap (λ t. shown_of t.events) (sym is));
             part = tt;
             lines = g.went.lines ∙ ap (λ t. Some t.value.lines) (sym is);
-            leaves = ap (λ t. t.value) is ∙ ap (λ ls. record { position = round.position; state = last; lines = ls; draws = rest }) (ap (λ t. t.value.lines) (sym is));
+            leaves = ap (λ t. t.value) is ∙ ap (λ ls. record {
+              position = to.position;
+              state = to.state;
+              lines = ls;
+              draws = to.draws;
+            }) (ap (λ t. t.value.lines) (sym is));
           }
 
   -- one that failed
-  pub ahead_fail : (before : Option (List (List ℕ))) (d fault : ConsoleFault) (last : State) (rest : List ℕ)
-      → IfSome before (λ lines. Ahead old now (whole lines) game position s draws)
-      → IfSome now.left (λ lines. GoesRound now new (Err d) (go game position s lines draws) game last rest)
-      → IfSome before (λ lines. PlaysOut old new (Err fault) (whole lines) last rest)
-  ahead_fail before d fault last rest ahead went = with_round (Err d) last rest (λ w. PlaysOut old new (Err fault) w last rest) step before ahead went
+  pub ahead_fail : (before : Option (List (List ℕ))) (d fault : ConsoleFault)
+      → SoFar before → RoundGives (Err d)
+      → IfSome before (λ lines.
+      PlaysOut first.seen to.seen (Err fault) (whole lines) to.state to.draws)
+  ahead_fail before d fault ahead went = with_round (Err d)
+      (λ w. PlaysOut first.seen to.seen (Err fault) w to.state to.draws) step before ahead went
     where
-      step : (w : Traced Step PlayEnd) (a : Ahead old now w game position s draws) → GoesRound now new (Err d) (go game position s a.rest draws) game last rest → PlaysOut old new (Err fault) w last rest
+      step : (w : Traced Step PlayEnd) (a : Ahead game first here w)
+          → GoesRound here.seen to.seen (Err d) (play_from game here a.rest) game to.state to.draws
+          → PlaysOut first.seen to.seen (Err fault) w to.state to.draws
       step w a g = record {
         shows = tt;
         part =
-            let all : shown_of a.done ++ shown_of (go game position s a.rest draws).events ≡ shown_of w.events =
-            sym (shown_of-append a.done (go game position s a.rest draws).events) ∙ ap (λ t. shown_of t.events) (sym a.whole_is) in
-            subst (λ es. GrewByPrefix old.history new.history es) all (part_on old.history now.history new.history (shown_of a.done) (shown_of (go game position s a.rest draws).events) a.grew g.part);
+            let later = (play_from game here a.rest).events in
+            let all : shown_of a.done ++ shown_of later ≡ shown_of w.events =
+            sym (shown_of-append a.done later) ∙ ap (λ t. shown_of t.events) (sym a.whole_is) in
+            subst (λ es. GrewByPrefix first.seen.history to.seen.history es) all
+            (part_on first.seen.history here.seen.history to.seen.history (shown_of a.done)
+            (shown_of later) a.grew g.part);
         lines = tt;
         leaves = tt;
       }

@@ -4,7 +4,7 @@ use Rattle.std.proofs.lemmas.List.{append-nil}
 use Rattle.std.proofs.lemmas.List.Elements.{filter_map-append}
 use Rattle.adv_counts.specs.Counts.{counted}
 use Rattle.adv_counts.proofs.Counting.{counts_add}
-use Rattle.adv_io.specs.Console.{ConsoleView, TakesFrom}
+use Rattle.adv_io.specs.Console.{TakesFrom}
 use Rattle.adv_io.specs.declared.consoles.Taken.TheVariants.{Got, End}
 use Rattle.adv_io.specs.Steps.{Took, Step, Traced, after, said_steps, noted_of, noted, traced_text}
 use Rattle.adv_io.specs.declared.faults.ConsoleFault.{ConsoleFault}
@@ -26,14 +26,13 @@ use Rattle.scott_rules.specs.Words.{root}
 use Rattle.scott_rules.specs.Transfer.{is_refused, item_named, one_moved, one_from, one_transferred}
 use Rattle.scott_rules.specs.Rounds.{look_due, RoundEnd, Answered, advance, by_heard, answer, prompted, turn_ended, no_way, moved_to, walk_result}
 use Rattle.scott_rules.specs.Play.{PlayEnd, go}
-use Rattle.scott_turn.specs.declared.rounds.Round.{Round}
 use Rattle.scott_turn.specs.Tried.{tallied, TalliesOn}
 use Rattle.scott_turn.specs.Fed.{after_line}
 use Rattle.scott_rules.specs.Commands.{heard}
 use Rattle.scott_turn.specs.Rounds.{is_prompt, next_answer, AnswersNext, from_there, GoesRound}
 use Rattle.scott_turn.specs.ItemTurns.{moved_or_not, after_actions}
 use Rattle.scott_turn.proofs.Walks.{beyond_exit}
-use Rattle.scott_turn.proofs.Playing.{go-stops, go-ends, go-answers, Ahead}
+use Rattle.scott_turn.proofs.Playing.{Point, play_from, up_from, end_of, SoFar, RoundGives, go-stops, go-ends, go-answers}
 
 -- ---- one part after another
 
@@ -156,78 +155,95 @@ one-none t game (Some noun) s = one_from-none (is_refused t game.db s) t game no
 
 -- ---- rounds
 
-module _ (game : Game) (position reached : Position) (s now : State) (draws rest old mid : List ℕ)
-    (leaves : (advance game position s draws).value
-    ≡ record { position = reached; state = now; draws = rest })
-    (part : mid ≡ tallied (advance game position s draws).events old) where
+module _ (game : Game) (here up : Point) (leaves : (up_from game here).value ≡ end_of up)
+    (part : up.counts ≡ tallied (up_from game here).events here.counts) where
   -- a round that stopped before a line was wanted
-  pub tries_stops : (before new : Option (List (List ℕ))) → is_prompt reached ≡ false
-      → IfSome before (λ lines. IfSome new (λ left. TalliesOn (go game position s lines draws) old
-      (from_there true game reached now left rest) mid))
-  tries_stops None new stops = tt
-  tries_stops (Some lines) None stops = tt
-  tries_stops (Some lines) (Some left) stops =
-      ap (λ w. tallied w.events old) (go-stops game position s lines draws
-      (ap (λ v. is_prompt v.position) leaves ∙ stops))
-      ∙ sym part
-
-  -- a round whose line was due, and wasn't there
-  pub tries_waits : (c d : ConsoleView) (before new : Option (List (List ℕ))) (last : State)
-      (counts : List ℕ) → c.left ≡ before
-      → IfSome c.left (λ lines. AnswersNext c d game lines (Ok None) now last)
-      → IfSome c.left (λ lines. counts ≡ tallied (next_answer game lines now) mid)
-      → IfSome before (λ lines. IfSome new (λ left. TalliesOn (go game position s lines draws) old
-      (from_there true game reached last left rest) counts))
-  tries_waits c d None new last counts same waits tried = tt
-  tries_waits c d (Some lines) None last counts same waits tried = tt
-  tries_waits c d (Some lines) (Some left) last counts same waits tried = by lines
-      (subst (λ o. IfSome o (λ ls. AnswersNext c d game ls (Ok None) now last)) same waits)
-      (subst (λ o. IfSome o (λ ls. counts ≡ tallied (next_answer game ls now) mid)) same tried)
+  pub tries_stops : (before : Option (List (List ℕ))) → is_prompt up.position ≡ false
+      → IfSome before (λ lines. IfSome up.seen.left (λ left. TalliesOn (play_from game here lines)
+      here.counts (from_there true game up.position up.state left up.draws) up.counts))
+  tries_stops before stops = by before up.seen.left
     where
-      by : (lines : List (List ℕ)) → AnswersNext c d game lines (Ok None) now last
-          → counts ≡ tallied (next_answer game lines now) mid
-          → TalliesOn (go game position s lines draws) old
-          (from_there true game reached last left rest) counts
-      by [] none same = ap (λ w. tallied w.events old) (go-ends game position s draws)
-          ∙ sym part ∙ sym same
-      by (line ∷ others) none same = absurd none
+      by : (before new : Option (List (List ℕ)))
+          → IfSome before (λ lines. IfSome new (λ left. TalliesOn (play_from game here lines)
+          here.counts (from_there true game up.position up.state left up.draws) up.counts))
+      by None new = tt
+      by (Some lines) None = tt
+      by (Some lines) (Some left) =
+          ap (λ w. tallied w.events here.counts)
+          (go-stops game here.position here.state lines here.draws
+          (ap (λ v. is_prompt v.position) leaves ∙ stops))
+          ∙ sym part
 
-  -- a round whose line was answered
-  pub tries_goes : (c d : ConsoleView) (before : Option (List (List ℕ))) (later : Position)
-      (last : State) (counts : List ℕ) → c.left ≡ before → is_prompt reached ≡ true
-      → IfSome c.left (λ lines. AnswersNext c d game lines (Ok (Some later)) now last)
-      → IfSome c.left (λ lines. counts ≡ tallied (next_answer game lines now) mid)
-      → IfSome before (λ lines. IfSome d.left (λ left. TalliesOn
-      (go game position s lines draws) old (from_there false game later last left rest) counts))
-  tries_goes c d None later last counts same at goes tried = tt
-  tries_goes c d (Some lines) later last counts same at goes tried = by lines
-      (subst (λ o. IfSome o (λ ls. AnswersNext c d game ls (Ok (Some later)) now last)) same goes)
-      (subst (λ o. IfSome o (λ ls. counts ≡ tallied (next_answer game ls now) mid)) same tried)
-    where
-      t : Traced Step RoundEnd
-      t = advance game position s draws
+  module _ (to : Point) where
+    -- a round whose line was due, and wasn't there
+    pub tries_waits : (before : Option (List (List ℕ))) → up.seen.left ≡ before
+        → IfSome up.seen.left (λ lines.
+        AnswersNext up.seen to.seen game lines (Ok None) up.state to.state)
+        → IfSome up.seen.left (λ lines. to.counts ≡ tallied (next_answer game lines up.state) up.counts)
+        → IfSome before (λ lines. IfSome to.seen.left (λ left. TalliesOn (play_from game here lines)
+        here.counts (from_there true game up.position to.state left up.draws) to.counts))
+    tries_waits None same waits tried = tt
+    tries_waits (Some lines) same waits tried = by to.seen.left lines
+        (subst (λ o. IfSome o (λ ls. AnswersNext up.seen to.seen game ls (Ok None) up.state to.state))
+        same waits)
+        (subst (λ o. IfSome o (λ ls. to.counts ≡ tallied (next_answer game ls up.state) up.counts))
+        same tried)
+      where
+        by : (new : Option (List (List ℕ))) (lines : List (List ℕ))
+            → AnswersNext up.seen to.seen game lines (Ok None) up.state to.state
+            → to.counts ≡ tallied (next_answer game lines up.state) up.counts
+            → IfSome new (λ left. TalliesOn (play_from game here lines) here.counts
+            (from_there true game up.position to.state left up.draws) to.counts)
+        by None lines none same = tt
+        by (Some left) [] none same =
+            ap (λ w. tallied w.events here.counts)
+            (go-ends game here.position here.state here.draws)
+            ∙ sym part ∙ sym same
+        by (Some left) (line ∷ others) none same = absurd none
 
-      a : List ℕ → State → Traced Step Answered
-      a line r = answer game line r
+    -- a round whose line was answered
+    pub tries_goes : (before : Option (List (List ℕ))) → up.seen.left ≡ before
+        → is_prompt up.position ≡ true
+        → IfSome up.seen.left (λ lines.
+        AnswersNext up.seen to.seen game lines (Ok (Some to.position)) up.state to.state)
+        → IfSome up.seen.left (λ lines. to.counts ≡ tallied (next_answer game lines up.state) up.counts)
+        → IfSome before (λ lines. IfSome to.seen.left (λ left. TalliesOn (play_from game here lines)
+        here.counts (from_there false game to.position to.state left up.draws) to.counts))
+    tries_goes None same at goes tried = tt
+    tries_goes (Some lines) same at goes tried = by lines
+        (subst (λ o. IfSome o (λ ls. AnswersNext up.seen to.seen game ls (Ok (Some to.position))
+        up.state to.state)) same goes)
+        (subst (λ o. IfSome o (λ ls. to.counts ≡ tallied (next_answer game ls up.state) up.counts))
+        same tried)
+      where
+        t : Traced Step RoundEnd
+        t = up_from game here
 
-      by : (lines : List (List ℕ)) → AnswersNext c d game lines (Ok (Some later)) now last
-          → counts ≡ tallied (next_answer game lines now) mid
-          → IfSome d.left (λ left. TalliesOn (go game position s lines draws) old
-          (from_there false game later last left rest) counts)
-      by [] some same = absurd some
-      by (line ∷ others) some same = rw some.1 (
-          ap (λ w. tallied w.events old) (go-answers game position s line others draws
-          (ap (λ v. is_prompt v.position) leaves ∙ at)
-          ∙ ap (λ v. after t.events (after (a line v.state).events
-          (go game (a line v.state).value.position (a line v.state).value.state others v.draws)))
-          leaves
-          ∙ ap (λ v. after t.events (after (a line now).events
-          (go game v.position v.state others rest))) some.2)
-          ∙ tallied-append t.events ((a line now).events
-          ++ (go game later last others rest).events) old
-          ∙ ap (tallied ((a line now).events ++ (go game later last others rest).events)) (sym part)
-          ∙ tallied-append (a line now).events (go game later last others rest).events mid
-          ∙ ap (tallied (go game later last others rest).events) (sym same))
+        a : List ℕ → State → Traced Step Answered
+        a line r = answer game line r
+
+        by : (lines : List (List ℕ))
+            → AnswersNext up.seen to.seen game lines (Ok (Some to.position)) up.state to.state
+            → to.counts ≡ tallied (next_answer game lines up.state) up.counts
+            → IfSome to.seen.left (λ left. TalliesOn (play_from game here lines) here.counts
+            (from_there false game to.position to.state left up.draws) to.counts)
+        by [] some same = absurd some
+        by (line ∷ others) some same = rw some.1 (
+            ap (λ w. tallied w.events here.counts)
+            (go-answers game here.position here.state line others here.draws
+            (ap (λ v. is_prompt v.position) leaves ∙ at)
+            ∙ ap (λ v. after t.events (after (a line v.state).events
+            (go game (a line v.state).value.position (a line v.state).value.state others v.draws)))
+            leaves
+            ∙ ap (λ v. after t.events (after (a line up.state).events
+            (go game v.position v.state others up.draws))) some.2)
+            ∙ tallied-append t.events ((a line up.state).events
+            ++ (go game to.position to.state others up.draws).events) here.counts
+            ∙ ap (tallied ((a line up.state).events
+            ++ (go game to.position to.state others up.draws).events)) (sym part)
+            ∙ tallied-append (a line up.state).events
+            (go game to.position to.state others up.draws).events up.counts
+            ∙ ap (tallied (go game to.position to.state others up.draws).events) (sym same))
 
 -- the next line, where none is left
 pub next_tries_none : (before now : Option (List (List ℕ))) (game : Game) (s : State)
@@ -281,70 +297,72 @@ module _ (game : Game) (position : Position) (s : State) (draws line : List ℕ)
 
 -- ---- the whole play
 
-pub tries_start : (before : Option (List (List ℕ))) (whole : List (List ℕ) → Traced Step PlayEnd)
-    (counts : List ℕ)
-    → IfSome before (λ lines. IfSome before (λ left. TalliesOn (whole lines) counts (whole left) counts))
-tries_start None whole counts = tt
-tries_start (Some lines) whole counts = refl
+-- the counts so far are those of the whole play up to here
+abbrev pub TalliedTo : Game → (first here : Point) → (List (List ℕ) → Traced Step PlayEnd)
+    → Option (List (List ℕ)) → Type 0
+TalliedTo game first here whole before = IfSome before (λ lines. IfSome here.seen.left (λ left.
+    TalliesOn (whole lines) first.counts (play_from game here left) here.counts))
 
-module _ (c now new : ConsoleView) (whole : List (List ℕ) → Traced Step PlayEnd) (game : Game)
-    (position : Position) (s : State) (draws : List ℕ) (old mid counts : List ℕ) (round : Round)
-    (last : State) (rest : List ℕ) where
-  abbrev So : Option (List (List ℕ)) → Type 0
-  So before = IfSome before (λ lines. IfSome now.left (λ left. TalliesOn (whole lines) old
-      (go game position s left draws) mid))
+pub tries_start : (game : Game) (first : Point) (before : Option (List (List ℕ)))
+    → before ≡ first.seen.left → TalliedTo game first first (play_from game first) before
+tries_start game first None as_rules = tt
+tries_start game first (Some lines) as_rules = rw (sym as_rules) refl
 
+-- a round after those so far, from `here` on to `to`
+module _ (game : Game) (first here to : Point) (whole : List (List ℕ) → Traced Step PlayEnd)
+    (stopped : Bool) where
   abbrev Next : Type 0
-  Next = IfSome now.left (λ lines. IfSome new.left (λ left. TalliesOn (go game position s lines draws)
-      mid (from_there round.stopped game round.position last left rest) counts))
-
-  abbrev Rounds : Type 0
-  Rounds = IfSome now.left (λ lines. GoesRound now new (Ok round)
-      (go game position s lines draws) game last rest)
+  Next = IfSome here.seen.left (λ lines. IfSome to.seen.left (λ left.
+      TalliesOn (play_from game here lines) here.counts
+      (from_there stopped game to.position to.state left to.draws) to.counts))
 
   -- one that goes on
-  pub tries_step : (before : Option (List (List ℕ))) → round.stopped ≡ false
-      → IfSome before (λ lines. Ahead c now (whole lines) game position s draws) → So before → Next
-      → IfSome before (λ lines. IfSome new.left (λ left. TalliesOn (whole lines) old
-      (go game round.position last left rest) counts))
+  pub tries_step : (before : Option (List (List ℕ))) → stopped ≡ false
+      → SoFar game first here to whole before → TalliedTo game first here whole before → Next
+      → TalliedTo game first to whole before
   tries_step None goes ahead so next = tt
-  tries_step (Some lines) goes ahead so next = by new.left
-      (subst (λ o. IfSome o (λ left. TalliesOn (whole lines) old (go game position s left draws) mid))
-      ahead.lines so)
-      (subst (λ o. IfSome o (λ ls. IfSome new.left (λ left. TalliesOn (go game position s ls draws)
-      mid (from_there round.stopped game round.position last left rest) counts))) ahead.lines next)
+  tries_step (Some lines) goes ahead so next = by to.seen.left
+      (subst (λ o. IfSome o (λ left. TalliesOn (whole lines) first.counts (play_from game here left)
+      here.counts)) ahead.lines so)
+      (subst (λ o. IfSome o (λ ls. IfSome to.seen.left (λ left. TalliesOn (play_from game here ls)
+      here.counts (from_there stopped game to.position to.state left to.draws) to.counts)))
+      ahead.lines next)
     where
       by : (o : Option (List (List ℕ)))
-          → TalliesOn (whole lines) old (go game position s ahead.rest draws) mid
-          → IfSome o (λ left. TalliesOn (go game position s ahead.rest draws) mid
-          (from_there round.stopped game round.position last left rest) counts)
-          → IfSome o (λ left. TalliesOn (whole lines) old
-          (go game round.position last left rest) counts)
+          → TalliesOn (whole lines) first.counts (play_from game here ahead.rest) here.counts
+          → IfSome o (λ left. TalliesOn (play_from game here ahead.rest) here.counts
+          (from_there stopped game to.position to.state left to.draws) to.counts)
+          → IfSome o (λ left. TalliesOn (whole lines) first.counts (play_from game to left) to.counts)
       by None so next = tt
       by (Some left) so next = so ∙ next
-          ∙ ap (λ b. tallied (from_there b game round.position last left rest).events counts) goes
+          ∙ ap (λ b. tallied (from_there b game to.position to.state left to.draws).events to.counts)
+          goes
 
   -- one where the play stopped
-  pub tries_last : (before : Option (List (List ℕ))) → round.stopped ≡ true
-      → IfSome before (λ lines. Ahead c now (whole lines) game position s draws) → So before → Next
-      → Rounds → IfSome before (λ lines. OnOk {E = ConsoleFault} (Ok round.position)
-      (counts ≡ tallied (whole lines).events old))
+  pub tries_last : (before : Option (List (List ℕ))) → stopped ≡ true
+      → SoFar game first here to whole before → TalliedTo game first here whole before → Next
+      → RoundGives game first here to whole (Ok (record { position = to.position; stopped = stopped }))
+      → IfSome before (λ lines. OnOk {E = ConsoleFault} (Ok to.position)
+      (to.counts ≡ tallied (whole lines).events first.counts))
   tries_last None stops ahead so next went = tt
   tries_last (Some lines) stops ahead so next went =
-      let here : TalliesOn (whole lines) old (go game position s ahead.rest draws) mid =
-      subst (λ o. IfSome o (λ left. TalliesOn (whole lines) old (go game position s left draws) mid))
-      ahead.lines so in
-      let round_done : GoesRound now new (Ok round) (go game position s ahead.rest draws) game last
-      rest = subst (λ o. IfSome o (λ ls. GoesRound now new (Ok round) (go game position s ls draws)
-      game last rest)) ahead.lines went in
-      let then : IfSome new.left (λ left. TalliesOn (go game position s ahead.rest draws) mid
-      (from_there round.stopped game round.position last left rest) counts) =
-      subst (λ o. IfSome o (λ ls. IfSome new.left (λ left. TalliesOn (go game position s ls draws)
-      mid (from_there round.stopped game round.position last left rest) counts))) ahead.lines next in
-      let at_end : TalliesOn (go game position s ahead.rest draws) mid
-      (from_there round.stopped game round.position last round_done.went.rest rest) counts =
-      subst (λ o. IfSome o (λ left. TalliesOn (go game position s ahead.rest draws) mid
-      (from_there round.stopped game round.position last left rest) counts))
+      let here_too : TalliesOn (whole lines) first.counts (play_from game here ahead.rest)
+      here.counts = subst (λ o. IfSome o (λ left. TalliesOn (whole lines) first.counts
+      (play_from game here left) here.counts)) ahead.lines so in
+      let round_done : GoesRound here.seen to.seen
+      (Ok (record { position = to.position; stopped = stopped })) (play_from game here ahead.rest)
+      game to.state to.draws = subst (λ o. IfSome o (λ ls. GoesRound here.seen to.seen
+      (Ok (record { position = to.position; stopped = stopped })) (play_from game here ls) game
+      to.state to.draws)) ahead.lines went in
+      let then : IfSome to.seen.left (λ left. TalliesOn (play_from game here ahead.rest) here.counts
+      (from_there stopped game to.position to.state left to.draws) to.counts) =
+      subst (λ o. IfSome o (λ ls. IfSome to.seen.left (λ left. TalliesOn (play_from game here ls)
+      here.counts (from_there stopped game to.position to.state left to.draws) to.counts)))
+      ahead.lines next in
+      let at_end : TalliesOn (play_from game here ahead.rest) here.counts
+      (from_there stopped game to.position to.state round_done.went.rest to.draws) to.counts =
+      subst (λ o. IfSome o (λ left. TalliesOn (play_from game here ahead.rest) here.counts
+      (from_there stopped game to.position to.state left to.draws) to.counts))
       round_done.went.lines then in
-      sym (here ∙ at_end ∙ ap (λ b. tallied (from_there b game round.position last
-      round_done.went.rest rest).events counts) stops)
+      sym (here_too ∙ at_end ∙ ap (λ b. tallied (from_there b game to.position to.state
+      round_done.went.rest to.draws).events to.counts) stops)

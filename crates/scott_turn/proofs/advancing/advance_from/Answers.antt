@@ -19,7 +19,7 @@ returns g c =
     record {
       does = record {
         spoken = steps_then t.events (prompted t.value.halt game t.value.state t.value.draws).events c.in_ok-halt.ensures.does.spoken
-          (rw (prompted-as_rules game t.value c.automatic.new.state c.automatic.new.draws.left c.in_ok-halt.halt c.in_ok-halt.ensures.does.left) c.go_to_prompt.ensures.does.spoken);
+            (rw (prompted-as_rules game t.value c.automatic.new.state c.automatic.new.draws.left c.in_ok-halt.halt c.in_ok-halt.ensures.does.left) c.go_to_prompt.ensures.does.spoken);
         tried = tallied-only c.go_to_prompt.result t.events (prompted t.value.halt game t.value.state t.value.draws).events c.args.tally.now (prompted-none t.value.halt game t.value.state t.value.draws) c.in_ok-halt.ensures.does.tried;
         left = IfOk-weaker c.go_to_prompt.result _ _ (λ position left. prompted-left game t.value c.automatic.new.state c.automatic.new.draws.left c.in_ok-halt.halt c.in_ok-halt.ensures.does.left position c.go_to_prompt.new.state left) c.go_to_prompt.ensures.does.left;
       };

@@ -20,7 +20,7 @@ returns g c =
     record {
       does = record {
         spoken = steps_then (said_steps (look_due game s)) (to_prompt game (automatic game (groups game.db) (unmarked s) c.args.draws.now.left)).events c.in_ok-look_if_due.ensures.spoken
-          (rw c.look_if_due.ensures.state at c.advance_from.ensures.does.spoken);
+            (rw c.look_if_due.ensures.state at c.advance_from.ensures.does.spoken);
         tried = tallied_then c.advance_from.result (said_steps (look_due game s)) (to_prompt game (automatic game (groups game.db) (unmarked s) c.args.draws.now.left)).events c.args.tally.now c.advance_from.new.tally (sym (tallied-said (look_due game s) c.args.tally.now)) (rw c.look_if_due.ensures.state at c.advance_from.ensures.does.tried);
         left = rw c.look_if_due.ensures.state at c.advance_from.ensures.does.left;
       };

@@ -23,8 +23,8 @@ returns-in_err-item_turn g c =
     record {
       does = rw (p.1) (record {
         spoken = along_stop p.0 t.events (after_item_turn t.value.item_turn t (all_items c.args.transfer game c.args.typed.now (i + 1) (drop (i + 1) game.db.items))) c.loop-i.invariant.along
-          (all_items-prefix c.args.transfer game c.args.typed.now i c.loop-i.state there c.loop-i.any_taken)
-          c.in_err-item_turn.ensures.does.spoken;
+            (all_items-prefix c.args.transfer game c.args.typed.now i c.loop-i.state there c.loop-i.any_taken)
+            c.in_err-item_turn.ensures.does.spoken;
         tried = tt;
         left = tt;
       });
@@ -41,7 +41,7 @@ returns-then-ends_all g c =
       does = record {
         spoken = along_end (turn_of c.args.transfer game c.args.typed.now i c.loop-i.state).events c.loop-i.invariant.along (ap (λ w. w.events) last) (as_ok _ c.in_ok-item_turn.ensures.does.spoken);
         tried = tallied_end (turn_of c.args.transfer game c.args.typed.now i c.loop-i.state).events (taken_before c.loop-i.any_taken (all_items c.args.transfer game c.args.typed.now i (drop i game.db.items) c.loop-i.state)).events c.loop-i.tally
-          c.loop-i.invariant.tried (ap (λ w. w.events) last) c.in_ok-item_turn.ensures.does.tried;
+            c.loop-i.invariant.tried (ap (λ w. w.events) last) c.in_ok-item_turn.ensures.does.tried;
         left = along_value c.loop-i.invariant.along ∙ ap (λ w. w.value) last ∙ rw c.over_in.ensures refl;
       };
       fits = c.do_item_turn.ensures.fits;
@@ -79,7 +79,7 @@ returns g c =
       does = record {
         spoken = along_done _ c.loop-i.invariant.along (ap (λ w. w.events) none);
         tried = tallied_end [] (taken_before c.loop-i.any_taken (all_items c.args.transfer game c.args.typed.now i (drop i game.db.items) c.loop-i.state)).events c.loop-i.tally
-          c.loop-i.invariant.tried (ap (λ w. w.events) none) refl;
+            c.loop-i.invariant.tried (ap (λ w. w.events) none) refl;
         left = along_value c.loop-i.invariant.along ∙ ap (λ w. w.value) none;
       };
       fits = c.loop-i.invariant.fits;

@@ -14,7 +14,7 @@ returns g c =
     record {
       does = record {
         spoken = steps_then t.events (said_steps (if t.value.any_taken then [] else none_taken c.args.transfer)) c.in_ok-all_result.ensures.does.spoken
-          (as_ok _ (rw (c.text_after.ensures, any_taken) at c.in_ok-say_text.ensures));
+            (as_ok _ (rw (c.text_after.ensures, any_taken) at c.in_ok-say_text.ensures));
         tried = tallied-quiet t.events (said_steps (if t.value.any_taken then [] else none_taken c.args.transfer)) c.args.tally.now (noted-said (if t.value.any_taken then [] else none_taken c.args.transfer)) c.in_ok-all_result.ensures.does.tried;
         left = rw c.in_ok-all_result.ensures.does.left refl;
       };
@@ -29,7 +29,7 @@ returns-in_err-say_text g c =
     record {
       does = rw (p.1) (record {
         spoken = steps_then t.events (said_steps (if t.value.any_taken then [] else none_taken c.args.transfer)) c.in_ok-all_result.ensures.does.spoken
-          (as_err p.0 (rw (c.text_after.ensures, any_taken) at c.in_err-say_text.ensures));
+            (as_err p.0 (rw (c.text_after.ensures, any_taken) at c.in_err-say_text.ensures));
         tried = tt;
         left = tt;
       });

@@ -13,7 +13,7 @@ returns g c =
     record {
       does = record {
         spoken = steps_then t.events (turn_ended c.args.game.now.style t.value.over t.value.state).events c.in_ok-over.ensures.does.spoken
-          (rw (state, over) at c.end_turn.ensures.does.spoken);
+            (rw (state, over) at c.end_turn.ensures.does.spoken);
         tried = tallied-only c.end_turn.result t.events (turn_ended c.args.game.now.style t.value.over t.value.state).events c.args.tally.now (ended-none c.args.game.now.style t.value.over t.value.state) c.in_ok-over.ensures.does.tried;
         left = rw (state, over) at c.end_turn.ensures.does.left;
       };

@@ -39,8 +39,8 @@ returns-in_err-halt g c =
     record {
       does = rw (p.1) (record {
         spoken = along_stop p.0 t.events (after_halt t.value.halt t (automatic game (groups_for game.db 0 (head + 1)))) (rw c.in-Some.is at c.loop-next.invariant.along)
-          (automatic-prefix game head head c.loop-next.state c.loop-next.draws.left comes)
-          c.in_err-halt.ensures.does.spoken;
+            (automatic-prefix game head head c.loop-next.state c.loop-next.draws.left comes)
+            c.in_err-halt.ensures.does.spoken;
         tried = tt;
         left = tt;
       });
@@ -57,9 +57,9 @@ returns-then-not-goes_on g c =
     record {
       does = record {
         spoken = along_end (auto_turn game (group_at game.db head) c.loop-next.state c.loop-next.draws.left).events (rw c.in-Some.is at c.loop-next.invariant.along)
-          (ap (λ w. w.events) stop) c.in_ok-halt.ensures.does.spoken;
+            (ap (λ w. w.events) stop) c.in_ok-halt.ensures.does.spoken;
         tried = tallied_end (auto_turn game (group_at game.db head) c.loop-next.state c.loop-next.draws.left).events (automatic game (groups_for game.db 0 head) c.loop-next.state c.loop-next.draws.left).events c.loop-next.tally
-          (rw c.in-Some.is at c.loop-next.invariant.tried) (ap (λ w. w.events) stop) c.in_ok-halt.ensures.does.tried;
+            (rw c.in-Some.is at c.loop-next.invariant.tried) (ap (λ w. w.events) stop) c.in_ok-halt.ensures.does.tried;
         left = along_value (rw c.in-Some.is at c.loop-next.invariant.along) ∙ ap (λ w. w.value) stop ∙ c.in_ok-halt.ensures.does.left;
       };
       taken = c.auto_turn.ensures.taken ∙ c.loop-next.invariant.taken;
@@ -113,7 +113,7 @@ returns g c =
       does = record {
         spoken = along_done _ along (ap (λ w. w.events) none);
         tried = tallied_end [] (automatic game (groups_for db 0 (length db.actions)) c.loop-next.state c.loop-next.draws.left).events c.loop-next.tally
-          (rw c.in_default.is at c.loop-next.invariant.tried) (ap (λ w. w.events) none) refl;
+            (rw c.in_default.is at c.loop-next.invariant.tried) (ap (λ w. w.events) none) refl;
         left = along_value along ∙ ap (λ w. w.value) none;
       };
       taken = c.loop-next.invariant.taken;

@@ -18,7 +18,7 @@ returns g c =
     record {
       does = record {
         spoken = steps_then t.events (by_found t.value.found game c.args.typed.now verb noun t.value.state).events c.in_ok-found.ensures.does.spoken
-          (rw (state, found) at c.finish_command.ensures.does.spoken);
+            (rw (state, found) at c.finish_command.ensures.does.spoken);
         tried = tallied_then c.finish_command.result t.events (by_found t.value.found game c.args.typed.now verb noun t.value.state).events c.args.tally.now c.finish_command.new.tally c.in_ok-found.ensures.does.tried (rw (state, found) at c.finish_command.ensures.does.tried);
         left = rw (state, found) at c.finish_command.ensures.does.left;
       };

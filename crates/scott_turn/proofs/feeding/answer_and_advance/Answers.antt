@@ -15,7 +15,7 @@ returns g c =
     record {
       does = record {
         spoken = steps_then a.events (advance game a.value.position a.value.state c.args.draws.now.left).events c.in_ok-position.ensures.does.spoken
-          (rw (state, position) at c.advance.ensures.does.spoken);
+            (rw (state, position) at c.advance.ensures.does.spoken);
         tried = tallied_then c.advance.result a.events (advance game a.value.position a.value.state c.args.draws.now.left).events c.args.tally.now c.advance.new.tally c.in_ok-position.ensures.does.tried (rw (state, position) at c.advance.ensures.does.tried);
         left = rw (state, position) at c.advance.ensures.does.left;
       };

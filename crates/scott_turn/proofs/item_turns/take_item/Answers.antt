@@ -17,7 +17,7 @@ returns g c =
     record {
       does = record {
         spoken = steps_then lines.events (after_actions lines.value.over c.args.transfer game i item lines.value.state).events
-          c.in_ok-over.ensures.does.spoken (rw (state, over) at c.finish_item.ensures.does.spoken);
+            c.in_ok-over.ensures.does.spoken (rw (state, over) at c.finish_item.ensures.does.spoken);
         tried = tallied-only c.finish_item.result lines.events (after_actions lines.value.over c.args.transfer game i item lines.value.state).events c.args.tally.now (after_actions-none lines.value.over c.args.transfer game i item lines.value.state) c.in_ok-over.ensures.does.tried;
         left = rw (state, over) at c.finish_item.ensures.does.left;
       };

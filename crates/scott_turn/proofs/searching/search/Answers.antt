@@ -120,7 +120,7 @@ returns g c =
       does = record {
         spoken = along_done _ along (ap (λ w. w.events) none);
         tried = tallied_end [] (with_before c.loop-next.before (search_result game c.args.typed.now verb c.args.command.noun (groups_for game.db verb (length game.db.actions)) c.loop-next.state)).events c.loop-next.tally
-          (rw c.in_default.is at c.loop-next.invariant.tried) (ap (λ w. w.events) none) refl;
+            (rw c.in_default.is at c.loop-next.invariant.tried) (ap (λ w. w.events) none) refl;
         left = along_value along ∙ ap (λ w. w.value) none;
       };
       fits = c.loop-next.invariant.fits;

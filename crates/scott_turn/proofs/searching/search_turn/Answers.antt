@@ -1,11 +1,10 @@
-use Rattle.std.proofs.Common.{◌≡◌, ◌∙◌, true, false, refl, sym, ap}
+use Rattle.std.proofs.Common.{◌≡◌, ◌∙◌, true, false, refl, sym}
 use Rattle.std.proofs.lemmas.Result.{err_from_is_err_and}
 use Rattle.adv_io.proofs.Along.{as_ok, as_err}
 use Rattle.adv_io.proofs.Sayings.{nothing_said}
 use Rattle.scott_types.specs.Action.{noun_of}
 use Rattle.scott_types.specs.Database.{action_at}
 use Rattle.scott_rules.specs.Search.{is_for_noun}
-use Rattle.scott_turn.specs.Turns.{found_of}
 use Rattle.scott_turn.proofs.searching.search_turn.Goals as goal
 
 pub returns-in_ok-ran : goal.returns-in_ok-ran

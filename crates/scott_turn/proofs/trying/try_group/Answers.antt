@@ -36,9 +36,9 @@ returns-in-Err-try_tail g c =
     record {
       does = record {
         spoken = rw (group-goes_on game noun (group_at game.db c.args.head) c.args.state.now on)
-          (steps_then t.events (tail_tried game noun (tail_from game.db (c.args.head + 1)) t.value.state).events
-          c.in-Ok-Passed-true.ensures.does.spoken
-          (as_err _ (rw (sym (ap (λ v. v.state) c.in-Ok-Passed-true.ensures.does.left)) at c.in-Err-try_tail.ensures.does.spoken)));
+            (steps_then t.events (tail_tried game noun (tail_from game.db (c.args.head + 1)) t.value.state).events
+            c.in-Ok-Passed-true.ensures.does.spoken
+            (as_err _ (rw (sym (ap (λ v. v.state) c.in-Ok-Passed-true.ensures.does.left)) at c.in-Err-try_tail.ensures.does.spoken)));
         tried = tt;
         left = tt;
       };
@@ -53,7 +53,7 @@ returns-in-Err g c =
     record {
       does = record {
         spoken = rw (group-prefix game noun (group_at game.db c.args.head) c.args.state.now)
-          (steps_stop c.in-Err.fault t.events (tail_steps t.value.ran game noun (group_at game.db c.args.head) t) c.in-Err.ensures.does.spoken);
+            (steps_stop c.in-Err.fault t.events (tail_steps t.value.ran game noun (group_at game.db c.args.head) t) c.in-Err.ensures.does.spoken);
         tried = tt;
         left = tt;
       };

@@ -18,8 +18,8 @@ returns-in_err-over g c =
     record {
       does = rw (p.1) (record {
         spoken = along_stop p.0 t.events (after_part t.value.over t (tail_tried game noun (tail_from game.db (line + 1)))) c.loop-state.invariant.along
-          (tail-prefix game noun line c.loop-state.state (rw c.db-in-loop-state.ensures at c.loop-state-test.ensures.1))
-          c.in_err-over.ensures.does.spoken;
+            (tail-prefix game noun line c.loop-state.state (rw c.db-in-loop-state.ensures at c.loop-state-test.ensures.1))
+            c.in_err-over.ensures.does.spoken;
         tried = tt;
         left = tt;
       });
