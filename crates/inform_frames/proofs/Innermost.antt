@@ -3,16 +3,12 @@
 use Rattle.std.proofs.Common.{◌≡◌, ◌∙◌, ℕ, zero, suc, ◌+◌, ◌-◌, List, [], ◌∷◌, ◌++◌, length, take, get_or, refl, sym, ap, subst, arith, length-append, length-take-le}
 use Rattle.std.proofs.lemmas.List.{length_push}
 use Rattle.inform_meaning.specs.Frames as f
-use Rattle.inform_meaning.specs.Worlds.{Program, World}
 use Rattle.inform_meaning.specs.Worlds.{Scope as WScope}
 use Rattle.inform_moves.specs.Heights.{calls_open}
-use Rattle.inform_moves.specs.Moves.{next}
 use Rattle.inform_worlds.specs.declared.scopes.Scope.{Scope}
 use Rattle.inform_worlds.specs.Scopes.{scope_of}
-use Rattle.inform_frames.specs.declared.nexts.Next.{Next}
 use Rattle.inform_frames.specs.declared.frames.Frame.{Frame}
 use Rattle.inform_frames.specs.declared.frames.Frame.TheVariants as x
-use Rattle.inform_frames.specs.Nexts.{MakesOf}
 use Rattle.inform_frames.specs.Frames.{frame_of, frame_in, IsPlain, IsCaller, caller_of, callers_in, scope_in, scopes_after, frames_of, top_of, rest_of}
 
 -- the scopes of the callers after these frames
@@ -184,10 +180,3 @@ caller-last xs scopes m d paired caller size =
     ap top_of here
     ∙ caller-frame scope (get_or xs n x.Main) (subst IsCaller (ap top_of here) caller)
     ∙ ap (λ ss. f.Calling (scope_in ss)) (ap (scopes_past ys) split ∙ past-more ys (take m scopes) (get_or scopes m d ∷ []) few)
-
--- the move of the innermost frame is that of the frame that stands there
-pub innermost_makes : (p : Program) (room : ℕ) (before after : World) (e : f.Outcome) (fs news : List f.Frame) (x : f.Frame) (made : Next)
-    → fs ≡ x ∷ rest_of fs → MakesOf before after (next p room before x e) (rest_of fs) news made
-    → MakesOf before after (next p room before (top_of fs) e) (rest_of fs) news made
-innermost_makes p room before after e fs news x made is makes =
-    subst (λ y. MakesOf before after (next p room before y e) (rest_of fs) news made) (sym (ap top_of is)) makes

@@ -1,3 +1,3 @@
 pub mod Frames
 pub mod Stacks
-pub mod Nexts
+pub mod Needs

@@ -3,7 +3,7 @@ ghost use Rattle.std.specs.Prelude.{◌≡◌};
 ghost use Rattle.inform_moves.specs.Needs.{need};
 ghost use Rattle.inform_meaning.specs.Worlds.{Scope};
 ghost use Rattle.inform_frames.specs.Frames.{frame_in, signal_of};
-ghost use Rattle.inform_frames.specs.Nexts.{need_seen};
+ghost use Rattle.inform_frames.specs.Needs.{need_seen};
 
 use crate::frames::{Begin, Frame};
 use crate::signals::Signal;

@@ -10,8 +10,9 @@ ghost use Rattle.inform_frames.specs.Stacks.{stack_of};
 ghost use Rattle.inform_run.specs.Machines.{point_of, IsFit, LeadsSilently, EntersNoneAnyway};
 
 use crate::machines::Machine;
-use inform_frames::{Begin, Frame, Signal, change_at_once, goes_on_at_once};
+use inform_frames::{Begin, Frame, Signal};
 use inform_moves::laws::{frames_are_few, moves_mean, moves_need};
+use inform_part_moves::{change_at_once, goes_on_at_once};
 use inform_steps::laws::only_calls_enter;
 
 impl<'a> Machine<'a> {

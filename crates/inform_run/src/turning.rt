@@ -21,8 +21,9 @@ use crate::machines::{Machine, say};
 use crate::stops::Stop;
 use adv_draws::Draws;
 use adv_io::{Console, ConsoleFault, Line};
-use inform_frames::{Frame, Halt, halt_of};
+use inform_frames::{Frame, Halt};
 use inform_moves::laws::{moves_mean, moves_need, runs_add};
+use inform_next_moves::halt_of;
 use inform_steps::laws::only_calls_enter;
 use inform_tree::Stmt;
 
