@@ -18,7 +18,7 @@ mod calls;
 // All of them.
 mod lines;
 
-// What they owe.
+// That they meet their specifications.
 pub mod laws;
 
 pub use lines::actions;

@@ -10,7 +10,7 @@ mod items;
 mod transfers;
 mod walking;
 
-// All of them as directives, and what they owe.
+// All of them as directives, and that they meet their specifications.
 pub mod laws;
 mod table;
 

@@ -2,8 +2,8 @@
 ghost use Rattle.std.specs.Prelude.{◌≡◌, ◌<◌, ◌^◌, IfOk, None, map, length};
 ghost use Rattle.inform_tree.specs.Programs.{directive_of};
 ghost use Rattle.scott_types.specs.State.{Fits};
-ghost use Rattle.trans_rows.specs.Directives.{global_directives as the_globals, array_directives as the_arrays, data_directives as the_data};
-ghost use Rattle.trans_rows.specs.Wide.{wide_at};
+ghost use Rattle.trans_specs.specs.Directives.{global_directives as the_globals, array_directives as the_arrays, data_directives as the_data};
+ghost use Rattle.trans_specs.specs.Wide.{wide_at};
 ghost use Rattle.trans_data.specs.Texts.{item_texts as the_item_texts, room_texts as the_room_texts, spoken_directives as the_spoken, text_directives as the_texts};
 ghost use Rattle.trans_data.specs.Tables.{table_directives};
 

@@ -33,7 +33,7 @@ mod word_tables;
 // All of them.
 mod game_tables;
 
-// What the routines owe.
+// That the routines meet their specifications.
 pub mod laws;
 
 pub use game_tables::tables;

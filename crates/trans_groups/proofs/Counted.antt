@@ -3,9 +3,9 @@ use Rattle.std.proofs.Common.{◌≡◌, arith, ℕ, zero, suc, ◌+◌, ◌-◌
 use Rattle.scott_types.specs.declared.parts.Action.{Action}
 use Rattle.scott_types.specs.Database.{Database}
 use Rattle.scott_rules.specs.Groups.{Group, tail_of, groups_of, groups}
-use Rattle.trans_rows.specs.Steps.{highest, line_steps}
-use Rattle.trans_rows.specs.CommandRows.{search_steps}
-use Rattle.trans_groups.specs.Rows.{group_steps}
+use Rattle.trans_specs.specs.Steps.{highest, line_steps}
+use Rattle.trans_specs.specs.CommandSpecs.{search_steps}
+use Rattle.trans_groups.specs.GroupSpecs.{group_steps}
 
 -- each group, and a few steps around it
 abbrev pub tries_steps : Database → List Group → ℕ

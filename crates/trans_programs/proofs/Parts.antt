@@ -8,9 +8,9 @@ use Rattle.scott_types.specs.declared.states.State.{State}
 use Rattle.scott_types.specs.declared.styles.Style.{Style}
 use Rattle.scott_types.specs.declared.endings.Position.{Position}
 use Rattle.scott_types.specs.Database.{Database}
-use Rattle.trans_rows.specs.Directives.{data_directives}
-use Rattle.trans_rows.specs.Faithful.{opening_state, opening_position}
-use Rattle.trans_rows.proofs.Lists.{of_both, of_first, of_rest}
+use Rattle.trans_specs.specs.Directives.{data_directives}
+use Rattle.trans_specs.specs.Faithful.{opening_state, opening_position}
+use Rattle.trans_specs.proofs.Lists.{of_both, of_first, of_rest}
 use Rattle.trans_data.specs.declared.names.TheConstants.{N, HUNDREDTHS_NAME, SAY_LIGHT, LIGHT_OUT}
 use Rattle.trans_data.specs.declared.scoring.TheConstants.{HUNDREDTHS, LESS_HUNDREDTHS}
 use Rattle.trans_data.specs.Routines.{light_codes, out_codes, table_rows, fixed_directives}

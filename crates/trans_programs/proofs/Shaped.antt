@@ -10,12 +10,12 @@ use Rattle.scott_types.specs.declared.styles.Style.{Style}
 use Rattle.scott_types.specs.Database.{Database}
 use Rattle.scott_types.specs.Limits.{KeepsLimits}
 use Rattle.scott_rules.specs.Groups.{Group, groups}
-use Rattle.trans_rows.specs.Names.{group_name, line_name}
-use Rattle.trans_rows.specs.Lines.{line_routine, group_routine}
-use Rattle.trans_rows.specs.Shaped.{IsIn, IsLine, IsGroup, is_declaration, declarations, routine_calls, directive_calls, program_calls}
-use Rattle.trans_rows.specs.Directives.{data_directives}
-use Rattle.trans_rows.specs.Faithful.{opening_state}
-use Rattle.trans_rows.proofs.Apart.{all_apart, line_opening, group_opening, no_line, no_group}
+use Rattle.trans_specs.specs.Names.{group_name, line_name}
+use Rattle.trans_specs.specs.Lines.{line_routine, group_routine}
+use Rattle.trans_specs.specs.Shaped.{IsIn, IsLine, IsGroup, is_declaration, declarations, routine_calls, directive_calls, program_calls}
+use Rattle.trans_specs.specs.Directives.{data_directives}
+use Rattle.trans_specs.specs.Faithful.{opening_state}
+use Rattle.trans_specs.proofs.Apart.{all_apart, line_opening, group_opening, no_line, no_group}
 use Rattle.trans_data.specs.Routines.{routine_names, table_rows}
 use Rattle.trans_data.specs.Texts.{message_directives}
 use Rattle.trans_words.specs.Directives.{word_directives}

@@ -2,9 +2,9 @@
 ghost use Rattle.std.specs.Prelude.{◌≡◌, ◌++◌, IfOk, None, map, option_map};
 ghost use Rattle.inform_tree.specs.Programs.{directive_of, program_of};
 ghost use Rattle.scott_types.specs.State.{Fits};
-ghost use Rattle.trans_rows.specs.Directives.{data_directives};
-ghost use Rattle.trans_rows.specs.Faithful.{opening_state};
-ghost use Rattle.trans_rows.specs.Wide.{wide_at};
+ghost use Rattle.trans_specs.specs.Directives.{data_directives};
+ghost use Rattle.trans_specs.specs.Faithful.{opening_state};
+ghost use Rattle.trans_specs.specs.Wide.{wide_at};
 ghost use Rattle.trans_data.specs.Texts.{text_directives};
 ghost use Rattle.trans_words.specs.Directives.{word_directives};
 ghost use Rattle.trans_actions.specs.Directives.{action_directives};

@@ -24,7 +24,7 @@ use Rattle.scott_types.specs.Database.{Database}
 use Rattle.scott_types.specs.Limits.{KeepsLimits}
 use Rattle.scott_types.specs.ItemText.{is_starred}
 use Rattle.scott_rules.specs.Words.{is_typed, spelling, column_of, entries_of, entry_from, which}
-use Rattle.trans_rows.specs.Tables.{bit, or_zero, entry_letters, word_letters, bases_from, word_bases}
+use Rattle.trans_specs.specs.Tables.{bit, or_zero, entry_letters, word_letters, bases_from, word_bases}
 use Rattle.trans_words.proofs.Trees.{name, find_name, word_array, base_array, base_of, has_base, is_same, below_entries, find_loop}
 use Rattle.trans_words.proofs.Pairs.{first_of_both, second_of_either}
 use Rattle.trans_words.proofs.Held.{HasReader}

@@ -1,7 +1,7 @@
 //! The directives of the word reader of a database.
 ghost use Rattle.std.specs.Prelude.{◌≡◌, IfOk, map};
 ghost use Rattle.inform_tree.specs.Programs.{directive_of};
-ghost use Rattle.trans_rows.specs.Tables.{or_zero};
+ghost use Rattle.trans_specs.specs.Tables.{or_zero};
 ghost use Rattle.scott_rules.specs.Words.{which};
 ghost use Rattle.trans_words.specs.Directives.{numbers, line_directives, column_directives, word_directives};
 
@@ -61,7 +61,7 @@ fn line_directives(alloc: Global) -> Result<Vec<Directive>, Memory>
 
 /// The routines of the word reader, which is called as `hear()`.
 ///
-/// They do what they owe in a program that has the tables of the database too.
+/// They meet their specifications in a program that has the tables of the database too.
 pub fn words(alloc: Global, db: &Db) -> Result<Vec<Directive>, Memory>
     ensures { IfOk result (λ directives. map directive_of directives.items
         ≡ word_directives db.now) }

@@ -1,5 +1,5 @@
 use Rattle.inform_tree.specs.Programs.{directive_of}
-use Rattle.trans_rows.specs.Directives.{data_directives}
+use Rattle.trans_specs.specs.Directives.{data_directives}
 use Rattle.trans_data.specs.Texts.{text_directives}
 use Rattle.trans_words.specs.Directives.{word_directives}
 use Rattle.trans_actions.specs.Directives.{action_directives}
