@@ -8,7 +8,7 @@ use Rattle.inform_tree.specs.Values as v
 use Rattle.inform_tree.specs.Conditions as c
 use Rattle.inform_tree.specs.Conditions.{Conditions}
 use Rattle.inform_tree.specs.Statements as s
-use Rattle.inform_tree.specs.Statements.{Statement, Assignment, Choice}
+use Rattle.inform_tree.specs.Statements.{Choice}
 use Rattle.inform_codes.specs.declared.codes.Code.{Code}
 use Rattle.inform_codes.specs.declared.codes.Code.TheVariants as code
 use Rattle.inform_codes.specs.Parts.{Parts, nearest_value, nearest_arguments, nearest_test, nearest_block, nearest_branches, with_value, less_value, with_arguments, less_arguments, with_test, less_test, with_block, less_block, no_branches, with_branches, less_branches, with_choice, less_choices, with_statement}

@@ -12,7 +12,7 @@ use Rattle.inform_lexemes.specs.declared.symbols.Symbol.TheVariants.{Semicolon, 
 use Rattle.inform_lexemes.specs.declared.keywords.Keyword.TheVariants as w
 use Rattle.inform_lexemes.specs.Lexemes.{Lexeme, Word, Name, Number, Character, Quoted, Sign}
 use Rattle.inform_grammar.specs.Rules as r
-use Rattle.inform_grammar.specs.Rules.{Rule, TreeOf, SwitchPart, Head, Said}
+use Rattle.inform_grammar.specs.Rules.{Rule, TreeOf, SwitchPart, Said}
 use Rattle.inform_grammar.specs.Plan.{Plan, done, refuse, next, maybe, chain, shut, ◌>>=◌, take, one, onward}
 use Rattle.inform_grammar.specs.ValueRules.{constant, entry, arguments, name_after, entry_after, primary, unary, factor, factors_after, product, term, terms_after, value, argument}
 use Rattle.inform_grammar.specs.ConditionRules.{relation_after, value_after, bracket_after, test, member, members_after, tests_after, guarded}

@@ -3,7 +3,7 @@ use Rattle.std.proofs.Common.{◌≡◌, ◌≢◌, ◌∙◌, arith, ℕ, ℤ, 
 use Rattle.std.specs.List.{AllByRecursion, list_all, starts_with}
 use Rattle.std.proofs.lemmas.Bool.{and_parts}
 use Rattle.inform_tree.specs.Programs as d
-use Rattle.inform_tree.specs.Programs.{DirectiveTree, RoutineTree, Routine}
+use Rattle.inform_tree.specs.Programs.{DirectiveTree, Routine}
 use Rattle.inform_names.specs.Meanings.{name_of}
 use Rattle.inform_signature.proofs.Elements.{one_in, in_second}
 use Rattle.scott_types.specs.declared.styles.Style.{Style}

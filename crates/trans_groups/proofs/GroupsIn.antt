@@ -3,7 +3,7 @@ use Rattle.std.proofs.Common.{◌≡◌, ◌≢◌, arith, ℕ, zero, suc, ◌+�
 use Rattle.std.specs.List.{AllByRecursion, starts_with}
 use Rattle.std.proofs.lemmas.Fmt.{decimal_injective}
 use Rattle.inform_tree.specs.Programs as d
-use Rattle.inform_tree.specs.Programs.{RoutineTree, DirectiveTree, Routine}
+use Rattle.inform_tree.specs.Programs.{DirectiveTree, Routine}
 use Rattle.inform_names.specs.Meanings.{name_of}
 use Rattle.inform_logic.specs.Holding.{Distinct}
 use Rattle.inform_signature.proofs.Elements.{one_in}

@@ -5,7 +5,7 @@ use Rattle.inform_tree.specs.Values as v
 use Rattle.inform_tree.specs.Values.{Expression, Arguments, arguments}
 use Rattle.inform_tree.specs.Conditions as c
 use Rattle.inform_tree.specs.Statements as s
-use Rattle.inform_tree.specs.Statements.{Statement, Statements, statements}
+use Rattle.inform_tree.specs.Statements.{Statement, statements}
 use Rattle.inform_tree.specs.Programs.{RoutineTree}
 use Rattle.scott_types.specs.declared.parts.Action.{Action}
 use Rattle.scott_types.specs.declared.opcodes.Opcode.{Opcode}
