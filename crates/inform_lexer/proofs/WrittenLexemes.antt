@@ -155,9 +155,6 @@ character_stands byte is = record {
   says = refl;
 }
 
-quote_stops : (rest : List ℕ) → prefix_len is_inside (34 ∷ rest) ≡ 0
-quote_stops rest = refl
-
 string_step_of : (at : ℕ) (w text rest : List ℕ) → list_all is_inside w ≡ true → inside_said w ≡ Ok text
     → token_step tt at (34 ∷ ((w ++ 34 ∷ []) ++ 32 ∷ rest)) ≡ token kind.Quoted at (length (w ++ 34 ∷ []))
 string_step_of at w text rest all said =

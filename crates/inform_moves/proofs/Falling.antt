@@ -90,15 +90,6 @@ decide-positive f.Flips = omega arith
 decide-positive (f.Branches body other) = omega arith
 decide-positive (f.Testing l) = omega arith
 
-pub work-positive : (x : Frame) → 0 < work x
-work-positive (Begins x) = begin-positive x
-work-positive (Wants x) = want-positive x
-work-positive (Decides x) = decide-positive x
-work-positive (Looping l) = omega arith
-work-positive (Calling scope) = omega arith
-work-positive Main = omega arith
-work-positive (Over halt) = omega arith
-
 -- ---- moves
 
 more-room : (a b : ℕ) (m : Move) → a < b + 1 → Falls a m → Falls b m

@@ -40,9 +40,6 @@ use Rattle.trans_actions.proofs.FineLists.{both, message_named, condition_named,
 
 -- ---- numbers
 
-natural_number : (n : ℕ) → is_natural n ≡ true → is_number n ≡ true
-natural_number n h = grind (arith, h)
-
 natural_small : (n : ℕ) → is_natural n ≡ true → n < 2 ^ 32
 natural_small n h = grind (arith, h)
 

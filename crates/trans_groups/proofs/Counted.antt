@@ -31,9 +31,6 @@ lines_few k (a ∷ actions) = by (a.vocab == 0) (lines_few (k + 1) actions) wher
   by false more = omega (arith, more)
 
 module _ (db : Database) where
-  group_few : (n x : ℕ) → (n + 1) * (x + 2) + 4 + 10 ≤ (n + 1) * (x + 16)
-  group_few n x = omega arith
-
   tries_few : (gs : List Group) → tries_steps db gs ≤ lines_in gs * (line_steps db + 16)
   tries_few [] = omega arith
   tries_few (g ∷ gs) = both (length g.tail) (lines_in gs) (line_steps db) (tries_steps db gs)

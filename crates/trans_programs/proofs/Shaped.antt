@@ -26,7 +26,7 @@ use Rattle.trans_groups.specs.Parts.{GroupsAreThere, GroupsAlone, GroupsAreCalle
 use Rattle.trans_turn.specs.Routines.{rounds_asking}
 use Rattle.trans_programs.specs.Programs.{game_routines, game_program}
 use Rattle.trans_programs.specs.Laws.{ProgramsAreShaped}
-use Rattle.trans_programs.proofs.Parts.{before_groups, parts_are, tables_on, messages_on, lines_on, turns_on, from_messages, from_words, from_lines, from_search}
+use Rattle.trans_programs.proofs.Parts.{parts_are, tables_on, messages_on, lines_on, turns_on, from_messages, from_words, from_lines, from_search}
 use Rattle.trans_programs.proofs.Routines.{IsRoutine, routines_only}
 use Rattle.trans_programs.proofs.Called.{calls_both, none_in_each, before_call, words_call, messages_call, after_call}
 
@@ -66,9 +66,6 @@ module _ (style : Style) (db : Database) (from : Option State) where
   words_apart : (all_apart line_opening (word_directives db) ≡ true)
       × (all_apart group_opening (word_directives db) ≡ true)
   words_apart = (refl, refl)
-
-  search_apart : all_apart line_opening (before_groups db) ≡ true
-  search_apart = refl
 
   turns_apart : (all_apart line_opening (turns_on style db from) ≡ true)
       × (all_apart group_opening (turns_on style db from) ≡ true)

@@ -23,12 +23,6 @@ module _ {X : Type 0} (P : X → Type 0) where
   of_rest [] ys h = h
   of_rest (x ∷ xs) ys h = of_rest xs ys h.1
 
-  -- without the middle
-  pub of_ends : (xs ms ys : List X) → AllByRecursion P (xs ++ (ms ++ ys))
-      → AllByRecursion P (xs ++ ys)
-  of_ends xs ms ys h = of_both xs ys (of_first xs (ms ++ ys) h)
-      (of_rest ms ys (of_rest xs (ms ++ ys) h))
-
   pub of_three : (xs ms ys : List X) → AllByRecursion P (xs ++ ys) → AllByRecursion P ms
       → AllByRecursion P (xs ++ (ms ++ ys))
   of_three xs ms ys h k = of_both xs (ms ++ ys) (of_first xs ys h)

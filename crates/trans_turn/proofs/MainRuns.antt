@@ -106,20 +106,6 @@ pub record PartPlays (p : Program) (part : Part) (scope : Scope) (w : Stage)
   pub past_is : last.past ≡ w.past ++ t.events
   pub ends : EndsAlike t.value.position stop (last.globals (codes "over"))
 
--- what a part stops with stops another one
-hands_up : {p : Program} {part whole : Part} {scope : Scope} {w : Stage} {t : Traced Step PlayEnd}
-    {n m : ℕ} → ((stop : Stop) (w' : Stage) → Stops p CALL_LIMIT part scope w stop w' n
-    → Stops p CALL_LIMIT whole scope w stop w' m)
-    → PartPlays p part scope w t n → PartPlays p whole scope w t m
-hands_up rule x = record {
-  stop = x.stop;
-  last = x.last;
-  stops = rule x.stop x.last x.stops;
-  shows = x.shows;
-  past_is = x.past_is;
-  ends = x.ends;
-}
-
 -- ---- a round, and then the others
 
 module _ (game : Game) (p : Program) (part : Part) (scope : Scope) (w : Stage) (values : List ℤ)
