@@ -12,6 +12,6 @@ mod walking;
 
 // All of them as directives, and that they meet their specifications.
 pub mod laws;
-mod table;
+mod emitting;
 
-pub use table::commands;
+pub use emitting::commands;

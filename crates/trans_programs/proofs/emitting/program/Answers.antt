@@ -1,8 +1,8 @@
 use Rattle.std.proofs.Common.{◌∙◌, map, option_map, ap}
 use Rattle.inform_tree.specs.Programs.{directive_of}
 use Rattle.trans_programs.proofs.Joined.{begun, handed_in}
-use Rattle.trans_programs.proofs.games.program.Goals.{in-None+in_ok-directives-in-None, in-Some+in_ok-directives-in-Some}
-use Rattle.trans_programs.proofs.games.program.Goals as goal
+use Rattle.trans_programs.proofs.emitting.program.Goals.{in-None+in_ok-directives-in-None, in-Some+in_ok-directives-in-Some}
+use Rattle.trans_programs.proofs.emitting.program.Goals as goal
 
 -- src/games.rt
 pub returns : goal.returns

@@ -1,7 +1,7 @@
 use Rattle.std.proofs.Common.{◌≡◌, drop, map, reverse}
 use Rattle.inform_tree.specs.Programs.{directive_of}
 use Rattle.trans_actions.specs.Directives.{lines_from}
-use Rattle.trans_actions.proofs.lines.lines.Given as goal
+use Rattle.trans_actions.proofs.emitting.lines.Given as goal
 
 -- the lines from this one on have their routines, the last one first
 abbrev pub invariant-loop-number : goal.invariant-loop-number

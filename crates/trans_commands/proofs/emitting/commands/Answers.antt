@@ -1,8 +1,8 @@
 use Rattle.std.proofs.Common.{◌≡◌, ◌∙◌, IfOk, map, length, ap, subst, ℕ, List, [], ◌∷◌}
 use Rattle.inform_tree.specs.Programs.{directive_of}
 use Rattle.inform_codes.specs.Routines.{rows_directives}
-use Rattle.trans_commands.specs.declared.table.TheConstants.{ROUTINES}
-use Rattle.trans_commands.proofs.table.commands.Goals as goal
+use Rattle.trans_commands.specs.declared.emitting.TheConstants.{ROUTINES}
+use Rattle.trans_commands.proofs.emitting.commands.Goals as goal
 
 -- the names and the count are those of the definition
 pub returns : goal.returns

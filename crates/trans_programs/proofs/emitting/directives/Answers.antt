@@ -5,7 +5,7 @@ use Rattle.trans_words.specs.Directives.{word_directives}
 use Rattle.trans_actions.specs.Directives.{action_directives}
 use Rattle.trans_turn.specs.Routines.{turn_directives}
 use Rattle.trans_programs.proofs.Joined.{tables_then}
-use Rattle.trans_programs.proofs.games.directives.Goals as goal
+use Rattle.trans_programs.proofs.emitting.directives.Goals as goal
 
 -- src/games.rt
 pub returns : goal.returns
