@@ -22,10 +22,10 @@ use Rattle.inform_tree.specs.Programs as d
 use Rattle.inform_tree.specs.Programs.{DirectiveTree, RoutineTree}
 use Rattle.scott_types.specs.declared.states.State.{State}
 use Rattle.scott_types.specs.Database.{Database}
-use Rattle.trans_rows.specs.Directives.{data_directives}
-use Rattle.trans_rows.specs.Laws.{LinesAreNumbered}
-use Rattle.trans_rows.specs.Names.{line_name, number_said, line_number}
-use Rattle.trans_rows.specs.Shaped.{Shaped, is_declaration, declarations}
+use Rattle.trans_specs.specs.Directives.{data_directives}
+use Rattle.trans_specs.specs.Laws.{LinesAreNumbered}
+use Rattle.trans_specs.specs.Names.{line_name, number_said, line_number}
+use Rattle.trans_specs.specs.Shaped.{Shaped, is_declaration, declarations}
 use Rattle.adv_coverage.specs.declared.reports.TheConstants.{LINE_LIMIT}
 use Rattle.adv_coverage.specs.Alike.{LinesCountAlike}
 use Rattle.adv_coverage.specs.Lines.{routine_count, counts_of_lines, line_counts}

@@ -1,7 +1,7 @@
 -- The counts of lines, one line after another: for the loop of `line_counts`.
 use Rattle.std.proofs.Common.{◌≡◌, ℕ, ◌+◌, List, [], ◌∷◌, ◌++◌, refl, ap, add-one}
 use Rattle.inform_names.specs.Meanings.{Known}
-use Rattle.trans_rows.specs.Names.{line_name}
+use Rattle.trans_specs.specs.Names.{line_name}
 use Rattle.adv_coverage.specs.Lines.{routine_count, counts_of_lines}
 
 pub no_line : (known : Known) (counts : List ℕ) → counts_of_lines known counts 0 ≡ []

@@ -9,8 +9,8 @@ use Rattle.inform_tree.specs.declared.widths.Width.{Width}
 use Rattle.inform_tree.specs.Programs.{DirectiveTree}
 use Rattle.scott_types.specs.declared.states.State.{State}
 use Rattle.scott_types.specs.Database.{Database}
-use Rattle.trans_rows.specs.Names.{line_number}
-use Rattle.trans_rows.specs.Shaped.{Shaped}
+use Rattle.trans_specs.specs.Names.{line_number}
+use Rattle.trans_specs.specs.Shaped.{Shaped}
 use Rattle.adv_coverage.specs.declared.reports.TheConstants.{LINE_LIMIT}
 use Rattle.adv_coverage.specs.Lines.{line_counts}
 use Rattle.adv_coverage.specs.Report.{report_text}

@@ -4,7 +4,7 @@ use Rattle.adv_counts.specs.Counts.{count_of}
 use Rattle.inform_names.specs.declared.meanings.Meaning.{Meaning}
 use Rattle.inform_names.specs.Meanings.{Known}
 use Rattle.inform_names.specs.Acceptance.{is_routine}
-use Rattle.trans_rows.specs.Names.{line_name}
+use Rattle.trans_specs.specs.Names.{line_name}
 use Rattle.adv_coverage.specs.declared.reports.TheConstants.{LINE_LIMIT}
 
 -- the count of the routine that a name means, by the counts of directives; 0 for what is no routine

@@ -5,7 +5,7 @@ ghost use Rattle.adv_coverage.specs.Calls.{EnteredFromOpening};
 use adv_counts::laws::{counts_rise, counts_stay};
 use inform_names::laws::{meanings_are_of_directives, names_mean_their_directives};
 use inform_steps::laws::entered_from_the_beginning;
-use trans_rows::laws::lines_are_numbered;
+use trans_specs::laws::lines_are_numbered;
 
 /// What a runner enters that stands at the opening of a program is what the program enters.
 pub fn entered_from_opening()

@@ -1,7 +1,7 @@
 //! The counts of the routines of lines.
 ghost use Rattle.std.specs.Prelude.{◌≡◌, ◌++◌, IfOk, OnOk, length, codes};
 ghost use Rattle.inform_names.specs.Views.{names_of};
-ghost use Rattle.trans_rows.specs.Names.{line_name};
+ghost use Rattle.trans_specs.specs.Names.{line_name};
 ghost use Rattle.adv_coverage.specs.Lines.{routine_count, line_counts};
 
 use crate::reports::LINE_LIMIT;

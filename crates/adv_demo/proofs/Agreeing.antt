@@ -19,8 +19,8 @@ use Rattle.scott_types.specs.declared.endings.Ending.TheVariants.{Over, NeedsLin
 use Rattle.scott_types.specs.Database.{Database}
 use Rattle.scott_types.specs.Style.{plain, plain_style}
 use Rattle.scott_rules.specs.Play.{PlayEnd, play, ending_of}
-use Rattle.trans_rows.specs.Faithful.{PlaysAlike}
-use Rattle.trans_rows.specs.Same.{Same, EndingIs}
+use Rattle.trans_specs.specs.Faithful.{PlaysAlike}
+use Rattle.trans_specs.specs.Same.{Same, EndingIs}
 use Rattle.translator.specs.Faithful.{Faithful}
 use Rattle.adv_demo.specs.declared.summaries.Summary.{Summary}
 use Rattle.adv_demo.specs.Summaries.{end_of_play, end_of_run, play_summary, run_summary}

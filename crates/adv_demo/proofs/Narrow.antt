@@ -12,9 +12,9 @@ use Rattle.inform_tree.specs.declared.widths.Width.TheVariants.{W16}
 use Rattle.scott_types.specs.declared.parts.Action.{Action}
 use Rattle.scott_types.specs.declared.parts.Item.{Item}
 use Rattle.scott_types.specs.ItemText.{is_treasure}
-use Rattle.trans_rows.specs.declared.places.Place.{Place}
-use Rattle.trans_rows.specs.declared.places.Place.TheVariants.{Carry, Treasures, Light, Home, Verb, Condition, Opcode}
-use Rattle.trans_rows.specs.Wide.{Placed, placed_header, placed_action, placed_actions, placed_numbers, is_too_wide}
+use Rattle.trans_specs.specs.declared.places.Place.{Place}
+use Rattle.trans_specs.specs.declared.places.Place.TheVariants.{Carry, Treasures, Light, Home, Verb, Condition, Opcode}
+use Rattle.trans_specs.specs.Wide.{Placed, placed_header, placed_action, placed_actions, placed_numbers, is_too_wide}
 use Rattle.adv_gen.specs.declared.actions.Kind.{Kind}
 use Rattle.adv_gen.specs.declared.actions.Kind.TheVariants.{Automatic, ForNoun, Tail, ForVerb}
 use Rattle.adv_gen.specs.Picks.{after, pick, picks_before}

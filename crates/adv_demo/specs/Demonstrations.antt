@@ -11,7 +11,7 @@ use Rattle.inform_tree.specs.Programs.{DirectiveTree}
 use Rattle.scott_rules.specs.Play.{play}
 use Rattle.scott_types.specs.Database.{Database}
 use Rattle.scott_types.specs.Style.{plain, plain_style}
-use Rattle.trans_rows.specs.Steps.{enough}
+use Rattle.trans_specs.specs.Steps.{enough}
 use Rattle.translator.specs.Faithful.{Faithful}
 use Rattle.adv_demo.specs.Summaries.{play_summary, run_summary}
 use Rattle.adv_demo.specs.Texts.{size_line, play_line, run_line}

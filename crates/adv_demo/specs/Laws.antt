@@ -11,7 +11,7 @@ use Rattle.inform_tree.specs.declared.widths.Width.TheVariants.{W16}
 use Rattle.inform_tree.specs.Programs.{DirectiveTree}
 use Rattle.scott_types.specs.Database.{Database}
 use Rattle.scott_types.specs.Style.{plain_style}
-use Rattle.trans_rows.specs.Wide.{wide_at}
+use Rattle.trans_specs.specs.Wide.{wide_at}
 use Rattle.translator.specs.Faithful.{Faithful}
 use Rattle.adv_demo.specs.Demonstrations.{played, run_with_enough, steps_used, ran_of}
 

@@ -2,7 +2,7 @@
 ghost use Rattle.std.specs.Prelude.{◌≡◌, ◌≤◌, None, IfOk, length};
 ghost use Rattle.adv_draws.specs.Seeded.{seeded_draws};
 ghost use Rattle.inform_tree.specs.declared.widths.Width.TheVariants.{W16};
-ghost use Rattle.trans_rows.specs.Wide.{wide_at};
+ghost use Rattle.trans_specs.specs.Wide.{wide_at};
 ghost use Rattle.adv_demo.specs.declared.steps.TheConstants.{LINE_LIMIT};
 ghost use Rattle.adv_demo.specs.Demonstrations.{Demonstrates, IsDemonstration};
 

@@ -4,7 +4,7 @@ ghost use Rattle.inform_names.specs.Views.{directives_of};
 ghost use Rattle.inform_reader.specs.Reading.{program_in};
 ghost use Rattle.inform_tree.specs.declared.widths.Width.TheVariants.{W16};
 ghost use Rattle.scott_types.specs.Style.{plain_style};
-ghost use Rattle.trans_rows.specs.Wide.{wide_at};
+ghost use Rattle.trans_specs.specs.Wide.{wide_at};
 ghost use Rattle.translator.specs.Faithful.{Faithful};
 
 use adv_io::Memory;

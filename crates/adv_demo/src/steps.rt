@@ -1,6 +1,6 @@
 //! How many steps are enough.
 ghost use Rattle.std.specs.Prelude.{◌≡◌, ◌≤◌, ◌-◌};
-ghost use Rattle.trans_rows.specs.Steps.{share, enough};
+ghost use Rattle.trans_specs.specs.Steps.{share, enough};
 
 use scott_types::Db;
 

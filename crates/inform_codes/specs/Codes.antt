@@ -8,10 +8,10 @@ use Rattle.inform_tree.specs.Values as v
 use Rattle.inform_tree.specs.Conditions as c
 use Rattle.inform_tree.specs.Conditions.{Conditions}
 use Rattle.inform_tree.specs.Statements as s
-use Rattle.inform_tree.specs.Statements.{Statement, Assignment, Choice}
+use Rattle.inform_tree.specs.Statements.{Choice}
 use Rattle.inform_codes.specs.declared.codes.Code.{Code}
 use Rattle.inform_codes.specs.declared.codes.Code.TheVariants as code
-use Rattle.inform_codes.specs.Parts.{Parts, nearest_value, nearest_row, nearest_test, nearest_block, nearest_branches, with_value, less_value, with_row, less_row, with_test, less_test, with_block, less_block, no_branches, with_branches, less_branches, with_choice, less_choices, with_statement}
+use Rattle.inform_codes.specs.Parts.{Parts, nearest_value, nearest_arguments, nearest_test, nearest_block, nearest_branches, with_value, less_value, with_arguments, less_arguments, with_test, less_test, with_block, less_block, no_branches, with_branches, less_branches, with_choice, less_choices, with_statement}
 
 -- the name at this place, or an empty one
 abbrev pub name_in : List (List ℕ) → ℕ → List ℕ
@@ -27,7 +27,7 @@ abbrev pub with_entry : List ℕ → Bool → Parts → Parts
 with_entry name words p = with_value (v.Entry name words (nearest_value p)) (less_value p)
 
 abbrev pub with_call_value : List ℕ → Parts → Parts
-with_call_value name p = with_value (v.Call name (nearest_row p)) (less_row p)
+with_call_value name p = with_value (v.Call name (nearest_arguments p)) (less_arguments p)
 
 abbrev pub with_random : Parts → Parts
 with_random p = with_value (v.Random (nearest_value p)) (less_value p)
@@ -47,7 +47,7 @@ with_product op p =
 
 abbrev pub with_argument : Parts → Parts
 with_argument p =
-    with_row (v.MoreArguments (nearest_value p) (nearest_row p)) (less_value (less_row p))
+    with_arguments (v.MoreArguments (nearest_value p) (nearest_arguments p)) (less_value (less_arguments p))
 
 -- ---- conditions
 
@@ -84,7 +84,7 @@ with_set_entry name words p =
     with_statement (s.Assign change) (less_value (less_value p))
 
 abbrev pub with_call : List ℕ → Parts → Parts
-with_call name p = with_statement (s.Call name (nearest_row p)) (less_row p)
+with_call name p = with_statement (s.Call name (nearest_arguments p)) (less_arguments p)
 
 abbrev pub with_if : Parts → Parts
 with_if p =
@@ -147,7 +147,7 @@ taken names given code.Neg p = with_neg p
 taken names given (code.Sum op) p = with_sum op p
 taken names given (code.Product op) p = with_product op p
 taken names given code.Argument p = with_argument p
-taken names given code.NoMore p = with_row v.NoArguments p
+taken names given code.NoMore p = with_arguments v.NoArguments p
 taken names given (code.Compare relation) p = with_compare relation p
 taken names given code.Nonzero p = with_nonzero p
 taken names given code.Not p = with_not p

@@ -20,7 +20,7 @@ branches_of b = record { cases = cases_of b.cases.items; otherwise = default_of 
 abbrev pub waiting : Growth → Parts
 waiting g = record {
   values = map expression_of g.values.items;
-  rows = map (λ row. arguments_of row.items) g.rows.items;
+  argument_lists = map (λ list. arguments_of list.items) g.argument_lists.items;
   tests = map condition_of g.tests.items;
   blocks = map (λ block. statements_of block.items) g.blocks.items;
   choices = g.choices.items;

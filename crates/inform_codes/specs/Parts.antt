@@ -16,14 +16,14 @@ pub record Branches : Type 0 where
 -- values, arguments of calls, conditions, blocks, choices of one case, and cases of switches
 pub record Parts : Type 0 where
   pub values : List Expression
-  pub rows : List Arguments
+  pub argument_lists : List Arguments
   pub tests : List Condition
   pub blocks : List Statements
   pub choices : List Choice
   pub switches : List Branches
 
 abbrev pub none : Parts
-none = record { values = []; rows = []; tests = []; blocks = []; choices = []; switches = [] }
+none = record { values = []; argument_lists = []; tests = []; blocks = []; choices = []; switches = [] }
 
 -- all but the nearest
 abbrev rest : {X : Type 0} → List X → List X
@@ -36,9 +36,9 @@ abbrev value_in : List Expression → Expression
 value_in [] = v.Number 0
 value_in (x ∷ xs) = x
 
-abbrev row_in : List Arguments → Arguments
-row_in [] = v.NoArguments
-row_in (x ∷ xs) = x
+abbrev arguments_in : List Arguments → Arguments
+arguments_in [] = v.NoArguments
+arguments_in (x ∷ xs) = x
 
 abbrev test_in : List Condition → Condition
 test_in [] = c.Nonzero (v.Number 0)
@@ -58,8 +58,8 @@ branches_in (x ∷ xs) = x
 abbrev pub nearest_value : Parts → Expression
 nearest_value p = value_in p.values
 
-abbrev pub nearest_row : Parts → Arguments
-nearest_row p = row_in p.rows
+abbrev pub nearest_arguments : Parts → Arguments
+nearest_arguments p = arguments_in p.argument_lists
 
 abbrev pub nearest_test : Parts → Condition
 nearest_test p = test_in p.tests
@@ -78,11 +78,11 @@ with_value x p = record p { values = x ∷ p.values }
 abbrev pub less_value : Parts → Parts
 less_value p = record p { values = rest p.values }
 
-abbrev pub with_row : Arguments → Parts → Parts
-with_row x p = record p { rows = x ∷ p.rows }
+abbrev pub with_arguments : Arguments → Parts → Parts
+with_arguments x p = record p { argument_lists = x ∷ p.argument_lists }
 
-abbrev pub less_row : Parts → Parts
-less_row p = record p { rows = rest p.rows }
+abbrev pub less_arguments : Parts → Parts
+less_arguments p = record p { argument_lists = rest p.argument_lists }
 
 abbrev pub with_test : Condition → Parts → Parts
 with_test x p = record p { tests = x ∷ p.tests }

@@ -3,7 +3,7 @@ ghost use Rattle.std.specs.Prelude.{◌≡◌, IfOk};
 ghost use Rattle.inform_tree.specs.Values.{expression_of, arguments_of};
 ghost use Rattle.inform_tree.specs.Conditions.{condition_of};
 ghost use Rattle.inform_tree.specs.Statements.{statement_of, statements_of};
-ghost use Rattle.inform_codes.specs.Parts.{none, nearest_value, nearest_row, nearest_test, nearest_block, nearest_branches, with_value, less_value, with_row, less_row, with_test, less_test, with_block, less_block, with_branches, less_branches, with_choice, less_choices, with_statement};
+ghost use Rattle.inform_codes.specs.Parts.{none, nearest_value, nearest_arguments, nearest_test, nearest_block, nearest_branches, with_value, less_value, with_arguments, less_arguments, with_test, less_test, with_block, less_block, with_branches, less_branches, with_choice, less_choices, with_statement};
 ghost use Rattle.inform_codes.specs.Growths.{branches_of, waiting};
 
 use adv_io::Memory;
@@ -24,7 +24,7 @@ pub struct Growth {
     pub alloc: Global,
     values: VecDeque<Expr>,
     /// The arguments of calls.
-    rows: VecDeque<VecDeque<Expr>>,
+    argument_lists: VecDeque<VecDeque<Expr>>,
     tests: VecDeque<Cond>,
     blocks: VecDeque<VecDeque<Stmt>>,
     /// The choices of one case.
@@ -37,7 +37,7 @@ impl Drop for Growth {
         let Growth {
             alloc: _,
             values: _,
-            rows: _,
+            argument_lists: _,
             tests: _,
             blocks: _,
             choices: _,
@@ -54,7 +54,7 @@ impl Growth {
         Growth {
             alloc,
             values: VecDeque::new(alloc),
-            rows: VecDeque::new(alloc),
+            argument_lists: VecDeque::new(alloc),
             tests: VecDeque::new(alloc),
             blocks: VecDeque::new(alloc),
             choices: VecDeque::new(alloc),
@@ -74,12 +74,12 @@ impl Growth {
         }
     }
 
-    pub fn pop_row(&mut self) -> VecDeque<Expr>
-        ensures row { arguments_of result.items ≡ nearest_row (waiting self.old) }
-        ensures rest { waiting self.new ≡ less_row (waiting self.old) }
+    pub fn pop_arguments(&mut self) -> VecDeque<Expr>
+        ensures arguments { arguments_of result.items ≡ nearest_arguments (waiting self.old) }
+        ensures rest { waiting self.new ≡ less_arguments (waiting self.old) }
     {
-        match self.rows.pop_front() {
-            Some(row) => row,
+        match self.argument_lists.pop_front() {
+            Some(arguments) => arguments,
             None => VecDeque::new(self.alloc),
         }
     }
@@ -136,11 +136,11 @@ impl Growth {
         Ok(())
     }
 
-    pub fn push_row(&mut self, row: VecDeque<Expr>) -> Result<(), Memory>
+    pub fn push_arguments(&mut self, arguments: VecDeque<Expr>) -> Result<(), Memory>
         ensures { IfOk result (λ _. waiting self.new
-            ≡ with_row (arguments_of row.items) (waiting self.old)) }
+            ≡ with_arguments (arguments_of arguments.items) (waiting self.old)) }
     {
-        self.rows.push_front(row)?;
+        self.argument_lists.push_front(arguments)?;
         Ok(())
     }
 

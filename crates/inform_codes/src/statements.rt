@@ -50,7 +50,7 @@ impl Growth {
     pub fn take_call(&mut self, name: Name) -> Result<(), Memory>
         ensures { IfOk result (λ _. waiting self.new ≡ with_call name (waiting self.old)) }
     {
-        let arguments = self.pop_row().into_vec();
+        let arguments = self.pop_arguments().into_vec();
         self.push_statement(Stmt::Call(name, arguments))
     }
 

@@ -59,7 +59,7 @@ impl Growth {
             Code::Sum(op) => self.take_sum(op),
             Code::Product(op) => self.take_product(op),
             Code::Argument => self.take_argument(),
-            Code::NoMore => self.push_row(VecDeque::new(self.alloc)),
+            Code::NoMore => self.push_arguments(VecDeque::new(self.alloc)),
             Code::Compare(relation) => self.take_compare(relation),
             Code::Nonzero => self.take_nonzero(),
             Code::Not => self.take_not(),

@@ -18,7 +18,7 @@ impl Growth {
     pub fn take_call_value(&mut self, name: Name) -> Result<(), Memory>
         ensures { IfOk result (λ _. waiting self.new ≡ with_call_value name (waiting self.old)) }
     {
-        let arguments = self.pop_row().into_vec();
+        let arguments = self.pop_arguments().into_vec();
         self.push_value(Expr::Call(name, arguments))
     }
 
@@ -58,8 +58,8 @@ impl Growth {
         ensures { IfOk result (λ _. waiting self.new ≡ with_argument (waiting self.old)) }
     {
         let value = self.pop_value();
-        let mut row = self.pop_row();
-        row.push_front(value)?;
-        self.push_row(row)
+        let mut arguments = self.pop_arguments();
+        arguments.push_front(value)?;
+        self.push_arguments(arguments)
     }
 }

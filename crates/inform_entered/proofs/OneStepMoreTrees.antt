@@ -14,7 +14,7 @@ use Rattle.inform_meaning.specs.declared.traps.Trap.TheVariants as t
 use Rattle.inform_meaning.specs.Words.{summed, multiplied, low_byte}
 use Rattle.inform_meaning.specs.Worlds.{Routine, Program, Scope, Config, with_argument, with_note}
 use Rattle.inform_meaning.specs.Frames as f
-use Rattle.inform_meaning.specs.Frames.{Begin, Want, Decide, Loop, Frame, Begins, Wants, Decides, Looping, Calling, Spent, Outcome, Waits, Meaning, gives, bind, when, on_normal, on_value, on_truth, on_body, on_return}
+use Rattle.inform_meaning.specs.Frames.{Begin, Want, Decide, Loop, Begins, Wants, Decides, Looping, Calling, Spent, Waits, Meaning, bind, when, on_normal, on_value, on_truth, on_body, on_return}
 use Rattle.inform_meaning.specs.Parts.{tick_at, tick}
 use Rattle.inform_meaning.specs.Meaning.{Calls, on_product, eval, eval_call, eval_sum, eval_product, test, test_all, test_any, test_if_any, alter, alter_if_any, print_items}
 use Rattle.inform_meaning.specs.Statements.{while_loop, do_loop, for_loop, loop_goes_on, after_body, after_test, turns, loop, fits_any, act, exec_all, exec_cases, exec_default}

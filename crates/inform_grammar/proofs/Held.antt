@@ -55,12 +55,6 @@ module _ (room : ℕ → Bool) where
       let a = holds-then (k (front ++ xs)) f n v mid m rest h in (a.0, a.1, a.2, (xs, mid, d, t, g, a.3), a.4)
   holds-then (shut p) f n v ts m rest h = holds-then p f (one_less n) v ts m rest h
 
-  pub read-both : {X Y : Type 0} {p : Plan X} {f : X → Plan Y} {n : ℕ} {v : Y} {ts : List Lexeme} {m : ℕ} {rest : List Lexeme}
-      → Read room (p >>= f) n v ts m rest
-      → (w : X) × (i : ℕ) × (mid : List Lexeme) × Read room p n w ts i mid × Read room (f w) i v mid m rest
-  read-both {p = p} {f = f} {n = n} {v = v} {ts = ts} {m = m} {rest = rest} h =
-      let a = holds-then p f n v ts m rest h.says in (a.0, a.1, a.2, record { says = a.3 }, record { says = a.4 })
-
   pub begun-then : {X Y : Type 0} (o : Option (Plan X)) (f : X → Plan Y) (n : ℕ) (v : Y) (us : List Lexeme) (m : ℕ) (rest : List Lexeme)
       → Begun room (onward o f) n v us m rest
       → (w : X) × (i : ℕ) × (mid : List Lexeme) × Begun room o n w us i mid × Read room (f w) i v mid m rest

@@ -12,10 +12,10 @@ use Rattle.inform_lexemes.specs.declared.symbols.Symbol.TheVariants.{Semicolon, 
 use Rattle.inform_lexemes.specs.declared.keywords.Keyword.TheVariants as w
 use Rattle.inform_lexemes.specs.Lexemes.{Lexeme, Word, Name, Number, Character, Quoted, Sign}
 use Rattle.inform_grammar.specs.Rules as r
-use Rattle.inform_grammar.specs.Rules.{Rule, TreeOf, SwitchPart, Head, Said}
+use Rattle.inform_grammar.specs.Rules.{Rule, TreeOf, SwitchPart, Said}
 use Rattle.inform_grammar.specs.Plan.{Plan, done, refuse, next, maybe, chain, shut, ◌>>=◌, take, one, onward}
 use Rattle.inform_grammar.specs.ValueRules.{constant, entry, arguments, name_after, entry_after, primary, unary, factor, factors_after, product, term, terms_after, value, argument}
-use Rattle.inform_grammar.specs.ConditionRules.{relation_after, value_after, bracket_after, test, member, members_after, tests_after, guarded}
+use Rattle.inform_grammar.specs.ConditionRules.{relation_after, value_after, bracket_after, test, member, tests_after, guarded}
 use Rattle.inform_grammar.specs.StatementRules.{change_after, change, statement_after, item, further_item, range_after, choice, further_choice, choices_after, head_after, part_after, cases_of, default_after, cases_after, switch, body_of, else_after, in_brackets, if_after, while_after, do_after, for_body, for_last, for_test, for_after, return_after, print_after, read_after, statement, body, part_of, part}
 use Rattle.inform_grammar.specs.Rule.{directive, local, program, rule}
 use Rattle.inform_grammar.specs.Trees.{AllOf, AnyOf, Guard, Join, Plain, Tested}
@@ -213,12 +213,6 @@ unfolding member
 paired-member AllOf (Sign And) = one-paired bare-test (λ x. done-paired)
 paired-member AnyOf (Sign Or) = one-paired bare-test (λ x. done-paired)
 paired-member _ _ = tt
-
--- a chain goes on with its own connective, and bars the other one
-paired-members : (join : Join) (x y : Condition) → Paired (members_after join x y)
-unfolding opened
-paired-members AllOf x y = record { both = (tt, tt); leading = (tt, tt, λ xs. ((tt, tt), tt)) }
-paired-members AnyOf x y = record { both = (tt, tt); leading = (tt, tt, λ xs. ((tt, tt), tt)) }
 
 -- after the first test both may stand
 paired-tests : (x : Guard) → Paired (tests_after x)

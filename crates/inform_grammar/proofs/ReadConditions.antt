@@ -7,7 +7,6 @@ use Rattle.inform_tree.specs.Conditions as c
 use Rattle.inform_lexemes.specs.declared.symbols.Symbol.TheVariants.{LeftRound, And, Or, Not}
 use Rattle.inform_lexemes.specs.Lexemes.{Lexeme, Sign, is_sign}
 use Rattle.inform_grammar.specs.Rules as r
-use Rattle.inform_grammar.specs.Rules.{Rule, TreeOf}
 use Rattle.inform_grammar.specs.Lexemes.{No, is_relation, relation_sign, is_connective, connective, other_connective}
 use Rattle.inform_grammar.specs.Plan.{Plan, chain, ◌>>=◌, one}
 use Rattle.inform_grammar.specs.ValueRules.{factors_after, terms_after}

@@ -8,7 +8,7 @@ use Rattle.inform_lexemes.specs.declared.symbols.Symbol.TheVariants.{Semicolon, 
 use Rattle.inform_lexemes.specs.declared.keywords.Keyword.TheVariants as w
 use Rattle.inform_lexemes.specs.Lexemes.{Lexeme, Quoted, Sign, is_sign, is_word}
 use Rattle.inform_grammar.specs.Rules as r
-use Rattle.inform_grammar.specs.Rules.{Rule, TreeOf, SwitchPart, Head, Said}
+use Rattle.inform_grammar.specs.Rules.{SwitchPart, Head, Said}
 use Rattle.inform_grammar.specs.Lexemes.{Yes, No, continues_choice, one_less}
 use Rattle.inform_grammar.specs.Plan.{Plan, done, many, ◌>>=◌, take, one, optional}
 use Rattle.inform_grammar.specs.ConditionRules.{value_after}

@@ -9,7 +9,6 @@ use Rattle.inform_tree.specs.Values.{Expression}
 use Rattle.inform_lexemes.specs.declared.symbols.Symbol.TheVariants.{Comma, LeftRound, Plus, Minus, Times}
 use Rattle.inform_lexemes.specs.Lexemes.{Lexeme, Name, Sign, is_sign}
 use Rattle.inform_grammar.specs.Rules as r
-use Rattle.inform_grammar.specs.Rules.{Rule, TreeOf}
 use Rattle.inform_grammar.specs.Lexemes.{Yes, No, is_arrow, is_factor_sign, is_term_sign, one_less}
 use Rattle.inform_grammar.specs.Plan.{Plan, many, ◌>>=◌, one}
 use Rattle.inform_grammar.specs.ValueRules.{arguments, name_after, factors_after, terms_after}

@@ -4,13 +4,13 @@ use Rattle.inform_tree.specs.declared.values.Const.{Const}
 use Rattle.inform_tree.specs.declared.values.Const.TheVariants as k
 use Rattle.inform_tree.specs.Values.{Expression}
 use Rattle.inform_tree.specs.Statements as s
-use Rattle.inform_tree.specs.Statements.{Assignment, PrintItem}
+use Rattle.inform_tree.specs.Statements.{Assignment}
 use Rattle.inform_tree.specs.Programs.{DirectiveTree}
 use Rattle.inform_lexemes.specs.declared.symbols.Symbol.TheVariants.{Semicolon, Comma, Colon, LeftRound, RightRound, LeftBrace, RightBrace, LeftSquare, RightSquare, Assign, ByteArrow}
 use Rattle.inform_lexemes.specs.declared.keywords.Keyword.TheVariants as w
 use Rattle.inform_lexemes.specs.Lexemes.{Lexeme, Word, Name, Number, Quoted, Sign, is_sign, is_word}
 use Rattle.inform_grammar.specs.Rules as r
-use Rattle.inform_grammar.specs.Rules.{Rule, TreeOf, SwitchPart, Head, Said}
+use Rattle.inform_grammar.specs.Rules.{Rule, SwitchPart, Head, Said}
 use Rattle.inform_grammar.specs.Lexemes.{continues_choice, swapped, any_lexeme}
 use Rattle.inform_grammar.specs.Plan.{Plan, done, refuse, look, ◌>>=◌, take, one, optional, onward}
 use Rattle.inform_grammar.specs.ValueRules.{constant, value}

@@ -8,7 +8,7 @@ use Rattle.inform_lexemes.specs.declared.symbols.Symbol.TheVariants.{Semicolon, 
 use Rattle.inform_lexemes.specs.declared.keywords.Keyword.TheVariants as w
 use Rattle.inform_lexemes.specs.Lexemes.{Lexeme, Word, Name, Number, Character, Sign, is_sign}
 use Rattle.inform_grammar.specs.Rules as r
-use Rattle.inform_grammar.specs.Rules.{Rule, TreeOf}
+use Rattle.inform_grammar.specs.Rules.{Rule}
 use Rattle.inform_grammar.specs.Lexemes.{is_arrow, is_relation, other_connective}
 use Rattle.inform_grammar.specs.Plan.{Plan, done, ◌>>=◌, onward, no_lexeme}
 use Rattle.inform_grammar.specs.ValueRules.{constant, entry, arguments, name_after, primary, unary, factor, factors_after, product, term, terms_after, value, argument}

@@ -1,8 +1,8 @@
--- Reading a row of pieces gives exactly what the row stands for, or exactly where it breaks.
+-- Reading pieces gives exactly what they stand for, or exactly where it breaks.
 use Rattle.std.proofs.Common.{◌≡◌, ℕ, zero, suc, ◌+◌, List, [], ◌∷◌, ◌++◌, drop, Result, Ok, Err, ◌⊎◌, inl, inr, refl, ap, subst, ◌∙◌, arith}
 use Rattle.inform_lexer.specs.declared.kinds.Token.{Token}
 use Rattle.inform_lexer.specs.declared.faults.LexFault.{LexFault}
-use Rattle.inform_lexer.specs.Pieces.{Piece, Row, none, first, Breaks, here, later, added, after_piece, cut}
+use Rattle.inform_lexer.specs.Pieces.{Piece, Pieces, none, first, Breaks, here, later, added, after_piece, cut}
 use Rattle.inform_lexer.specs.Tokens.{token_step, Spelled, Faulty, lexed}
 use Rattle.inform_lexer.specs.Laws.{TokensAreExact, FaultIsExact, TokensOrFault, NeverBoth, OneTokenList, OneFault}
 use Rattle.inform_lexer.proofs.Cutting.{piece_read, piece_refused}
@@ -10,11 +10,11 @@ use Rattle.inform_lexer.proofs.Cutting.{piece_read, piece_refused}
 module _ {S X F : Type 0} (step : S → ℕ → List ℕ → Result (Piece S X) F) where
   -- ---- what is there is read
 
-  pub row_read : (s : S) (at : ℕ) (bytes : List ℕ) (xs : List X) → Row step s at bytes xs → cut step 0 s at bytes ≡ Ok xs
-  row_read s at _ _ none = refl
-  row_read s at _ _ (first {b = b} {bytes = bytes} {xs = xs} p is rest) =
+  pub pieces_read : (s : S) (at : ℕ) (bytes : List ℕ) (xs : List X) → Pieces step s at bytes xs → cut step 0 s at bytes ≡ Ok xs
+  pieces_read s at _ _ none = refl
+  pieces_read s at _ _ (first {b = b} {bytes = bytes} {xs = xs} p is rest) =
       piece_read step s at b bytes p is
-      ∙ ap (λ (r : Result (List X) F). added p.gives r) (row_read p.next (at + 1 + p.more) (drop p.more bytes) xs rest)
+      ∙ ap (λ (r : Result (List X) F). added p.gives r) (pieces_read p.next (at + 1 + p.more) (drop p.more bytes) xs rest)
 
   pub break_read : (s : S) (at : ℕ) (bytes : List ℕ) (f : F) → Breaks step s at bytes f → cut step 0 s at bytes ≡ Err f
   break_read s at _ _ (here {b = b} {bytes = bytes} {f = f} is) = piece_refused step s at b bytes f is
@@ -24,22 +24,22 @@ module _ {S X F : Type 0} (step : S → ℕ → List ℕ → Result (Piece S X) 
 
   -- ---- what is read is there, once the rest of a piece is passed
 
-  passed : (s : S) (at n : ℕ) (bytes : List ℕ) (xs : List X) → Row step s (at + 1 + n) bytes xs → Row step s (at + suc n) bytes xs
-  passed s at n bytes xs row = let same : at + 1 + n ≡ at + suc n = omega arith in subst (λ (k : ℕ). Row step s k bytes xs) same row
+  passed : (s : S) (at n : ℕ) (bytes : List ℕ) (xs : List X) → Pieces step s (at + 1 + n) bytes xs → Pieces step s (at + suc n) bytes xs
+  passed s at n bytes xs pieces = let same : at + 1 + n ≡ at + suc n = omega arith in subst (λ (k : ℕ). Pieces step s k bytes xs) same pieces
 
   passed_break : (s : S) (at n : ℕ) (bytes : List ℕ) (f : F) → Breaks step s (at + 1 + n) bytes f → Breaks step s (at + suc n) bytes f
-  passed_break s at n bytes f row = let same : at + 1 + n ≡ at + suc n = omega arith in subst (λ (k : ℕ). Breaks step s k bytes f) same row
+  passed_break s at n bytes f pieces = let same : at + 1 + n ≡ at + suc n = omega arith in subst (λ (k : ℕ). Breaks step s k bytes f) same pieces
 
-  at_once : (s : S) (at : ℕ) (bytes : List ℕ) (xs : List X) → Row step s at bytes xs → Row step s (at + 0) bytes xs
-  at_once s at bytes xs row = let same : at ≡ at + 0 = omega arith in subst (λ (k : ℕ). Row step s k bytes xs) same row
+  at_once : (s : S) (at : ℕ) (bytes : List ℕ) (xs : List X) → Pieces step s at bytes xs → Pieces step s (at + 0) bytes xs
+  at_once s at bytes xs pieces = let same : at ≡ at + 0 = omega arith in subst (λ (k : ℕ). Pieces step s k bytes xs) same pieces
 
   break_at_once : (s : S) (at : ℕ) (bytes : List ℕ) (f : F) → Breaks step s at bytes f → Breaks step s (at + 0) bytes f
-  break_at_once s at bytes f row = let same : at ≡ at + 0 = omega arith in subst (λ (k : ℕ). Breaks step s k bytes f) same row
+  break_at_once s at bytes f pieces = let same : at ≡ at + 0 = omega arith in subst (λ (k : ℕ). Breaks step s k bytes f) same pieces
 
   with_rest : (s : S) (at b : ℕ) (bytes : List ℕ) (p : Piece S X) → step s at (b ∷ bytes) ≡ Ok p → (xs : List X) (r : Result (List X) F)
-      → added p.gives r ≡ Ok xs → ((ys : List X) → r ≡ Ok ys → Row step p.next (at + 1 + p.more) (drop p.more bytes) ys) → Row step s at (b ∷ bytes) xs
+      → added p.gives r ≡ Ok xs → ((ys : List X) → r ≡ Ok ys → Pieces step p.next (at + 1 + p.more) (drop p.more bytes) ys) → Pieces step s at (b ∷ bytes) xs
   with_rest s at b bytes p is xs (Ok ys) e rest =
-      let same : p.gives ++ ys ≡ xs = cc in subst (λ (zs : List X). Row step s at (b ∷ bytes) zs) same (first p is (rest ys refl))
+      let same : p.gives ++ ys ≡ xs = cc in subst (λ (zs : List X). Pieces step s at (b ∷ bytes) zs) same (first p is (rest ys refl))
   with_rest s at b bytes p is xs (Err f) e rest = absurd (cc)
 
   breaks_later : (s : S) (at b : ℕ) (bytes : List ℕ) (p : Piece S X) → step s at (b ∷ bytes) ≡ Ok p → (f : F) (r : Result (List X) F)
@@ -47,15 +47,15 @@ module _ {S X F : Type 0} (step : S → ℕ → List ℕ → Result (Piece S X) 
   breaks_later s at b bytes p is f (Ok ys) e rest = absurd (cc)
   breaks_later s at b bytes p is f (Err g) e rest = later p is (rest (cc))
 
-  pub read_row : (n : ℕ) (s : S) (at : ℕ) (bytes : List ℕ) (xs : List X) → cut step n s at bytes ≡ Ok xs → Row step s (at + n) (drop n bytes) xs
-  read_row zero s at [] xs e = let same : [] ≡ xs = cc in subst (λ (zs : List X). Row step s (at + 0) [] zs) same none
-  read_row (suc n) s at [] xs e = let same : [] ≡ xs = cc in subst (λ (zs : List X). Row step s (at + suc n) [] zs) same none
-  read_row (suc n) s at (b ∷ bytes) xs e = passed s at n (drop n bytes) xs (read_row n s (at + 1) bytes xs e)
-  read_row zero s at (b ∷ bytes) xs e = at_once s at (b ∷ bytes) xs (by (step s at (b ∷ bytes)) refl e (λ p ys. read_row p.more p.next (at + 1) bytes ys))
+  pub read_pieces : (n : ℕ) (s : S) (at : ℕ) (bytes : List ℕ) (xs : List X) → cut step n s at bytes ≡ Ok xs → Pieces step s (at + n) (drop n bytes) xs
+  read_pieces zero s at [] xs e = let same : [] ≡ xs = cc in subst (λ (zs : List X). Pieces step s (at + 0) [] zs) same none
+  read_pieces (suc n) s at [] xs e = let same : [] ≡ xs = cc in subst (λ (zs : List X). Pieces step s (at + suc n) [] zs) same none
+  read_pieces (suc n) s at (b ∷ bytes) xs e = passed s at n (drop n bytes) xs (read_pieces n s (at + 1) bytes xs e)
+  read_pieces zero s at (b ∷ bytes) xs e = at_once s at (b ∷ bytes) xs (by (step s at (b ∷ bytes)) refl e (λ p ys. read_pieces p.more p.next (at + 1) bytes ys))
     where
       by : (r : Result (Piece S X) F) → step s at (b ∷ bytes) ≡ r → after_piece r (λ p. cut step p.more p.next (at + 1) bytes) ≡ Ok xs
-          → ((p : Piece S X) (ys : List X) → cut step p.more p.next (at + 1) bytes ≡ Ok ys → Row step p.next (at + 1 + p.more) (drop p.more bytes) ys)
-          → Row step s at (b ∷ bytes) xs
+          → ((p : Piece S X) (ys : List X) → cut step p.more p.next (at + 1) bytes ≡ Ok ys → Pieces step p.next (at + 1 + p.more) (drop p.more bytes) ys)
+          → Pieces step s at (b ∷ bytes) xs
       by (Ok p) is e rest = with_rest s at b bytes p is xs (cut step p.more p.next (at + 1) bytes) e (rest p)
       by (Err f) is e rest = absurd (cc)
 
@@ -75,7 +75,7 @@ module _ {S X F : Type 0} (step : S → ℕ → List ℕ → Result (Piece S X) 
 
 pub tokens_are_exact : TokensAreExact
 unfolding lexed
-tokens_are_exact bytes tokens = (read_row token_step 0 tt 0 bytes tokens, row_read token_step tt 0 bytes tokens)
+tokens_are_exact bytes tokens = (read_pieces token_step 0 tt 0 bytes tokens, pieces_read token_step tt 0 bytes tokens)
 
 pub fault_is_exact : FaultIsExact
 unfolding lexed

@@ -15,7 +15,7 @@ use Rattle.inform_lexer.specs.declared.kinds.Kind.{Kind}
 use Rattle.inform_lexer.specs.declared.kinds.Kind.TheVariants as kind
 use Rattle.inform_lexer.specs.declared.kinds.Token.{Token}
 use Rattle.inform_lexer.specs.declared.faults.LexFault.TheVariants.{BadByte, LongName, BadCharacter, OpenString}
-use Rattle.inform_lexer.specs.Pieces.{Piece, Row, none, first}
+use Rattle.inform_lexer.specs.Pieces.{Piece, Pieces, none, first}
 use Rattle.inform_lexer.specs.Bytes.{begins_word, is_word_byte, is_blank, is_digit_in, is_inside}
 use Rattle.inform_lexer.specs.Numbers.{number_in}
 use Rattle.inform_lexer.specs.Strings.{inside_said}
@@ -419,15 +419,15 @@ each_longest whole at b bytes p [] rest there e spans others = others
 each_longest whole at b bytes p (t ∷ tokens) rest there e spans others =
     (piece_longest whole at b bytes p t there e spans.0.0 spans.0.1, each_longest whole at b bytes p tokens rest there e spans.1 others)
 
-row_longest : (known : Unit {0}) (at : ℕ) (bytes : List ℕ) (tokens : List Token) → Row token_step known at bytes tokens
+pieces_longest : (known : Unit {0}) (at : ℕ) (bytes : List ℕ) (tokens : List Token) → Pieces token_step known at bytes tokens
     → (whole : List ℕ) → drop at whole ≡ bytes → AllByRecursion (IsLongest whole) tokens
-row_longest known at _ _ none whole there = tt
-row_longest known at _ _ (first {b = b} {bytes = bytes} {xs = xs} p is rest) whole there =
+pieces_longest known at _ _ none whole there = tt
+pieces_longest known at _ _ (first {b = b} {bytes = bytes} {xs = xs} p is rest) whole there =
     let size : at + 1 + p.more ≡ at + suc p.more = omega arith in
     let onward : drop (at + 1 + p.more) whole ≡ drop p.more bytes =
     ap (λ (n : ℕ). drop n whole) size ∙ sym (drop-drop (suc p.more) at whole) ∙ ap (λ (ys : List ℕ). drop (suc p.more) ys) there in
     each_longest whole at b bytes p p.gives xs there is (step_spans at b bytes p is)
-    (row_longest p.next (at + 1 + p.more) (drop p.more bytes) xs rest whole onward)
+    (pieces_longest p.next (at + 1 + p.more) (drop p.more bytes) xs rest whole onward)
 
 pub tokens_are_longest : TokensAreLongest
-tokens_are_longest bytes tokens spelled = row_longest tt 0 bytes tokens spelled bytes refl
+tokens_are_longest bytes tokens spelled = pieces_longest tt 0 bytes tokens spelled bytes refl

@@ -20,7 +20,7 @@ use Rattle.inform_lexer.specs.declared.kinds.Kind.{Kind}
 use Rattle.inform_lexer.specs.declared.kinds.Kind.TheVariants as kind
 use Rattle.inform_lexer.specs.declared.kinds.Token.{Token}
 use Rattle.inform_lexer.specs.declared.faults.LexFault.TheVariants.{BadByte, LongName, BadCharacter, OpenString}
-use Rattle.inform_lexer.specs.Pieces.{Piece, Row, none, first}
+use Rattle.inform_lexer.specs.Pieces.{Piece, Pieces, none, first}
 use Rattle.inform_lexer.specs.Bytes.{begins_word, is_word_byte, is_blank, is_digit_in, is_plain, is_comment_byte}
 use Rattle.inform_lexer.specs.Numbers.{number_in}
 use Rattle.inform_lexer.specs.Strings.{string_step, run_here, escape_here, says, inside_said}
@@ -28,7 +28,7 @@ use Rattle.inform_lexer.specs.Tokens.{token, gap, number_token, quoted, word_her
 use Rattle.inform_lexer.specs.Spans.{number_said, number_lexeme, sign_lexeme, or_nothing, inside, lexeme_of, lexeme_at}
 use Rattle.inform_lexer.specs.Written.{is_read}
 use Rattle.inform_lexer.specs.Laws.{TokensAreWritable}
-use Rattle.inform_lexer.proofs.Exact.{read_row}
+use Rattle.inform_lexer.proofs.Exact.{read_pieces}
 
 -- ---- numbers, symbols and strings, whatever the span
 
@@ -113,16 +113,16 @@ unfolding string_step
 string_step_bytes c at b bytes p e =
     string_piece_bytes (is_blank b) (eqb b 94) (eqb b 126) (eqb b 64) (is_plain b) c at b bytes p (plain_is_byte b) e
 
-string_row_bytes : (c : Bool) (at : ℕ) (bytes text : List ℕ) → Row string_step c at bytes text → list_all is_byte text ≡ true
-string_row_bytes c at _ _ none = refl
-string_row_bytes c at _ _ (first {b = b} {bytes = bytes} {xs = xs} p is rest) =
+string_pieces_bytes : (c : Bool) (at : ℕ) (bytes text : List ℕ) → Pieces string_step c at bytes text → list_all is_byte text ≡ true
+string_pieces_bytes c at _ _ none = refl
+string_pieces_bytes c at _ _ (first {b = b} {bytes = bytes} {xs = xs} p is rest) =
     list_all-append is_byte p.gives xs
     ∙ ap (λ (t : Bool). t && list_all is_byte xs) (string_step_bytes c at b bytes p is)
-    ∙ string_row_bytes p.next (at + 1 + p.more) (drop p.more bytes) xs rest
+    ∙ string_pieces_bytes p.next (at + 1 + p.more) (drop p.more bytes) xs rest
 
 string_read : (bytes : List ℕ) (r : Result (List ℕ) ℕ) → inside_said bytes ≡ r → list_all is_byte (or_nothing r) ≡ true
 unfolding inside_said
-string_read bytes (Ok text) is = string_row_bytes false 0 bytes text (read_row string_step 0 false 0 bytes text is)
+string_read bytes (Ok text) is = string_pieces_bytes false 0 bytes text (read_pieces string_step 0 false 0 bytes text is)
 string_read bytes (Err place) is = refl
 
 any_string : (bytes : List ℕ) → is_read (lexeme_of kind.Quoted bytes) ≡ true
@@ -279,17 +279,17 @@ located whole at (t ∷ tokens) all =
     and_from (is_read (lexeme_at whole t)) _ (subst (λ (n : ℕ). is_read (lexeme_of t.kind (take (t.end - t.start) (drop n whole))) ≡ true) there here.1)
     (located whole at tokens parts.1)
 
-row_sound : (known : Unit {0}) (at : ℕ) (bytes : List ℕ) (tokens : List Token) → Row token_step known at bytes tokens
+pieces_sound : (known : Unit {0}) (at : ℕ) (bytes : List ℕ) (tokens : List Token) → Pieces token_step known at bytes tokens
     → (whole : List ℕ) → drop at whole ≡ bytes → list_all (λ t. is_read (lexeme_at whole t)) tokens ≡ true
-row_sound known at _ _ none whole there = refl
-row_sound known at _ _ (first {b = b} {bytes = bytes} {xs = xs} p is rest) whole there =
+pieces_sound known at _ _ none whole there = refl
+pieces_sound known at _ _ (first {b = b} {bytes = bytes} {xs = xs} p is rest) whole there =
     let size : at + 1 + p.more ≡ at + suc p.more = omega arith in
     let onward : drop (at + 1 + p.more) whole ≡ drop p.more bytes =
     ap (λ (n : ℕ). drop n whole) size ∙ sym (drop-drop (suc p.more) at whole) ∙ ap (λ (ys : List ℕ). drop (suc p.more) ys) there in
     let sound : Sound at (drop at whole) p = subst (λ (ys : List ℕ). Sound at ys p) (sym there) (step_sound known at b bytes p is) in
     list_all-append (λ t. is_read (lexeme_at whole t)) p.gives xs
     ∙ and_from (list_all (λ t. is_read (lexeme_at whole t)) p.gives) _ (located whole at p.gives sound)
-    (row_sound p.next (at + 1 + p.more) (drop p.more bytes) xs rest whole onward)
+    (pieces_sound p.next (at + 1 + p.more) (drop p.more bytes) xs rest whole onward)
 
 pub tokens_are_writable : TokensAreWritable
-tokens_are_writable bytes tokens spelled = list_all-map is_read (lexeme_at bytes) tokens ∙ row_sound tt 0 bytes tokens spelled bytes refl
+tokens_are_writable bytes tokens spelled = list_all-map is_read (lexeme_at bytes) tokens ∙ pieces_sound tt 0 bytes tokens spelled bytes refl

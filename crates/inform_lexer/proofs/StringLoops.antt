@@ -1,12 +1,12 @@
 -- The inside of a string is read from piece to piece. The slice from a place on is `take (length
 -- whole - at) (drop at whole)`.
-use Rattle.std.proofs.Common.{◌≡◌, ℕ, ◌+◌, ◌-◌, ◌≤◌, ◌<◌, Bool, false, List, [], ◌++◌, length, take, drop, Some, None, Result, Ok, Err, refl, sym, ap, ◌∙◌, arith, length-drop, append-nil}
+use Rattle.std.proofs.Common.{◌≡◌, ℕ, ◌+◌, ◌-◌, ◌≤◌, ◌<◌, Bool, false, List, [], ◌++◌, length, take, drop, Result, Ok, Err, refl, sym, ap, ◌∙◌, arith, length-drop}
 use Rattle.std.proofs.lemmas.List.{take_rest}
 use Rattle.inform_lexer.specs.Pieces.{Piece, added, cut}
 use Rattle.inform_lexer.specs.Strings.{string_step, inside_said}
 use Rattle.inform_lexer.specs.Spans.{or_nothing}
 use Rattle.inform_lexer.specs.Views.{refused_at}
-use Rattle.inform_lexer.proofs.Cutting.{goes_on, stops, ends, added_twice}
+use Rattle.inform_lexer.proofs.Cutting.{goes_on, stops, added_twice}
 
 abbrev pub rest : List ℕ → ℕ → List ℕ
 rest whole at = take (length whole - at) (drop at whole)
@@ -41,13 +41,6 @@ pub refused_on : (whole : List ℕ) (at : ℕ) (caret : Bool) (p : Piece Bool �
     → refused_at (read p.next (at + 1 + p.more) whole) ≡ refused_at (read caret at whole)
 refused_on whole at caret p inside is = sym (ap refused_at (said_on whole at caret p inside is) ∙ same_refusal p.gives _)
 
-pub refused_here : (whole : List ℕ) (at : ℕ) (caret : Bool) (place : ℕ) → at < length whole → Err place ≡ string_step caret at (rest whole at)
-    → refused_at (read caret at whole) ≡ Some place
-refused_here whole at caret place inside is = ap refused_at (said_no_more whole at caret place inside is)
-
-pub refused_nowhere : (whole : List ℕ) (at : ℕ) (caret : Bool) → length whole ≤ at → refused_at (read caret at whole) ≡ None
-refused_nowhere whole at caret past = ap refused_at (ends string_step whole at caret past)
-
 -- ---- what is said
 
 pub text_on : (whole text : List ℕ) (at : ℕ) (caret : Bool) (p : Piece Bool ℕ) → at < length whole → Ok p ≡ string_step caret at (rest whole at)
@@ -59,8 +52,3 @@ pub text_refused : (whole text : List ℕ) (at : ℕ) (caret : Bool) (place : �
     → added text (read caret at whole) ≡ inside_said whole → or_nothing (inside_said whole) ≡ []
 text_refused whole text at caret place inside is same =
     ap or_nothing (sym same ∙ ap (λ (r : Result (List ℕ) ℕ). added text r) (said_no_more whole at caret place inside is))
-
-pub text_ended : (whole text : List ℕ) (at : ℕ) (caret : Bool) → length whole ≤ at
-    → added text (read caret at whole) ≡ inside_said whole → or_nothing (inside_said whole) ≡ text
-text_ended whole text at caret past same =
-    ap or_nothing (sym same ∙ ap (λ (r : Result (List ℕ) ℕ). added text r) (ends string_step whole at caret past)) ∙ append-nil text

@@ -14,7 +14,7 @@ use Rattle.inform_tree.specs.declared.words.TheConstants.{NAME_LIMIT}
 use Rattle.inform_lexemes.specs.Lexemes.{Lexeme, Word, Reserved, Name, Number, Character, Quoted, Sign, word_lexeme}
 use Rattle.inform_lexer.specs.declared.kinds.Kind.TheVariants as kind
 use Rattle.inform_lexer.specs.declared.kinds.Token.{Token}
-use Rattle.inform_lexer.specs.Pieces.{Piece, Row, none, first}
+use Rattle.inform_lexer.specs.Pieces.{Piece, Pieces, none, first}
 use Rattle.inform_lexer.specs.Bytes.{begins_word, is_word_byte, is_blank, is_digit_in, is_inside, is_comment_byte}
 use Rattle.inform_lexer.specs.Numbers.{fitting, number_in}
 use Rattle.inform_lexer.specs.Strings.{inside_said}
@@ -155,9 +155,6 @@ character_stands byte is = record {
   says = refl;
 }
 
-quote_stops : (rest : List ℕ) → prefix_len is_inside (34 ∷ rest) ≡ 0
-quote_stops rest = refl
-
 string_step_of : (at : ℕ) (w text rest : List ℕ) → list_all is_inside w ≡ true → inside_said w ≡ Ok text
     → token_step tt at (34 ∷ ((w ++ 34 ∷ []) ++ 32 ∷ rest)) ≡ token kind.Quoted at (length (w ++ 34 ∷ []))
 string_step_of at w text rest all said =
@@ -220,16 +217,16 @@ gap_step x at rest stops =
 abbrev token_of : Lexeme → ℕ → ℕ → Token
 token_of x at more = record { kind = kind_of x; start = at; end = at + 1 + more }
 
-row_of : (x : Lexeme) (st : Stands x) (at : ℕ) (rest : List ℕ) (ts : List Token) → prefix_len is_blank rest ≡ 0
-    → Row token_step tt (at + 1 + length st.tail + 1 + 0) rest ts
-    → Row token_step tt at (st.head ∷ (st.tail ++ gap_after x ∷ rest)) (token_of x at (length st.tail) ∷ ts)
-row_of x st at rest ts stops row =
+pieces_of : (x : Lexeme) (st : Stands x) (at : ℕ) (rest : List ℕ) (ts : List Token) → prefix_len is_blank rest ≡ 0
+    → Pieces token_step tt (at + 1 + length st.tail + 1 + 0) rest ts
+    → Pieces token_step tt at (st.head ∷ (st.tail ++ gap_after x ∷ rest)) (token_of x at (length st.tail) ∷ ts)
+pieces_of x st at rest ts stops pieces =
     let here = at + 1 + length st.tail in
     let blank : Piece (Unit {0}) Token = record { gives = []; more = 0; next = tt } in
     let whole : Piece (Unit {0}) Token = record { gives = token_of x at (length st.tail) ∷ []; more = length st.tail; next = tt } in
-    let after : Row token_step tt here (gap_after x ∷ rest) ts = first blank (gap_step x here rest stops) row in
-    let there : Row token_step tt here (drop (length st.tail) (st.tail ++ gap_after x ∷ rest)) ts =
-    subst (λ (bytes : List ℕ). Row token_step tt here bytes ts) (sym (drop_at st.tail (gap_after x ∷ rest) (length st.tail) refl)) after in
+    let after : Pieces token_step tt here (gap_after x ∷ rest) ts = first blank (gap_step x here rest stops) pieces in
+    let there : Pieces token_step tt here (drop (length st.tail) (st.tail ++ gap_after x ∷ rest)) ts =
+    subst (λ (bytes : List ℕ). Pieces token_step tt here bytes ts) (sym (drop_at st.tail (gap_after x ∷ rest) (length st.tail) refl)) after in
     first whole (st.step at rest) there
 
 text_is : (x : Lexeme) (st : Stands x) (xs : List Lexeme) → text_of (x ∷ xs) ≡ st.head ∷ (st.tail ++ gap_after x ∷ text_of xs)
@@ -261,7 +258,7 @@ rest_is whole x st at rest is =
     ∙ drop_at front_part rest (length front_part) refl
 
 read_list : (xs : List Lexeme) → list_all is_writable xs ≡ true → (whole : List ℕ) (at : ℕ) → drop at whole ≡ text_of xs
-    → (tokens : List Token) × Row token_step tt at (text_of xs) tokens × (map (lexeme_at whole) tokens ≡ xs)
+    → (tokens : List Token) × Pieces token_step tt at (text_of xs) tokens × (map (lexeme_at whole) tokens ≡ xs)
 unfolding text_of
 read_list [] all whole at is = ([], none, refl)
 read_list (x ∷ xs) all whole at is =
@@ -270,10 +267,10 @@ read_list (x ∷ xs) all whole at is =
     let split : drop at whole ≡ st.head ∷ (st.tail ++ gap_after x ∷ text_of xs) = is ∙ text_is x st xs in
     let later = read_list xs parts.1 whole (at + 1 + length st.tail + 1 + 0) (rest_is whole x st at (text_of xs) split) in
     let t = token_of x at (length st.tail) in
-    let row = row_of x st at (text_of xs) later.0 (no_blank_first xs parts.1) later.1 in
+    let pieces = pieces_of x st at (text_of xs) later.0 (no_blank_first xs parts.1) later.1 in
     let says : lexeme_at whole t ≡ x = ap (lexeme_of (kind_of x)) (span_is whole x st at (gap_after x ∷ text_of xs) split) ∙ st.says in (
       t ∷ later.0,
-      subst (λ (bytes : List ℕ). Row token_step tt at bytes (t ∷ later.0)) (sym (text_is x st xs)) row,
+      subst (λ (bytes : List ℕ). Pieces token_step tt at bytes (t ∷ later.0)) (sym (text_is x st xs)) pieces,
       ap (λ (y : Lexeme). y ∷ map (lexeme_at whole) later.0) says ∙ ap (λ (ys : List Lexeme). x ∷ ys) later.2,
     )
 

@@ -1,4 +1,4 @@
--- A text as a row of pieces, one after the other. What the first piece is depends on the bytes, on
+-- A text as pieces, one after the other. What the first piece is depends on the bytes, on
 -- their place and on what is known there; so a way to take it is a function, the step.
 use Rattle.std.specs.Prelude.{ℕ, zero, suc, ◌≡◌, ◌+◌, List, [], ◌∷◌, ◌++◌, drop, Result, Ok, Err}
 
@@ -10,13 +10,13 @@ pub record Piece (S X : Type 0) : Type 0 where
 -- ---- which bytes are pieces
 
 -- the bytes at a place are pieces, which stand for these
-pub data Row {S X F : Type 0} (step : S → ℕ → List ℕ → Result (Piece S X) F) : S → ℕ → List ℕ
+pub data Pieces {S X F : Type 0} (step : S → ℕ → List ℕ → Result (Piece S X) F) : S → ℕ → List ℕ
     → List X → Type 0 where
-  none : {s : S} {at : ℕ} → Row step s at [] []
+  none : {s : S} {at : ℕ} → Pieces step s at [] []
   first : {s : S} {at b : ℕ} {bytes : List ℕ} {xs : List X} (p : Piece S X)
       → step s at (b ∷ bytes) ≡ Ok p
-      → Row step p.next (at + 1 + p.more) (drop p.more bytes) xs
-      → Row step s at (b ∷ bytes) (p.gives ++ xs)
+      → Pieces step p.next (at + 1 + p.more) (drop p.more bytes) xs
+      → Pieces step s at (b ∷ bytes) (p.gives ++ xs)
 
 -- after some pieces stands what is none, for this reason
 pub data Breaks {S X F : Type 0} (step : S → ℕ → List ℕ → Result (Piece S X) F) : S → ℕ → List ℕ → F

@@ -11,7 +11,7 @@ use Rattle.inform_lexer.specs.declared.kinds.Kind.TheVariants as kind
 use Rattle.inform_lexer.specs.declared.kinds.Token.{Token}
 use Rattle.inform_lexer.specs.declared.faults.LexFault.{LexFault}
 use Rattle.inform_lexer.specs.declared.faults.LexFault.TheVariants.{BadByte, BigNumber, LongName, BadCharacter, BadString, OpenString}
-use Rattle.inform_lexer.specs.Pieces.{Piece, Row, Breaks, cut}
+use Rattle.inform_lexer.specs.Pieces.{Piece, Pieces, Breaks, cut}
 use Rattle.inform_lexer.specs.Bytes.{is_blank, is_comment_byte, begins_word, is_word_byte, is_digit_in, is_inside}
 use Rattle.inform_lexer.specs.Numbers.{number_in}
 use Rattle.inform_lexer.specs.Strings.{inside_said}
@@ -113,7 +113,7 @@ token_step known at (b ∷ bytes) =
 
 -- the bytes are these tokens, with blanks and comments before, between and after them
 abbrev pub Spelled : List ℕ → List Token → Type 0
-Spelled bytes tokens = Row token_step tt 0 bytes tokens
+Spelled bytes tokens = Pieces token_step tt 0 bytes tokens
 
 -- this is the first fault of the bytes
 abbrev pub Faulty : List ℕ → LexFault → Type 0

@@ -1,5 +1,5 @@
 -- The rules of conditions: whether they hold.
-use Rattle.std.proofs.Common.{◌≡◌, ℕ, ◌+◌, ℤ, pos, Bool, true, false, not, None, refl, ap}
+use Rattle.std.proofs.Common.{◌≡◌, ℕ, ◌+◌, ℤ, pos, Bool, true, false, not, refl, ap}
 use Rattle.std.specs.Ordering.{int_eq}
 use Rattle.inform_tree.specs.declared.conditions.Relation.{Relation}
 use Rattle.inform_tree.specs.Values.{Expression}
@@ -8,7 +8,7 @@ use Rattle.inform_meaning.specs.Words.{compares}
 use Rattle.inform_meaning.specs.Worlds.{Program, Scope}
 use Rattle.inform_meaning.specs.Frames.{Outcome, Truth, when}
 use Rattle.inform_logic.specs.Stages.{Stage, in_scope}
-use Rattle.inform_logic.specs.Leading.{Leads, TheAll, TheAny, Evaluates, Tests, TestsIfAny, TestsAll, TestsAny}
+use Rattle.inform_logic.specs.Leading.{Leads, TheAll, TheAny, Evaluates, Tests, TestsAll, TestsAny}
 use Rattle.inform_logic.proofs.Opened.{opened}
 use Rattle.inform_logic.proofs.Steps.{nothing_taken, value_then, truth_then, finally}
 
@@ -38,10 +38,6 @@ module _ {p : Program} {d : ℕ} where
       → Tests p d x s w t w' n → Tests p d (Not x) s w (not t) w' n
   unfolding opened
   negated x = record { takes = finally _ (λ j h. tt) x.takes (λ k. refl) }
-
-  -- a test that isn't there is true
-  pub no_test : {s : Scope} {w : Stage} → TestsIfAny p d None s w true w 0
-  no_test = record { takes = nothing_taken (λ k. refl) }
 
   -- ---- conditions of which all have to hold, up to the first that doesn't
 

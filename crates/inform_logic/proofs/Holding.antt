@@ -52,10 +52,6 @@ module _ (p : Program) where
   pub holds_rest : (xs ys : List DirectiveTree) → Holds p (xs ++ ys) → Holds p ys
   holds_rest = all_rest (Held p)
 
-  pub holds_at : (ds : List DirectiveTree) (at : ℕ) {x : DirectiveTree} → Holds p ds
-      → slice_get ds at ≡ Some x → Held p x
-  holds_at = all_at (Held p)
-
   -- a routine that is held, where nothing or this number is noted
   pub has : {r : RoutineTree} (held : Held p (t.Routine r)) → p.notes r.name held.0 ≡ None → Has p r
   has held unseen = record { at = held.0; there = held.1; unseen = unseen }

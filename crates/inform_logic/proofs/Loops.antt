@@ -3,7 +3,7 @@ use Rattle.std.proofs.Common.{◌≡◌, arith, ℕ, ◌+◌, ℤ, Bool, true, f
 use Rattle.inform_tree.specs.Conditions.{Condition}
 use Rattle.inform_tree.specs.Statements.{While, Do, For, Statements, Assignment}
 use Rattle.inform_meaning.specs.Worlds.{Program, Scope, Config}
-use Rattle.inform_meaning.specs.Frames.{Loop, TurnDue, Begins, Outcome, Normal, Returns, Breaks, Continues, bind}
+use Rattle.inform_meaning.specs.Frames.{Loop, TurnDue, Begins, Outcome, Normal, Returns, Breaks, bind}
 use Rattle.inform_meaning.specs.Parts.{tick}
 use Rattle.inform_meaning.specs.Meaning.{test_if_any, alter_if_any}
 use Rattle.inform_meaning.specs.Statements.{while_loop, do_loop, for_loop, loop_goes_on, exec_all, turns_of, test_done}
@@ -66,13 +66,6 @@ module _ {p : Program} {d : ℕ} where
   unfolding opened
   turn_ends change more = record { takes = normal_then _ change.takes more.takes }
 
-  -- after `continue` too
-  pub turn_continues : {l : Loop} {s s1 s' : Scope} {w w1 w' : Stage} {e : Outcome} {n m : ℕ}
-      → ChangesIfAny p d l.change s w s1 w1 n → Loops p d l s1 w1 e s' w' m
-      → Leads p d (AfterBody l Continues) s w e s' w' (n + m)
-  unfolding opened
-  turn_continues change more = record { takes = normal_then _ change.takes more.takes }
-
   -- after `break` the loop is over
   pub turn_breaks : {l : Loop} {s : Scope} {w : Stage}
       → Leads p d (AfterBody l Breaks) s w Normal s w 0
@@ -94,14 +87,6 @@ module _ {p : Program} {d : ℕ} where
       → Loops p d l s2 w3 e s' w' t → Loops p d l s w e s' w' (n + m + q + t + 1)
   loop_again x goes body change more = within (omega arith)
       (turn x (turn_goes_on goes (λ j. tt) body (turn_ends change more)))
-
-  -- `continue` leaves the rest of the body out
-  pub loop_continues : {l : Loop} {b : Bool} {s s1 s2 s' : Scope} {w w1 w2 w3 w' : Stage}
-      {e : Outcome} {n m q t : ℕ} → TestsIfAny p d l.test s w b w1 n → loop_goes_on l b ≡ true
-      → Runs p d l.body s w1 Continues s1 w2 m → ChangesIfAny p d l.change s1 w2 s2 w3 q
-      → Loops p d l s2 w3 e s' w' t → Loops p d l s w e s' w' (n + m + q + t + 1)
-  loop_continues x goes body change more = within (omega arith)
-      (turn x (turn_goes_on goes (λ j. tt) body (turn_continues change more)))
 
   -- `break` ends the loop
   pub loop_breaks : {l : Loop} {b : Bool} {s s' : Scope} {w w1 w' : Stage} {n m : ℕ}

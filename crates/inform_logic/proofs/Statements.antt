@@ -1,5 +1,5 @@
 -- The rules of statements: what they execute, each with a step of its own.
-use Rattle.std.proofs.Common.{◌≡◌, ◌∙◌, ℕ, ◌+◌, ℤ, pos, true, false, List, [], ◌∷◌, Some, None, refl, ap}
+use Rattle.std.proofs.Common.{◌≡◌, ◌∙◌, ℕ, ◌+◌, ℤ, pos, true, false, List, [], ◌∷◌, Some, refl, ap}
 use Rattle.std.specs.Prelude.{unwrap_or}
 use Rattle.inform_tree.specs.Values.{Expression, Arguments}
 use Rattle.inform_tree.specs.Conditions.{Condition}
@@ -54,11 +54,6 @@ module _ {p : Program} {d : ℕ} where
   unfolding opened
   breaks x = record { takes = finally _ (λ j h. tt) x.takes (λ k. refl) }
 
-  pub continues : {x : Statement} {xs : Statements} {s s' : Scope} {w w' : Stage} {n : ℕ}
-      → Executes p d x s w Continues s' w' n → Runs p d (MoreStatements x xs) s w Continues s' w' n
-  unfolding opened
-  continues x = record { takes = finally _ (λ j h. tt) x.takes (λ k. refl) }
-
   -- ---- statements without parts
 
   -- `;`
@@ -84,10 +79,6 @@ module _ {p : Program} {d : ℕ} where
   -- `rfalse;`
   pub return_false : {s : Scope} {w : Stage} → Executes p d Rfalse s w (Returns (pos 0)) s w 1
   return_false = plain (λ k. refl)
-
-  -- `return;` gives 1
-  pub return_one : {s : Scope} {w : Stage} → Executes p d (Return None) s w (Returns (pos 1)) s w 1
-  return_one = plain (λ k. refl)
 
   -- ---- statements with parts
 

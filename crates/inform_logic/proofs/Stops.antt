@@ -1,25 +1,23 @@
 -- The rules of what stops a run: where it begins, and how it is handed up to the whole.
-use Rattle.std.proofs.Common.{◌≡◌, ◌∙◌, arith, ℕ, suc, ◌+◌, ℤ, Bool, true, false, List, [], ◌∷◌, ◌++◌, Option, Some, refl, ap}
+use Rattle.std.proofs.Common.{◌≡◌, ◌∙◌, arith, ℕ, suc, ◌+◌, ℤ, true, false, List, [], ◌∷◌, ◌++◌, Option, Some, refl, ap}
 use Rattle.std.specs.Prelude.{unwrap_or, int_lt, pos}
-use Rattle.inform_tree.specs.declared.conditions.Relation.{Relation}
 use Rattle.inform_tree.specs.Values.{Expression, Random, NoArguments}
-use Rattle.inform_tree.specs.Conditions.{Compare}
-use Rattle.inform_tree.specs.Statements.{Statement, Quit, Read, SetEntry}
+use Rattle.inform_tree.specs.Statements.{Statement, Quit, Read}
 use Rattle.adv_io.specs.Steps.{Noted}
 use Rattle.inform_tree.specs.Programs.{RoutineTree}
 use Rattle.inform_logic.specs.Holding.{routine_at, Has, Notes}
 use Rattle.inform_meaning.specs.declared.traps.Trap.TheVariants as t
 use Rattle.inform_meaning.specs.Worlds.{Program, Scope, scope_of, with_note, has_room}
-use Rattle.inform_meaning.specs.Frames.{Loop, CallDue, DrawDue, Due, LineDue, TurnDue, Outcome, Begins, Quits, NeedsLine, NeedsDraw, Spent, when}
-use Rattle.inform_meaning.specs.Parts.{tick, trap, draw_at, take_draw, line_at, take_line}
+use Rattle.inform_meaning.specs.Frames.{Loop, DrawDue, LineDue, TurnDue, Outcome, Begins, Quits, NeedsLine, NeedsDraw, Spent, when}
+use Rattle.inform_meaning.specs.Parts.{trap, draw_at, take_draw, line_at, take_line}
 use Rattle.inform_meaning.specs.Statements.{turns}
 use Rattle.inform_meaning.specs.Runs.{Stop, Halted, Lacking, noted_body}
 use Rattle.inform_logic.specs.Stages.{Stage, in_scope, with_past}
-use Rattle.inform_logic.specs.Leading.{Leads, Part, TheValue, TheCall, TheTest, TheChange, TheAct, TheStatement, TheBlock, TheTurns, Evaluates}
+use Rattle.inform_logic.specs.Leading.{Leads, Part, TheValue, TheCall, TheTest, TheAct, TheStatement, TheBlock, TheTurns, Evaluates}
 use Rattle.inform_logic.specs.Stopping.{IsStop, Stops, CallStops, First, in_entry, in_random, in_negation, in_sum, in_term, in_product, in_factor, in_call, in_argument, in_comparison, in_nonzero, in_negated, in_all, in_one_of_all, in_any, in_one_of_any, in_set, in_index, in_number, in_character, in_statements, in_assignment, in_print, in_call_alone, in_return, in_if, in_switch, in_while, in_do, in_for, in_block, in_body, in_change, in_change_again}
 use Rattle.inform_logic.proofs.Opened.{opened}
 use Rattle.inform_logic.proofs.Steps.{finally, one_step, takes_same}
-use Rattle.inform_logic.proofs.Stopping.{with_takes, passes_value, passes_truth, passes_normal, passes_body, passes_return, ends_first, ends_after, ends_chosen}
+use Rattle.inform_logic.proofs.Stopping.{with_takes, passes_value, passes_truth, passes_normal, passes_body, passes_return, ends_first, ends_chosen}
 use Rattle.inform_logic.proofs.Statements.{step, plain}
 use Rattle.inform_logic.proofs.Loops.{once}
 use Rattle.inform_logic.proofs.Routines.{entering}
@@ -58,22 +56,6 @@ module _ {p : Program} {d : ℕ} where
         takes = finally _ (λ j h. tt) x.takes (λ k.
             ap (λ b. when b (trap t.Random) (take_draw limit) (in_scope k s w')) some
             ∙ ap (λ draws. draw_at draws limit (in_scope k s w')) left);
-      })
-
-  -- no step is left: at a statement, at a call and at a turn of a loop
-  pub statement_waits : {x : Statement} {s : Scope} {w : Stage}
-      → Stops p d (TheStatement x) s w (Lacking Spent) w 0
-  unfolding tick
-  statement_waits {x} {s} {w} = stopped {s' = s} (Begins (Due x) ∷ [], refl) (record {
-    takes = record { steps = 0; few = omega arith; by = λ k none. rw none };
-  })
-
-  pub call_waits : {f : List ℕ} {values : List ℤ} {s : Scope} {w : Stage}
-      → Stops p d (TheCall f values NoArguments) s w (Lacking Spent) w 0
-  unfolding tick
-  call_waits {f} {values} {s} {w} =
-      stopped {s' = s} (Begins (CallDue f values) ∷ [], refl) (record {
-        takes = record { steps = 0; few = omega arith; by = λ k none. rw none };
       })
 
   pub turn_waits : {l : Loop} {s : Scope} {w : Stage}
@@ -132,20 +114,6 @@ module _ {p : Program} {d : ℕ} where
       record { ends = ends_chosen _ goes (ends_first _ (passes_body _ _) x.ends) }
   handed_up in_change_again x = record { ends = ends_first _ (passes_normal _ _) x.ends }
   handed_up in_change x = record { ends = ends_first _ (passes_normal _ _) x.ends }
-
-  -- the second part of a comparison and of a change of an entry
-  pub right_stops : {op : Relation} {x y : Expression} {s : Scope} {w w1 w' : Stage} {a : ℤ}
-      {stop : Stop} {n m : ℕ} → Evaluates p d x s w a w1 n → Stops p d (TheValue y) s w1 stop w' m
-      → Stops p d (TheTest (Some (Compare op x y))) s w stop w' (n + m)
-  unfolding opened
-  right_stops x y = record { ends = ends_after _ x.takes (ends_first _ (passes_value _ _) y.ends) }
-
-  pub stored_stops : {a : List ℕ} {words : Bool} {x y : Expression} {s : Scope} {w w1 w' : Stage}
-      {i : ℤ} {stop : Stop} {n m : ℕ} → Evaluates p d x s w i w1 n
-      → Stops p d (TheValue y) s w1 stop w' m
-      → Stops p d (TheChange (Some (SetEntry a words x y))) s w stop w' (n + m)
-  unfolding opened
-  stored_stops x y = record { ends = ends_after _ x.takes (ends_first _ (passes_value _ _) y.ends) }
 
   -- the test of a turn
   pub test_stops : {l : Loop} {s : Scope} {w w' : Stage} {stop : Stop} {n : ℕ}

@@ -6,13 +6,12 @@ use Rattle.inform_meaning.specs.Frames.{Main, Quits, Outcome, Halts, Meaning, bi
 use Rattle.inform_meaning.specs.Runs.{CALL_LIMIT, Stop, Halted, Lacking, resume_at, resume, main_begun}
 use Rattle.inform_meaning.specs.Programs.{program_in}
 use Rattle.inform_logic.specs.Stages.{plus, Stage, in_scope, stage_of}
-use Rattle.inform_logic.specs.Leading.{Leaves, Gives, at_end, by_return, Runs, TheBlock}
+use Rattle.inform_logic.specs.Leading.{Leaves, Gives, at_end, by_return, TheBlock}
 use Rattle.inform_logic.specs.Stopping.{IsStop, Ends, Stops, stop_leaves, Stopped}
 use Rattle.inform_logic.specs.Laws.{RunStops}
 use Rattle.inform_logic.proofs.Opened.{opened}
-use Rattle.inform_logic.proofs.Steps.{plus_is, finally}
+use Rattle.inform_logic.proofs.Steps.{plus_is}
 use Rattle.inform_logic.proofs.Stopping.{Passes, passes, ends_first}
-use Rattle.inform_logic.proofs.Routines.{leaves_any}
 
 -- at the end of `Main` the run is over
 over : {e : Outcome} {v : ℤ} → Gives e v → (c : Config) → on_main e c ≡ (Halts Quits, c)
@@ -31,19 +30,6 @@ module _ (p : Program) where
       → Ends (resume p (main_begun body)) s w stop w' n
   unfolding resume_at opened
   main_stops body = ends_first _ passes_main body.ends
-
-  -- where it is done, the run is over
-  pub main_ends : {body : Statements} {s s' : Scope} {w w' : Stage} {e : Outcome} {v : ℤ} {n : ℕ}
-      → Runs p CALL_LIMIT body s w e s' w' n → Gives e v
-      → Ends (resume p (main_begun body)) s w (Halted Quits) w' n
-  unfolding resume_at bind opened
-  main_ends {s' = s'} body gives = record {
-    ending = Halts Quits;
-    scope = s';
-    is = refl;
-    takes = finally (resume_at p CALL_LIMIT (Main ∷ [])) (λ j h. leaves_any gives j) body.takes
-        (λ j. over gives _);
-  }
 
 -- ---- with steps enough
 

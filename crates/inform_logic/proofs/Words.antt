@@ -7,7 +7,7 @@ use Rattle.inform_tree.specs.declared.widths.Width.{Width}
 use Rattle.inform_tree.specs.declared.widths.Width.TheVariants.{W16, W32}
 use Rattle.inform_tree.specs.declared.values.SumOp.TheVariants.{Add, Sub}
 use Rattle.inform_tree.specs.declared.values.ProdOp.TheVariants.{Mul, Div, Rem}
-use Rattle.inform_tree.specs.declared.conditions.Relation.TheVariants.{Eq, Ne, Lt, Gt, Le, Ge}
+use Rattle.inform_tree.specs.declared.conditions.Relation.TheVariants.{Eq, Ne, Gt, Le, Ge}
 use Rattle.inform_meaning.specs.Words.{wrapped, number_word, word_sum, word_negation, summed, multiplied, compares, low_byte, draw_within}
 
 -- a word at both widths: -32768..32767
@@ -40,9 +40,6 @@ module _ (width : Width) where
   -- a sum, a difference, a negation and a product that are words are themselves
   pub sum_is : (a b : ℤ) → IsWord (a +ℤ b) → summed width Add a b ≡ a +ℤ b
   sum_is a b h = word_stays h
-
-  pub difference_is : (a b : ℤ) → IsWord (a -ℤ b) → summed width Sub a b ≡ a -ℤ b
-  difference_is a b h = word_stays h
 
   pub negation_is : (a : ℤ) → IsWord (neg_ℤ a) → word_negation width a ≡ neg_ℤ a
   negation_is a h = word_stays h
@@ -118,9 +115,6 @@ eq_is = equal_is
 
 pub ne_is : (a b : ℕ) → compares Ne (pos a) (pos b) ≡ not (nat_eq a b)
 ne_is a b = ap not (equal_is a b)
-
-pub lt_is : (a b : ℕ) → compares Lt (pos a) (pos b) ≡ nat_lt a b
-lt_is a b = refl
 
 pub gt_is : (a b : ℕ) → compares Gt (pos a) (pos b) ≡ nat_lt b a
 gt_is a b = refl

@@ -6,7 +6,7 @@ use Rattle.inform_meaning.specs.declared.traps.Trap.TheVariants as t
 use Rattle.inform_meaning.specs.Words.{summed, multiplied, low_byte}
 use Rattle.inform_meaning.specs.Worlds.{Program, Routine, World, Config, with_argument, with_note}
 use Rattle.inform_meaning.specs.Frames as f
-use Rattle.inform_meaning.specs.Frames.{Begin, Want, Decide, Frame, Begins, Wants, Decides, Looping, Calling, Main, Over, Outcome, Meaning, gives, bind, on_return, on_over}
+use Rattle.inform_meaning.specs.Frames.{Begin, Want, Decide, Frame, Begins, Wants, Decides, Looping, Calling, Main, Over, Outcome, bind, on_return, on_over}
 use Rattle.inform_meaning.specs.Parts.{store}
 use Rattle.inform_meaning.specs.Meaning.{Calls, eval, test_if_any, alter_if_any}
 use Rattle.inform_meaning.specs.Statements.{exec_all, exec_default, turns_of, body_done, test_done}

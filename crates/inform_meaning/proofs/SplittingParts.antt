@@ -5,7 +5,7 @@ use Rattle.inform_meaning.specs.declared.traps.Trap.{Trap}
 use Rattle.inform_meaning.specs.declared.traps.Trap.TheVariants as t
 use Rattle.inform_meaning.specs.Worlds.{Program, Scope, World, Config, entries_of, entry_at, has_room, with_said}
 use Rattle.inform_meaning.specs.Frames as f
-use Rattle.inform_meaning.specs.Frames.{Begin, DrawDue, LineDue, Frame, Begins, Wants, Decides, Looping, Calling, Main, Over, Lack, Halt, Outcome, Value, Truth, Normal, Returns, Breaks, Continues, Halts, Waits, Meaning, gives, bind, when, on_normal, on_value, on_truth, on_body, on_return, on_main, on_over}
+use Rattle.inform_meaning.specs.Frames.{Begin, Frame, Begins, Wants, Decides, Halt, Outcome, Value, Truth, Normal, Returns, Breaks, Continues, Halts, Waits, Meaning, bind, when, on_normal, on_value, on_truth, on_body, on_return, on_main, on_over}
 use Rattle.inform_meaning.specs.Parts.{tick_at, tick, trap, draw_at, take_draw, random_to, line_at, take_line, read_line, changes, entry_by, fetch, store_by, store, saying}
 use Rattle.inform_meaning.specs.Runs.{call_at, start, use_value, use_truth, resume_at}
 use Rattle.inform_meaning.proofs.Going.{Going}

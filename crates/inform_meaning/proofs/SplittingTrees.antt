@@ -11,7 +11,7 @@ use Rattle.inform_meaning.specs.declared.traps.Trap.TheVariants as t
 use Rattle.inform_meaning.specs.Words.{summed, multiplied, low_byte}
 use Rattle.inform_meaning.specs.Worlds.{Program, Config, with_argument}
 use Rattle.inform_meaning.specs.Frames as f
-use Rattle.inform_meaning.specs.Frames.{Loop, Frame, Begins, Wants, Decides, Looping, Outcome, Truth, Meaning, gives, bind, when, on_normal, on_value, on_truth, on_body}
+use Rattle.inform_meaning.specs.Frames.{Loop, Begins, Wants, Decides, Looping, Truth, Meaning, gives, bind, when, on_value, on_truth, on_body}
 use Rattle.inform_meaning.specs.Parts.{tick}
 use Rattle.inform_meaning.specs.Meaning.{on_product, eval, eval_call, eval_sum, eval_product, test, test_all, test_any, test_if_any, alter, alter_if_any, print_items}
 use Rattle.inform_meaning.specs.Statements.{while_loop, do_loop, for_loop, loop_goes_on, after_test, fits_any, act, exec_all, exec_cases, exec_default, turns_of}

@@ -4,7 +4,7 @@ use Rattle.std.specs.Option.{option_and_then}
 use Rattle.inform_tree.specs.declared.widths.Width.{Width}
 use Rattle.inform_tree.specs.declared.values.Const.{Const}
 use Rattle.inform_tree.specs.Programs as d
-use Rattle.inform_tree.specs.Programs.{DirectiveTree, RoutineTree}
+use Rattle.inform_tree.specs.Programs.{DirectiveTree}
 use Rattle.inform_tree.specs.Statements.{Statements, NoStatements}
 use Rattle.inform_names.specs.declared.meanings.Meaning.{Meaning}
 use Rattle.inform_names.specs.Meanings.{Known, meanings, word_of_meaning, constant_word, entry_count, first_directive}

@@ -13,9 +13,8 @@ use Rattle.inform_tree.specs.declared.conditions.Relation.TheVariants.{Eq, Lt}
 use Rattle.inform_tree.specs.Values as v
 use Rattle.inform_tree.specs.Values.{Expression}
 use Rattle.inform_tree.specs.Conditions as c
-use Rattle.inform_tree.specs.Conditions.{Condition}
 use Rattle.inform_tree.specs.Statements as s
-use Rattle.inform_tree.specs.Statements.{Statement, PrintItem, statements}
+use Rattle.inform_tree.specs.Statements.{Statement, statements}
 use Rattle.inform_tree.specs.Programs as d
 use Rattle.inform_tree.specs.Programs.{DirectiveTree}
 use Rattle.inform_meaning.specs.declared.traps.Trap.TheVariants as t

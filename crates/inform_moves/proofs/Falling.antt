@@ -13,7 +13,7 @@ use Rattle.inform_meaning.specs.Frames as f
 use Rattle.inform_meaning.specs.Frames.{Loop, Begin, Want, Decide, Frame, Begins, Wants, Decides, Looping, Calling, Main, Over, Outcome, Value, Truth, Normal, Returns, Breaks, Continues, Halts, Waits}
 use Rattle.inform_meaning.specs.Statements.{loop_goes_on, fits_any}
 use Rattle.inform_moves.specs.Immediate.{immediate_value, immediate_sum, immediate_product, immediate_arguments, immediate_truth}
-use Rattle.inform_moves.specs.Moves.{Move, Goes, Ticks, Reads, Draws, at_once, done, goes_to, goes_with, evals, alters, says_move, argument_parts, arguments_move, sum_parts, sum_move, product_parts, product_move, factor_move, value_parts, eval_move, all_move, any_move, truth_parts, test_move, right_move, alter_move, prints_move, enter_move, call_move, ticked, turn_test, turn_move, picked_move, change_frames, call_parts, call_alone, tested_move, branch_move, switch_move, return_move, read_move, statement_move, block_move, default_move, cases_move, begin_move, entry_move, store_by, store_move, place_move, range_move, value_move, truth_move, next}
+use Rattle.inform_moves.specs.Moves.{Move, Goes, Ticks, Reads, Draws, at_once, goes_to, argument_parts, arguments_move, sum_parts, sum_move, product_parts, product_move, factor_move, value_parts, eval_move, all_move, any_move, truth_parts, test_move, alter_move, prints_move, enter_move, call_move, ticked, turn_test, turn_move, change_frames, call_alone, tested_move, branch_move, switch_move, return_move, read_move, statement_move, block_move, default_move, cases_move, begin_move, entry_move, store_by, store_move, place_move, range_move, value_move, truth_move, next}
 use Rattle.inform_moves.specs.Laws.{FallsBelow, MovesFall}
 use Rattle.inform_moves.proofs.AtOnce.{at_once-all}
 use Rattle.inform_moves.specs.Works.{expression_work, arguments_work, terms_work, factors_work, condition_work, conditions_work, assignment_work, change_work, items_work, block_work, cases_work, default_work, begin_work, want_work, loop_work, decide_work, work, works}
@@ -89,15 +89,6 @@ decide-positive (f.AnyOf xs) = omega arith
 decide-positive f.Flips = omega arith
 decide-positive (f.Branches body other) = omega arith
 decide-positive (f.Testing l) = omega arith
-
-pub work-positive : (x : Frame) → 0 < work x
-work-positive (Begins x) = begin-positive x
-work-positive (Wants x) = want-positive x
-work-positive (Decides x) = decide-positive x
-work-positive (Looping l) = omega arith
-work-positive (Calling scope) = omega arith
-work-positive Main = omega arith
-work-positive (Over halt) = omega arith
 
 -- ---- moves
 

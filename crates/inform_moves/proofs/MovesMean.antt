@@ -10,13 +10,13 @@ use Rattle.inform_tree.specs.Statements as s
 use Rattle.inform_tree.specs.Statements.{Statement, Statements, Cases, Default, Assignment, PrintItem}
 use Rattle.inform_meaning.specs.Words.{summed, multiplied, compares, low_byte}
 use Rattle.std.specs.Fmt.{signed_decimal}
-use Rattle.inform_meaning.specs.Worlds.{Program, Routine, World, Config, assigned, entries_of, entry_at, has_room, with_argument, stored, scope_of}
+use Rattle.inform_meaning.specs.Worlds.{Program, Routine, Config, assigned, entries_of, entry_at, has_room, with_argument, stored, scope_of}
 use Rattle.inform_meaning.specs.Frames as f
-use Rattle.inform_meaning.specs.Frames.{Loop, Begin, Want, Decide, Frame, Begins, Wants, Decides, Looping, Calling, Main, Over, Outcome, Value, Truth, Normal, Returns, Breaks, Continues, Halts, Waits, Meaning, bind, when, on_normal, on_value, on_truth, on_body, on_return, on_main, on_over, gives}
+use Rattle.inform_meaning.specs.Frames.{Loop, Begin, Want, Decide, Frame, Begins, Wants, Decides, Looping, Calling, Main, Over, Outcome, Value, Truth, Normal, Returns, Breaks, Continues, Halts, Waits, Meaning, bind, when, on_normal, on_value, on_truth, gives}
 use Rattle.inform_meaning.specs.Parts as parts
 use Rattle.inform_meaning.specs.Parts.{tick, tick_at, trap, entry_by, fetch, store, take_draw, take_line, random_to, read_line}
 use Rattle.inform_meaning.specs.Meaning.{eval, eval_call, eval_sum, eval_product, on_product, test, test_all, test_any, test_if_any, alter, alter_if_any, print_items}
-use Rattle.inform_meaning.specs.Statements.{while_loop, do_loop, for_loop, loop_goes_on, fits_any, after_test, exec, act, exec_all, exec_cases, exec_default, turns_of, body_done}
+use Rattle.inform_meaning.specs.Statements.{while_loop, do_loop, for_loop, loop_goes_on, fits_any, after_test, exec, exec_all, exec_cases, exec_default, turns_of, body_done}
 use Rattle.inform_meaning.specs.Runs.{noted_body, enter, call_at, start, use_value, use_truth, hand}
 use Rattle.inform_meaning.proofs.Opened.{opened}
 use Rattle.inform_meaning.proofs.Looping.{loop_once}
@@ -24,7 +24,7 @@ use Rattle.inform_meaning.proofs.GoingTrees.{test_if_any-going, exec_all-going, 
 use Rattle.inform_meaning.proofs.GoingRuns.{call_at-going}
 use Rattle.inform_meaning.proofs.Splitting.{Settled}
 use Rattle.inform_moves.specs.Immediate.{immediate_value, immediate_sum, immediate_product, immediate_arguments, immediate_truth}
-use Rattle.inform_moves.specs.Moves.{Effect, Keeps, Says, Enters, Move, Goes, Ticks, Reads, Draws, at_once, done, goes_to, goes_with, evals, tests, alters, says_move, argument_parts, arguments_move, sum_parts, sum_move, product_parts, product_move, factor_move, value_parts, eval_move, all_move, any_move, truth_parts, test_move, right_move, alter_move, prints_move, enter_move, call_move, ticked, turn_test, turn_move, picked_move, change_frames, call_parts, call_alone, tested_move, branch_move, switch_move, return_move, read_move, statement_move, block_move, default_move, cases_move, begin_move, entry_move, store_by, store_move, place_move, range_move, value_move, truth_move, next}
+use Rattle.inform_moves.specs.Moves.{Effect, Keeps, Says, Enters, Move, Goes, Ticks, Reads, Draws, at_once, done, goes_to, goes_with, evals, alters, says_move, argument_parts, arguments_move, sum_parts, sum_move, product_parts, product_move, factor_move, value_parts, eval_move, all_move, any_move, truth_parts, test_move, alter_move, prints_move, enter_move, call_move, ticked, turn_test, turn_move, picked_move, change_frames, call_parts, call_alone, tested_move, branch_move, switch_move, return_move, read_move, statement_move, block_move, default_move, cases_move, begin_move, entry_move, store_by, store_move, place_move, range_move, value_move, truth_move, next}
 use Rattle.inform_moves.specs.Done.{going, move_done}
 use Rattle.inform_moves.proofs.Needing.{Quiet, turn_test-quiet, alter-quiet, call_alone-quiet, branch-quiet, switch-quiet, return-quiet}
 use Rattle.inform_moves.proofs.Immediate.{Gives, after-value, after-truth, eval-gives, sum-gives, product_from-gives, test-gives, IsDue, call-due}

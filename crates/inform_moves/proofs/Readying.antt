@@ -13,7 +13,7 @@ use Rattle.inform_meaning.specs.Frames as f
 use Rattle.inform_meaning.specs.Frames.{Loop, Begin, Want, Decide, Frame, Begins, Wants, Decides, Looping, Calling, Main, Over, Outcome, Value, Truth, Normal, Returns, Breaks, Continues, Halts, Waits}
 use Rattle.inform_meaning.specs.Statements.{for_loop, loop_goes_on, fits_any}
 use Rattle.inform_moves.specs.Immediate.{immediate_value, immediate_sum, immediate_product, immediate_arguments, immediate_truth}
-use Rattle.inform_moves.specs.Moves.{Effect, Move, Goes, Ticks, Reads, Draws, at_once, done, goes_to, goes_with, evals, alters, says_move, argument_parts, arguments_move, sum_parts, sum_move, product_parts, product_move, factor_move, value_parts, eval_move, all_move, any_move, truth_parts, test_move, right_move, alter_move, prints_move, enter_move, call_move, ticked, turn_test, turn_move, picked_move, change_frames, call_parts, call_alone, tested_move, branch_move, switch_move, return_move, read_move, statement_move, block_move, default_move, cases_move, begin_move, entry_move, store_by, store_move, place_move, range_move, value_move, truth_move, next}
+use Rattle.inform_moves.specs.Moves.{Move, Goes, Ticks, Reads, Draws, at_once, goes_to, argument_parts, arguments_move, sum_parts, sum_move, product_parts, product_move, factor_move, value_parts, eval_move, all_move, any_move, truth_parts, test_move, alter_move, prints_move, enter_move, call_move, ticked, turn_test, turn_move, change_frames, call_parts, call_alone, tested_move, branch_move, switch_move, return_move, read_move, statement_move, block_move, default_move, cases_move, begin_move, entry_move, store_by, place_move, range_move, value_move, truth_move, next}
 use Rattle.inform_moves.specs.Readiness.{IsDry, AreDry, HasRoom, IsReady, effected_world, ReadyAfter}
 use Rattle.inform_moves.specs.Laws.{MovesReady}
 use Rattle.inform_moves.proofs.AtOnce.{at_once-all}

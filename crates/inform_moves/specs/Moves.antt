@@ -14,7 +14,7 @@ use Rattle.inform_meaning.specs.declared.traps.Trap.TheVariants as t
 use Rattle.inform_meaning.specs.Words.{number_word, word_negation, word_sum, summed, multiplied, compares, low_byte}
 use Rattle.inform_meaning.specs.Worlds.{Routine, Program, World, value_of, assigned, entries_of, entry_at, stored, has_room, with_argument, scope_of}
 use Rattle.inform_meaning.specs.Frames as f
-use Rattle.inform_meaning.specs.Frames.{Loop, Begin, Want, Decide, Halt, Trapped, Quits, Frame, Begins, Wants, Decides, Looping, Calling, Main, Over, Outcome, Value, Truth, Normal, Returns, Breaks, Continues, Halts, Waits, returned, halt_of}
+use Rattle.inform_meaning.specs.Frames.{Loop, Begin, Want, Decide, Trapped, Quits, Frame, Begins, Wants, Decides, Looping, Calling, Main, Over, Outcome, Value, Truth, Normal, Returns, Breaks, Continues, Halts, returned, halt_of}
 use Rattle.inform_meaning.specs.Statements.{while_loop, do_loop, for_loop, loop_goes_on, fits_any}
 use Rattle.inform_meaning.specs.Runs.{noted_body}
 use Rattle.inform_moves.specs.Immediate.{immediate_value, immediate_sum, immediate_product, immediate_arguments, immediate_truth}

@@ -3,7 +3,7 @@ use Rattle.std.proofs.Common.{◌≡◌, ◌∙◌, List, [], ◌∷◌, ◌++�
 use Rattle.std.specs.Option.{option_or}
 use Rattle.std.proofs.lemmas.List.{map-append}
 use Rattle.inform_names.specs.Demands as d
-use Rattle.inform_names.specs.Demands.{Demand, Demands}
+use Rattle.inform_names.specs.Demands.{Demands}
 use Rattle.inform_names.specs.Faults.{Fault, first_of}
 use Rattle.inform_names.specs.Places.{Scope, fault_at, first_fault, IsFine, listed}
 

@@ -6,7 +6,7 @@ use Rattle.inform_tree.specs.declared.conditions.Relation.{Relation}
 use Rattle.inform_tree.specs.declared.conditions.Relation.TheVariants.{Eq, Ne, Lt, Gt, Le, Ge}
 use Rattle.inform_tree.specs.Values as v
 use Rattle.inform_tree.specs.Values.{Expression, Terms, Factors}
-use Rattle.inform_lexemes.specs.declared.symbols.Symbol.TheVariants.{Semicolon, Comma, Colon, LeftRound, RightRound, Assign}
+use Rattle.inform_lexemes.specs.declared.symbols.Symbol.TheVariants.{Semicolon, Comma, Colon, LeftRound, RightRound}
 use Rattle.inform_lexemes.specs.Lexemes.{Lexeme, Word, Reserved, Name, Number, Character, Quoted, Sign, is_sign}
 use Rattle.inform_grammar.specs.Lexemes.{No, is_arrow, is_factor_sign, is_term_sign, is_relation, is_connective, relation_sign, connective}
 use Rattle.inform_grammar.specs.Values.{begins_entry}
@@ -61,9 +61,6 @@ at_comma rest = ends refl refl refl refl
 
 pub at_semicolon : (rest : List Lexeme) → ValueEnds (Sign Semicolon ∷ rest)
 at_semicolon rest = ends refl refl refl refl
-
-pub at_assign : (rest : List Lexeme) → ValueEnds (Sign Assign ∷ rest)
-at_assign rest = ends refl refl refl refl
 
 pub at_relation : (relation : Relation) (rest : List Lexeme)
     → ValueEnds (Sign (relation_sign relation) ∷ rest)

@@ -20,7 +20,7 @@ use Rattle.inform_grammar.specs.Lexemes.{No}
 use Rattle.inform_grammar.specs.Reading.{within_limit}
 use Rattle.inform_grammar.specs.Trees.{condition, cases_tree}
 use Rattle.inform_grammar.specs.Statements as g
-use Rattle.inform_grammar.specs.Statements.{Change, set, set_entry, increment, decrement, ChangeIfAny, no_change, a_change, ConditionIfAny, no_condition, some_condition, Item, text, decimal, as_character, Items, last_item, one_more_item, single, range, Choices, last_choice, one_more_choice, empty, block, change, call, conditional, while_loop, do_loop, for_loop, switch, break, continue, quit, rtrue, rfalse, return, return_value, new_line, print, read, Body, in_braces, ElseIfAny, no_else, an_else, last_statement, one_more_statement, last_case, one_more_case, DefaultIfAny, no_default, a_default}
+use Rattle.inform_grammar.specs.Statements.{Change, set, set_entry, increment, decrement, ChangeIfAny, no_change, a_change, ConditionIfAny, no_condition, some_condition, Item, text, decimal, as_character, Items, last_item, one_more_item, single, range, Choices, last_choice, one_more_choice, empty, block, change, call, conditional, while_loop, do_loop, for_loop, switch, break, continue, quit, rtrue, rfalse, return, return_value, new_line, print, read, in_braces, ElseIfAny, no_else, an_else, last_statement, one_more_statement, last_case, one_more_case, DefaultIfAny, no_default, a_default}
 use Rattle.inform_printer.specs.ValueLexemes.{constant_lexemes, value_lexemes}
 use Rattle.inform_printer.specs.ConditionLexemes.{condition_lexemes}
 use Rattle.inform_printer.specs.StatementLexemes.{assignment_lexemes, optional_lexemes, item_lexemes, items_lexemes, choice_lexemes, choices_lexemes, else_lexemes, statement_lexemes, statements_lexemes, cases_lexemes, default_lexemes}

@@ -6,7 +6,7 @@ use Rattle.std.specs.Option.{option_or}
 use Rattle.std.proofs.lemmas.Bool.{and_parts}
 use Rattle.inform_tree.specs.declared.widths.Width.{Width}
 use Rattle.inform_tree.specs.Programs as d
-use Rattle.inform_tree.specs.Programs.{DirectiveTree, RoutineTree}
+use Rattle.inform_tree.specs.Programs.{DirectiveTree}
 use Rattle.inform_tree.specs.Depths.{routine_depth}
 use Rattle.inform_names.specs.declared.meanings.Meaning.{Meaning}
 use Rattle.inform_names.specs.declared.limits.TheConstants.{DEEPEST, ENTRY_LIMIT}

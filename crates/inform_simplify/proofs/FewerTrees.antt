@@ -13,7 +13,7 @@ use Rattle.inform_meaning.specs.declared.traps.Trap.TheVariants as t
 use Rattle.inform_meaning.specs.Words.{summed, multiplied, low_byte}
 use Rattle.inform_meaning.specs.Worlds.{Routine, Program, Config, with_argument}
 use Rattle.inform_meaning.specs.Frames as f
-use Rattle.inform_meaning.specs.Frames.{Loop, Frame, Begins, Wants, Decides, Looping, Outcome, Waits, Meaning, gives, bind, when, on_normal, on_value, on_truth, on_body}
+use Rattle.inform_meaning.specs.Frames.{Loop, Frame, Begins, Wants, Decides, Looping, Meaning, gives, bind, when, on_normal, on_value, on_truth, on_body}
 use Rattle.inform_meaning.specs.Meaning.{Calls, on_product, eval, eval_call, eval_sum, eval_product, test, test_all, test_any, test_if_any, alter, alter_if_any, print_items}
 use Rattle.inform_meaning.specs.Statements.{loop_goes_on, after_body, after_test, turns, loop}
 use Rattle.inform_meaning.specs.Programs.{no_notes}

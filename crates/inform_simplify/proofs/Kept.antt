@@ -32,9 +32,6 @@ is_empty [] e = refl
 is_empty (x ∷ xs) e = absurd (omega arith)
 
 module _ {L E : Type 0} (Turns : L → L → Type 0) (tree : List E → L) (all : L) where
-  pub nothing_kept : Keeps Turns tree all [] all
-  nothing_kept = record { whole = λ rest h. h }
-
   one_more : (kept : List E) (x : E) (left after : L) → Keeps Turns tree all kept left
       → ((rest : List E) → Turns after (tree rest) → Turns left (tree (x ∷ rest)))
       → Keeps Turns tree all (kept ++ (x ∷ [])) after

@@ -13,7 +13,7 @@ use Rattle.inform_tree.specs.declared.statements.Stmt.TheOpen.{Stmt-F}
 use Rattle.inform_tree.specs.declared.statements.Stmt.TheFolds.{fold-roll-Stmt}
 use Rattle.inform_tree.specs.Conditions.{condition_of}
 use Rattle.inform_tree.specs.Statements as s
-use Rattle.inform_tree.specs.Statements.{Statement, Statements, Choice, assignment_of, statement_step, case_step, statement_of, statements_of, cases_of}
+use Rattle.inform_tree.specs.Statements.{Statement, Statements, Choice, statement_step, case_step, statement_of, statements_of, cases_of}
 use Rattle.inform_tree.proofs.Views.{statement_of_if, statement_of_while, statement_of_do, statement_of_for, statement_of_switch, statement_of_switch_with_default}
 use Rattle.inform_simplify.specs.Tests.{truth_of, is_plain_test}
 use Rattle.inform_simplify.specs.Redexes.{is_known_false, is_never_entered}

@@ -7,7 +7,7 @@ use Rattle.inform_tree.specs.Statements as s
 use Rattle.inform_tree.specs.Statements.{Statement, Statements, Cases, Default, Assignment}
 use Rattle.inform_meaning.specs.Worlds.{Routine, Program, Config}
 use Rattle.inform_meaning.specs.Frames as f
-use Rattle.inform_meaning.specs.Frames.{Frame, Begins, Wants, Decides, Outcome, Truth, Meaning, gives, bind, when, on_normal, on_truth}
+use Rattle.inform_meaning.specs.Frames.{Frame, Begins, Wants, Decides, Truth, Meaning, gives, bind, when, on_normal, on_truth}
 use Rattle.inform_meaning.specs.Meaning.{Calls, eval, test, alter_if_any}
 use Rattle.inform_meaning.specs.Statements.{while_loop, do_loop, for_loop, loop, fits_any, act, exec_all, exec_cases, exec_default}
 use Rattle.inform_meaning.proofs.Going.{Going, bind-going, stays as still-going}

@@ -5,7 +5,7 @@ use Rattle.std.specs.Prelude.{⊤}
 use Rattle.std.proofs.lemmas.Bool.Decides.{nat_tests}
 use Rattle.inform_meaning.specs.Worlds.{Program, World, Config}
 use Rattle.inform_meaning.specs.Frames as f
-use Rattle.inform_meaning.specs.Frames.{NeedsLine, NeedsDraw, Spent, Frame, Begins, Wants, Decides, Looping, Calling, Main, Over, Outcome, Value, Truth, Normal, Returns, Breaks, Continues, Halts, Waits}
+use Rattle.inform_meaning.specs.Frames.{Spent, Frame, Begins, Calling, Over, Outcome, Normal, Waits}
 use Rattle.inform_meaning.specs.Runs.{CALL_LIMIT, room_in, resume_at, resume, begun_of}
 use Rattle.inform_moves.specs.Moves.{Move, Goes, Ticks, Reads, Draws, pushed_in, outcome_in, next}
 use Rattle.inform_moves.specs.Needs.{Nothing, AStep, need, need_in}

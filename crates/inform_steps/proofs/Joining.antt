@@ -3,7 +3,7 @@
 use Rattle.std.proofs.Common.{◌≡◌, ◌∙◌, ℕ, suc, ◌+◌, ◌≤◌, List, [], ◌∷◌, ◌++◌, refl, sym, ap, subst, append-nil, arith}
 use Rattle.inform_meaning.specs.Worlds.{Program, Config}
 use Rattle.inform_meaning.specs.Frames as f
-use Rattle.inform_meaning.specs.Frames.{Halt, Lack, NeedsLine, NeedsDraw, Spent, Frame, Over, Outcome, Value, Truth, Normal, Returns, Breaks, Continues, Halts, Waits}
+use Rattle.inform_meaning.specs.Frames.{Halt, NeedsLine, NeedsDraw, Spent, Frame, Over, Outcome, Value, Truth, Normal, Returns, Breaks, Continues, Halts, Waits}
 use Rattle.inform_meaning.specs.Runs.{CALL_LIMIT, room_in, Halted, Lacking, resume, stop_of, begun_of}
 use Rattle.inform_meaning.specs.Laws.{with_more, going_on, RunsSplit, StopStays}
 use Rattle.inform_moves.specs.Moves.{Move, Goes, Ticks, Reads, Draws, next}

@@ -24,8 +24,8 @@ fn expect_judged<R: Abort + AllocGlobal>(rt: &R, text: &str, width: Width, said:
 }
 
 // What stands between two texts, and what is said of the whole where words have 16 bits.
-fn expect_all<R: Abort + AllocGlobal>(rt: &R, before: &str, rows: &[(&str, &str)], after: &str) {
-    for (text, said) in rows {
+fn expect_all<R: Abort + AllocGlobal>(rt: &R, before: &str, cases: &[(&str, &str)], after: &str) {
+    for (text, said) in cases {
         expect_judged(rt, &joined(rt, &[before, text, after]), Width::W16, said);
     }
 }
@@ -201,10 +201,10 @@ const NUMBERS: &[(&str, &str, &str)] = &[
 fn expect_both<R: Abort + AllocGlobal>(
     rt: &R,
     before: &str,
-    rows: &[(&str, &str, &str)],
+    cases: &[(&str, &str, &str)],
     after: &str,
 ) {
-    for (text, narrow, wide) in rows {
+    for (text, narrow, wide) in cases {
         let text = joined(rt, &[before, text, after]);
         expect_judged(rt, &text, Width::W16, narrow);
         expect_judged(rt, &text, Width::W32, wide);

@@ -15,11 +15,11 @@ fn printed<R: Abort + AllocGlobal>(rt: &R, program: &Program) -> Vec<u8> {
 }
 
 // Expects that the program of each text, which stands between two others, is printed as it stands.
-fn expect_all<R: Abort + AllocGlobal>(rt: &R, before: &str, rows: &[&str], after: &str) {
-    for row in rows {
-        let text = joined(rt, &[before, row, after]);
+fn expect_all<R: Abort + AllocGlobal>(rt: &R, before: &str, cases: &[&str], after: &str) {
+    for case in cases {
+        let text = joined(rt, &[before, case, after]);
         let program = program_of(rt, text.as_bytes());
-        expect!(rt; printed(rt, &program).as_slice() == text.as_bytes(), row);
+        expect!(rt; printed(rt, &program).as_slice() == text.as_bytes(), case);
     }
 }
 

@@ -11,7 +11,7 @@ use inform_tree::{Program, Width};
 use std::process::Abort;
 
 // A program, the width of its words, the program that it becomes, and what both say.
-struct Row {
+struct Case {
     text: &'static str,
     width: Width,
     simpler: &'static str,
@@ -19,32 +19,32 @@ struct Row {
 }
 
 // Tests whose truth is known.
-const KNOWN: &[Row] = &[
-    Row {
+const KNOWN: &[Case] = &[
+    Case {
         text: "[ Main; if (1 == 1) { print \"a\"; } else { print \"b\"; } quit; print \"c\"; ];",
         width: Width::W16,
         simpler: "[ Main; { print \"a\"; } quit; ];",
         said: b"a",
     },
-    Row {
+    Case {
         text: "[ Main; while (1 == 2) { print \"a\"; } print \"z\"; ];",
         width: Width::W16,
         simpler: "[ Main; print \"z\"; ];",
         said: b"z",
     },
-    Row {
+    Case {
         text: "[ Main; if (65535 < 0) print \"n\"; else print \"p\"; ];",
         width: Width::W16,
         simpler: "[ Main; { print \"n\"; } ];",
         said: b"n",
     },
-    Row {
+    Case {
         text: "[ Main; if (65535 < 0) print \"n\"; else print \"p\"; ];",
         width: Width::W32,
         simpler: "[ Main; { print \"p\"; } ];",
         said: b"p",
     },
-    Row {
+    Case {
         text: "[ Main; do { if (0) print \"a\"; if ('a') { while (0) { } break; print \"b\"; } } until (1 == 1); ];",
         width: Width::W32,
         simpler: "[ Main; do { { } { break; } } until (1 == 1); ];",
@@ -53,26 +53,26 @@ const KNOWN: &[Row] = &[
 ];
 
 // Lists that are equal.
-const EQUAL: &[Row] = &[
-    Row {
+const EQUAL: &[Case] = &[
+    Case {
         text: "[ F; print \"x\"; ]; [ Main; if (F() == 1) { print \"a\"; } else { print \"a\"; } ];",
         width: Width::W16,
         simpler: "[ F; print \"x\"; ]; [ Main; if (F() == 1) { print \"a\"; } else { print \"a\"; } ];",
         said: b"xa",
     },
-    Row {
+    Case {
         text: "Global g; [ Main; if (g + 1 > 3 || ~~(g)) { if (1) g++; } else { { g++; } } print g; ];",
         width: Width::W16,
         simpler: "Global g; [ Main; { { g++; } } print g; ];",
         said: b"1",
     },
-    Row {
+    Case {
         text: "Global g = 1; [ Main; if (2 / g == 2) { print \"a\"; } else { print \"a\"; } ];",
         width: Width::W16,
         simpler: "Global g = 1; [ Main; if (2 / g == 2) { print \"a\"; } else { print \"a\"; } ];",
         said: b"a",
     },
-    Row {
+    Case {
         text: "Global g; [ Main; switch (g) { 0 to 2, 'b': if (g) g--; else g--; default: return; print \"a\"; } for (g = 1: g < 3: g++) { if (g) return g; else return (g); } ];",
         width: Width::W16,
         simpler: "Global g; [ Main; switch (g) { 0 to 2, 'b': { g--; } default: return; } for (g = 1: g < 3: g++) { { return g; } } ];",
@@ -80,8 +80,8 @@ const EQUAL: &[Row] = &[
     },
 ];
 
-fn accepted<R: Abort + AllocGlobal>(rt: &R, row: &Row) -> Accepted {
-    accept(rt.alloc(), program_of(rt, row.text.as_bytes()), row.width)
+fn accepted<R: Abort + AllocGlobal>(rt: &R, case: &Case) -> Accepted {
+    accept(rt.alloc(), program_of(rt, case.text.as_bytes()), case.width)
         .ok()
         .expect(rt, "a program")
 }
@@ -106,26 +106,26 @@ fn steps_of<R: Abort + AllocGlobal>(rt: &R, program: &Accepted, said: &[u8]) -> 
     runner.used()
 }
 
-fn expect_simplified<R: Abort + AllocGlobal>(rt: &R, row: &Row) {
-    let old = accepted(rt, row);
-    let most = steps_of(rt, &old, row.said);
+fn expect_simplified<R: Abort + AllocGlobal>(rt: &R, case: &Case) {
+    let old = accepted(rt, case);
+    let most = steps_of(rt, &old, case.said);
     let new = simplify(rt.alloc(), old).expect(rt, "memory");
-    let simpler = program_of(rt, row.simpler.as_bytes());
-    expect!(rt; printed(rt, new.program()).as_slice() == printed(rt, &simpler).as_slice(), row.text);
-    expect!(rt; new.width() == row.width, row.text);
-    expect!(rt; steps_of(rt, &new, row.said) <= most, row.text);
+    let simpler = program_of(rt, case.simpler.as_bytes());
+    expect!(rt; printed(rt, new.program()).as_slice() == printed(rt, &simpler).as_slice(), case.text);
+    expect!(rt; new.width() == case.width, case.text);
+    expect!(rt; steps_of(rt, &new, case.said) <= most, case.text);
 }
 
 #[test]
 fn known_tests_go(rt: HostRuntime) {
-    for row in KNOWN {
-        expect_simplified(&rt, row);
+    for case in KNOWN {
+        expect_simplified(&rt, case);
     }
 }
 
 #[test]
 fn equal_lists_become_one(rt: HostRuntime) {
-    for row in EQUAL {
-        expect_simplified(&rt, row);
+    for case in EQUAL {
+        expect_simplified(&rt, case);
     }
 }

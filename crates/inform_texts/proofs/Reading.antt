@@ -6,12 +6,11 @@ use Rattle.inform_lexer.specs.declared.kinds.Token.{Token}
 use Rattle.inform_lexer.specs.Spans.{lexemes}
 use Rattle.inform_lexer.specs.Tokens.{lexed, Spelled}
 use Rattle.inform_lexer.specs.Laws as l
-use Rattle.inform_grammar.specs.Faults.{Fault}
 use Rattle.inform_grammar.specs.Rule.{program}
 use Rattle.inform_grammar.specs.Reading.{Answer, reads, within_limit}
 use Rattle.inform_grammar.specs.Laws as g
 use Rattle.inform_texts.specs.Texts.{ProgramText}
-use Rattle.inform_texts.specs.Faults.{TextFault, NoTokens, NoSentence, FaultyText}
+use Rattle.inform_texts.specs.Faults.{TextFault, FaultyText}
 use Rattle.inform_texts.specs.Reading.{program_or_fault, program_of_tokens, program_in}
 use Rattle.inform_texts.specs.Laws.{OneProgramAText, NeverBoth, OneFaultAText, ProgramIn, FaultIn}
 

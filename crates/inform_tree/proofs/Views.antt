@@ -10,7 +10,7 @@ use Rattle.inform_tree.specs.declared.values.Expr.{Expr}
 use Rattle.inform_tree.specs.declared.values.Expr.TheVariants as ev
 use Rattle.inform_tree.specs.declared.values.Expr.TheOpen as eo
 use Rattle.inform_tree.specs.declared.values.Expr.TheFolds.{fold-roll-Expr}
-use Rattle.std.specs.Prelude.{Option, Some, None, option_map}
+use Rattle.std.specs.Prelude.{Some, None, option_map}
 use Rattle.inform_tree.specs.Conditions.{condition_of}
 use Rattle.inform_tree.specs.Statements as s
 use Rattle.inform_tree.specs.Statements.{Statement, Statements, Choice, statement_step, case_step, statement_of, statements_of, cases_of, assignment_of}

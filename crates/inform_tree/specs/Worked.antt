@@ -5,10 +5,9 @@ use Rattle.inform_tree.specs.declared.formed_programs.TheConstants.{DEPTH_LIMIT}
 use Rattle.inform_tree.specs.declared.values.SumOp.TheVariants.{Add}
 use Rattle.inform_tree.specs.declared.values.Const.TheVariants as k
 use Rattle.inform_tree.specs.Values as v
-use Rattle.inform_tree.specs.Values.{Expression}
 use Rattle.inform_tree.specs.Conditions as c
 use Rattle.inform_tree.specs.Statements as s
-use Rattle.inform_tree.specs.Statements.{Statement, Statements, statements}
+use Rattle.inform_tree.specs.Statements.{Statement, statements}
 use Rattle.inform_tree.specs.Programs as d
 use Rattle.inform_tree.specs.Programs.{DirectiveTree}
 use Rattle.inform_tree.specs.Depths.{statement_depth}

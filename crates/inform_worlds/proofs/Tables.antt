@@ -99,11 +99,6 @@ module _ (name : List ℕ) (names : List (List ℕ)) (vs : List ℤ) where
   got place is within =
       sym (found_place name names vs ∙ ap (option_and_then (slice_get vs)) is ∙ slice_get-get_or vs place (pos 0) within)
 
-  pub got_past : (place : ℕ) → place_in name names ≡ Some place → length vs ≤ place
-      → None ≡ found name (table_of names vs)
-  got_past place is past =
-      sym (found_place name names vs ∙ ap (option_and_then (slice_get vs)) is ∙ slice_get-past vs place past)
-
   pub got_none : place_in name names ≡ None → None ≡ found name (table_of names vs)
   got_none is = sym (found_place name names vs ∙ ap (option_and_then (slice_get vs)) is)
 
@@ -111,11 +106,6 @@ module _ (name : List ℕ) (names : List (List ℕ)) (vs : List ℤ) where
       → table_of names (slice_set vs place x) ≡ updated name x (table_of names vs)
   put_at place x is =
       ap (λ o. table_of names (set_if_any o x vs)) (sym is) ∙ updated_place name x names vs
-
-  pub put_past : (place : ℕ) (x : ℤ) → place_in name names ≡ Some place → length vs ≤ place
-      → table_of names vs ≡ updated name x (table_of names vs)
-  put_past place x is past =
-      ap (table_of names) (sym (set-past vs place x past)) ∙ put_at place x is
 
   pub put_none : (x : ℤ) → place_in name names ≡ None
       → table_of names vs ≡ updated name x (table_of names vs)

@@ -1,5 +1,5 @@
 pub mod Plans
-pub mod InARow
+pub mod OneByOne
 pub mod Loop
 pub mod Exact
 pub mod Always
@@ -12,11 +12,9 @@ pub mod Whole
 pub mod Texts
 pub mod Wrongs
 pub mod ActionNumbers
-pub mod EightInARow
 pub mod Leaving
 pub mod Staying
 pub mod Dues
 pub mod ListSteps
 pub mod BodySteps
 pub mod ReaderSteps
-pub mod SevenInARow

@@ -26,7 +26,7 @@ use Rattle.scott_tool.specs.Loading.{Load, Loads, loads_of, main_of, draws_of, p
 use Rattle.scott_tool.specs.Check.{database_or_unfit, database_of_file}
 use Rattle.scott_tool.specs.Compile.{source_or_unfit, meaning_or_unfit, compiled_from, IsNoSource}
 use Rattle.scott_tool.specs.Draws.{draws_or_unfit, draws_from, DrawsAre, AreNoDraws}
-use Rattle.trans_rows.specs.Wide.{Placed, wide_at}
+use Rattle.trans_specs.specs.Wide.{Placed, wide_at}
 use Rattle.scott_tool.specs.Translate.{translatable_or_unfit, translatable}
 use Rattle.adv_position.specs.Reading.{position_in}
 use Rattle.adv_position.specs.declared.saved.Saved.{Saved}

@@ -21,9 +21,9 @@ use Rattle.scott_types.specs.declared.endings.Ending.{Ending}
 use Rattle.scott_types.specs.declared.endings.Ending.TheVariants.{Over, NeedsLine, NeedsDraw}
 use Rattle.scott_types.specs.declared.styles.Style.{Style}
 use Rattle.scott_types.specs.Database.{Database}
-use Rattle.trans_rows.specs.Faithful.{tried, opening_state, PlaysAlike}
-use Rattle.trans_rows.specs.Same.{EndingIs}
-use Rattle.trans_rows.specs.Shaped.{Shaped}
+use Rattle.trans_specs.specs.Faithful.{tried, opening_state, PlaysAlike}
+use Rattle.trans_specs.specs.Same.{EndingIs}
+use Rattle.trans_specs.specs.Shaped.{Shaped}
 use Rattle.scott_tool.specs.Calls.{Called, entered_counts, called_text, calls_end}
 use Rattle.scott_tool.specs.Cover.{first_counts, line_counts, covered_play}
 use Rattle.scott_tool.specs.Laws.{Laws}

@@ -27,8 +27,8 @@ use Rattle.scott_types.specs.declared.endings.Ending.TheVariants.{Over, NeedsLin
 use Rattle.scott_types.specs.declared.styles.Style.{Style}
 use Rattle.scott_types.specs.Database.{Database}
 use Rattle.scott_types.specs.Style.{in_style}
-use Rattle.trans_rows.specs.Faithful.{PlaysAlike}
-use Rattle.trans_rows.specs.Same.{EndingIs}
+use Rattle.trans_specs.specs.Faithful.{PlaysAlike}
+use Rattle.trans_specs.specs.Same.{EndingIs}
 use Rattle.scott_tool.specs.Laws.{Laws}
 use Rattle.scott_tool.specs.Draws.{DrawsAre}
 use Rattle.scott_tool.specs.Run.{Ran, ran, stop_after, stop_status, stop_line}

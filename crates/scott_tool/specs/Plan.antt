@@ -19,7 +19,7 @@ use Rattle.scott_types.specs.declared.styles.Style.{Style}
 use Rattle.scott_types.specs.Database.{Database}
 use Rattle.source_reader.specs.Text.{SourceText}
 use Rattle.source_reader.specs.declared.tree.Source.{Source}
-use Rattle.trans_rows.specs.Wide.{Placed, wide_at}
+use Rattle.trans_specs.specs.Wide.{Placed, wide_at}
 use Rattle.scott_tool.specs.Steps.{◌>>=◌}
 use Rattle.scott_tool.specs.Refusal.{Refusal, Unfit, no_request, refusing, status_of}
 use Rattle.scott_tool.specs.Outcome.{Outcome, refused}
@@ -34,10 +34,10 @@ use Rattle.scott_tool.specs.Step.{pausing_in, pausing_of_program}
 use Rattle.scott_tool.specs.Work.{exactly, translation, Task, saying, storing, Does, task_statuses, late_of, play_task, run_task, step_task, hall_task, cover_task, calls_task, simplification, demonstration}
 
 -- The file of this name is read as a database, as a source of one, or as a program for words of
--- this width; at what a run of the program pauses is found out; the draws are read; the file of this
--- name is read as a position of a play of the database; that the position is at a prompt, or that no
--- number of the database is too wide for words of this width, is found out; or all is read, and this
--- is to be done.
+-- this width; at what a run of the program pauses is found out; the draws are read; the file of
+-- this name is read as a position of a play of the database; that the position is at a prompt, or
+-- that no number of the database is too wide for words of this width, is found out; or all is read,
+-- and this is to be done.
 pub data Plan : Type 0 where
   of_game : List ℕ → (Database → Plan) → Plan
   of_source : List ℕ → (Database → Plan) → Plan

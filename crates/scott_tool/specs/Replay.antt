@@ -14,7 +14,7 @@ use Rattle.scott_rules.specs.Play as rules
 use Rattle.scott_types.specs.declared.styles.Style.{Style}
 use Rattle.scott_types.specs.Database.{Database}
 use Rattle.scott_types.specs.Style.{in_style}
-use Rattle.trans_rows.specs.Steps.{enough}
+use Rattle.trans_specs.specs.Steps.{enough}
 use Rattle.translator.specs.Faithful.{Faithful}
 use Rattle.scott_tool.specs.Cover.{covered_play, covered_events}
 use Rattle.scott_tool.specs.Draws.{DrawsAre}

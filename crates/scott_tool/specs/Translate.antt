@@ -6,7 +6,7 @@ use Rattle.inform_tree.specs.declared.widths.Width.{Width}
 use Rattle.scott_format.specs.File.{DatText}
 use Rattle.scott_types.specs.declared.styles.Style.{Style}
 use Rattle.scott_types.specs.Database.{Database}
-use Rattle.trans_rows.specs.Wide.{Placed, wide_at}
+use Rattle.trans_specs.specs.Wide.{Placed, wide_at}
 use Rattle.translator.specs.declared.faults.TransFault.TheVariants.{Wide}
 use Rattle.translator.specs.Faithful.{Faithful}
 use Rattle.scott_tool.specs.Refusal.{Unfit, unfit_by}

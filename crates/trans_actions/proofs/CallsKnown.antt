@@ -13,8 +13,8 @@ use Rattle.scott_types.specs.declared.opcodes.Opcode.TheVariants.{Get}
 use Rattle.scott_types.specs.declared.styles.Style.{Style}
 use Rattle.scott_types.specs.Database.{Database}
 use Rattle.scott_types.specs.Opcode.{opcode_of, uses as parameter_count}
-use Rattle.trans_rows.specs.Names.{condition_name, opcode_name}
-use Rattle.trans_rows.specs.Lines.{get_number}
+use Rattle.trans_specs.specs.Names.{condition_name, opcode_name}
+use Rattle.trans_specs.specs.Lines.{get_number}
 use Rattle.trans_actions.specs.declared.table.Kind.TheVariants.{Condition, Opcode}
 use Rattle.trans_actions.specs.Names.{action_names}
 use Rattle.trans_actions.specs.Helpers.{Helper, conditions, opcodes, refill, uses}

@@ -12,11 +12,11 @@ use Rattle.inform_codes.specs.Routines.{row_routine}
 use Rattle.scott_types.specs.declared.parts.Action.{Action}
 use Rattle.scott_types.specs.declared.styles.Style.{Style}
 use Rattle.scott_types.specs.Database.{Database}
-use Rattle.trans_rows.specs.Names.{group_name, line_name}
-use Rattle.trans_rows.specs.Lines.{line_body}
-use Rattle.trans_rows.specs.Laws.{NoneWideAt32, HasWords, LinesHaveWords}
-use Rattle.trans_rows.specs.Shaped.{demand_calls, demands_calls, routine_calls, directive_calls, program_calls}
-use Rattle.trans_rows.proofs.Lists.{one_of_all, of_both}
+use Rattle.trans_specs.specs.Names.{group_name, line_name}
+use Rattle.trans_specs.specs.Lines.{line_body}
+use Rattle.trans_specs.specs.Laws.{NoneWideAt32, HasWords, LinesHaveWords}
+use Rattle.trans_specs.specs.Shaped.{demand_calls, demands_calls, routine_calls, directive_calls, program_calls}
+use Rattle.trans_specs.proofs.Lists.{one_of_all, of_both}
 use Rattle.trans_actions.specs.declared.table.Kind.TheVariants.{Condition, Opcode}
 use Rattle.trans_actions.specs.Names.{action_names, numbers}
 use Rattle.trans_actions.specs.Helpers.{Helper, conditions, opcodes, refill, uses, helper_directives}

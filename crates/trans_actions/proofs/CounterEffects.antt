@@ -1,4 +1,4 @@
--- Opcodes that change the counter do what they owe.
+-- Opcodes that change the counter meet their specifications.
 use Rattle.std.proofs.Common.{◌≡◌, ◌∙◌, arith, ℕ, suc, ℤ, pos, negsuc, ◌+ℤ◌, ◌-ℤ◌, int_le, int_lt, nat_lt, Bool, true, false, if◌then◌else◌, List, [], ◌∷◌, codes, Some, None, is_some, refl, sym, ap, append-nil}
 use Rattle.std.specs.Prelude.{set, slice_get, slice_index_or, slice_set, IsTrue, ◌-◌}
 use Rattle.std.specs.Int.{int_min, int_max}
@@ -20,18 +20,18 @@ use Rattle.scott_types.specs.declared.opcodes.CounterOp.TheVariants.{Down, SetCo
 use Rattle.scott_types.specs.Database.{Database}
 use Rattle.scott_types.specs.State.{Fits, is_counter}
 use Rattle.scott_rules.specs.Opcodes.{most_count, with_counter}
-use Rattle.trans_rows.specs.Names.{opcode_name}
-use Rattle.trans_rows.specs.Standing.{StandsFor}
-use Rattle.trans_rows.specs.Calls.{StageLeft}
-use Rattle.trans_rows.proofs.Kept.{kept_then, kept_cur, kept_ctr}
-use Rattle.trans_rows.proofs.Left.{nothing_left}
-use Rattle.trans_rows.proofs.Acts.{CallActs, returns_acts}
+use Rattle.trans_specs.specs.Names.{opcode_name}
+use Rattle.trans_specs.specs.Standing.{StandsFor}
+use Rattle.trans_specs.specs.Calls.{StageLeft}
+use Rattle.trans_specs.proofs.Kept.{kept_then, kept_cur, kept_ctr}
+use Rattle.trans_specs.proofs.Left.{nothing_left}
+use Rattle.trans_specs.proofs.Acts.{CallActs, returns_acts}
 use Rattle.trans_actions.specs.Names.{action_names}
 use Rattle.trans_actions.proofs.Known.{Known, opcode_there}
-use Rattle.trans_rows.proofs.Room.{one_less}
+use Rattle.trans_specs.proofs.Room.{one_less}
 use Rattle.trans_actions.proofs.Stored.{is_less, number_at}
 use Rattle.trans_actions.proofs.Counted.{counts_down, at_least_zero, cut_off, whole, cut_sum, whole_sum, room_left, cut_less, whole_less, too_much}
-use Rattle.trans_actions.proofs.Effects.{left_by, opcode_steps, OpcodeRow, alone}
+use Rattle.trans_actions.proofs.Effects.{left_by, opcode_steps, OpcodeSpec, alone}
 
 module _ {style : Style} {db : Database} {p : Program} (known : Known style db p) where
   -- another count is left
@@ -42,7 +42,7 @@ module _ {style : Style} {db : Database} {p : Program} (known : Known style db p
       (known.laws.globals_written.count z s w stands.ready.shows) fits (sym (append-nil w.past))
 
   -- 77: one less, but not from -1
-  pub opcode_77 : OpcodeRow style db p 77
+  pub opcode_77 : OpcodeSpec style db p 77
   unfolding body_of action_names digits
   opcode_77 used called_here a b s noun w d room stands = one_less (λ d. CallActs None db p d
       (opcode_name 77) [] w noun (if int_le (pos 0) s.counter then with_counter s
@@ -67,7 +67,7 @@ module _ {style : Style} {db : Database} {p : Program} (known : Known style db p
             (at_least_zero s.counter ∙ some)) end) end) at_end)) (nothing_left stands)
 
   -- 79: a number, at most 32,767
-  pub opcode_79 : OpcodeRow style db p 79
+  pub opcode_79 : OpcodeSpec style db p 79
   unfolding body_of action_names digits
   opcode_79 used called_here a b s noun w d room stands = one_less (λ d. CallActs None db p d
       (opcode_name 79) (pos a ∷ []) w noun (with_counter s (int_min (pos a) most_count)) []
@@ -92,7 +92,7 @@ module _ {style : Style} {db : Database} {p : Program} (known : Known style db p
             (count_left s noun w stands (int_min (pos a) most_count) fits)
 
   -- 81: a backup counter
-  pub opcode_81 : OpcodeRow style db p 81
+  pub opcode_81 : OpcodeSpec style db p 81
   unfolding body_of action_names digits
   opcode_81 used called_here a b s noun w d room stands = one_less (λ d. CallActs None db p d
       (opcode_name 81) (pos a ∷ []) w noun (if nat_lt a 16 then backed else s) []
@@ -137,7 +137,7 @@ module _ {style : Style} {db : Database} {p : Program} (known : Known style db p
             (nothing_left stands)
 
   -- 82: a sum, at most 32,767
-  pub opcode_82 : OpcodeRow style db p 82
+  pub opcode_82 : OpcodeSpec style db p 82
   unfolding body_of action_names digits
   opcode_82 used called_here a b s noun w d room stands = one_less (λ d. CallActs None db p d
       (opcode_name 82) (pos a ∷ []) w noun
@@ -183,7 +183,7 @@ module _ {style : Style} {db : Database} {p : Program} (known : Known style db p
         by k false more fits = inner k (int_lt (pos (32767 - a)) s.counter) more refl fits
 
   -- 83: a difference, at least -1
-  pub opcode_83 : OpcodeRow style db p 83
+  pub opcode_83 : OpcodeSpec style db p 83
   unfolding body_of action_names digits
   opcode_83 used called_here a b s noun w d room stands = one_less (λ d. CallActs None db p d
       (opcode_name 83) (pos a ∷ []) w noun

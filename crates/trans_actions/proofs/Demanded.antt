@@ -19,10 +19,10 @@ use Rattle.scott_types.specs.Database.{Database}
 use Rattle.scott_types.specs.Action.{argument_of, condition_code, parameters, opcode_numbers}
 use Rattle.scott_types.specs.Opcode.{opcode_of, uses as parameter_count}
 use Rattle.scott_rules.specs.Actions.{goes_on_after}
-use Rattle.trans_rows.specs.Wide.{is_word_of}
-use Rattle.trans_rows.specs.Names.{message_name, condition_name, opcode_name}
-use Rattle.trans_rows.specs.Lines.{number_arguments, next_parameters, call_value, call_statement, condition_test, is_test, opcode_call, message_call, get_number, get_statements, opcode_statements, all_statements, line_body}
-use Rattle.trans_rows.specs.Laws.{HasWords}
+use Rattle.trans_specs.specs.Wide.{is_word_of}
+use Rattle.trans_specs.specs.Names.{message_name, condition_name, opcode_name}
+use Rattle.trans_specs.specs.Lines.{number_arguments, next_parameters, call_value, call_statement, condition_test, is_test, opcode_call, message_call, get_number, get_statements, opcode_statements, all_statements, line_body}
+use Rattle.trans_specs.specs.Laws.{HasWords}
 use Rattle.trans_actions.specs.declared.table.Kind.TheVariants as kinds
 use Rattle.trans_actions.specs.Helpers.{has_condition, has_opcode, uses}
 use Rattle.trans_actions.proofs.Effects.{is_called}

@@ -1,4 +1,4 @@
--- What a routine leaves that changes the state, and what the routine of an opcode owes.
+-- What a routine leaves that changes the state, and the specification of the routine of an opcode.
 use Rattle.std.proofs.Common.{◌≡◌, ◌∙◌, ℕ, zero, suc, ◌≤◌, ◌+◌, ℤ, pos, Bool, true, false, ◌||◌, List, [], ◌∷◌, ◌++◌, map, take, slice_get, Some, refl, sym, ap, true≢false}
 use Rattle.std.specs.List.{list_any}
 use Rattle.adv_io.specs.Steps.{Step, said_steps}
@@ -13,14 +13,14 @@ use Rattle.scott_types.specs.State.{Fits}
 use Rattle.scott_types.specs.Opcode.{opcode_of, uses as parameter_count}
 use Rattle.scott_types.specs.Style.{in_style}
 use Rattle.scott_rules.specs.Opcodes.{opcode_effect}
-use Rattle.trans_rows.specs.Views.{Shows}
-use Rattle.trans_rows.specs.Steps.{text_steps}
-use Rattle.trans_rows.specs.Names.{opcode_name}
-use Rattle.trans_rows.specs.Standing.{StandsFor}
-use Rattle.trans_rows.specs.Calls.{StageLeft}
-use Rattle.trans_rows.proofs.Room.{one_less}
-use Rattle.trans_rows.proofs.Kept.{Kept}
-use Rattle.trans_rows.proofs.Acts.{CallActs}
+use Rattle.trans_specs.specs.Views.{Shows}
+use Rattle.trans_specs.specs.Steps.{text_steps}
+use Rattle.trans_specs.specs.Names.{opcode_name}
+use Rattle.trans_specs.specs.Standing.{StandsFor}
+use Rattle.trans_specs.specs.Calls.{StageLeft}
+use Rattle.trans_specs.proofs.Room.{one_less}
+use Rattle.trans_specs.proofs.Kept.{Kept}
+use Rattle.trans_specs.proofs.Acts.{CallActs}
 use Rattle.trans_actions.specs.declared.table.Kind.TheVariants as kinds
 use Rattle.trans_actions.specs.Helpers.{uses}
 use Rattle.trans_actions.proofs.Tests.{helper_room}
@@ -46,7 +46,7 @@ left_by {db} {noun = noun} stands keeps shows fits past = record {
   arrays_stay = keeps.arrays_stay;
 }
 
--- ---- what the routine of an opcode owes
+-- ---- the specification of the routine of an opcode
 
 abbrev pub opcode_steps : Database → ℕ
 opcode_steps db = text_steps db + 20
@@ -64,8 +64,8 @@ abbrev pub arguments_of : ℕ → ℕ → ℕ → List ℤ
 arguments_of n a b = map pos (take (parameter_count (opcode_of n)) (a ∷ b ∷ []))
 
 -- where a line has the opcode, its routine does what the opcode does
-abbrev pub OpcodeRow : Style → Database → Program → ℕ → Type 0
-OpcodeRow style db p n = uses kinds.Opcode db n ≡ true → is_called (opcode_of n) ≡ true → (a b : ℕ)
+abbrev pub OpcodeSpec : Style → Database → Program → ℕ → Type 0
+OpcodeSpec style db p n = uses kinds.Opcode db n ≡ true → is_called (opcode_of n) ≡ true → (a b : ℕ)
     (s : State) (noun : List ℕ) (w : Stage) (d : ℕ) → helper_room ≤ d → StandsFor db s noun w
     → let t = opcode_effect (in_style style db) noun (opcode_of n) a b s in
     CallActs t.value.over db p d (opcode_name n) (arguments_of n a b) w noun t.value.state

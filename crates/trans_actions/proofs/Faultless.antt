@@ -28,13 +28,13 @@ use Rattle.scott_types.specs.declared.styles.Style.{Style}
 use Rattle.scott_types.specs.Database.{Database, action_at}
 use Rattle.scott_types.specs.Limits.{KeepsLimits, is_action}
 use Rattle.scott_rules.specs.Opcodes.{last_room}
-use Rattle.trans_rows.specs.Wide.{is_word_of}
-use Rattle.trans_rows.specs.Names.{message_name, line_name}
-use Rattle.trans_rows.specs.Lines.{line_body, line_routine}
-use Rattle.trans_rows.specs.ActionRows.{HasLineRoutine}
-use Rattle.trans_rows.specs.Laws.{HasWords, LinesHaveWords}
-use Rattle.trans_rows.proofs.Lengths.{few}
-use Rattle.trans_rows.proofs.Lists.{one_of_all, of_both, of_first, of_sources, each_passes}
+use Rattle.trans_specs.specs.Wide.{is_word_of}
+use Rattle.trans_specs.specs.Names.{message_name, line_name}
+use Rattle.trans_specs.specs.Lines.{line_body, line_routine}
+use Rattle.trans_specs.specs.ActionSpecs.{HasLineRoutine}
+use Rattle.trans_specs.specs.Laws.{HasWords, LinesHaveWords}
+use Rattle.trans_specs.proofs.Lengths.{few}
+use Rattle.trans_specs.proofs.Lists.{one_of_all, of_both, of_first, of_sources, each_passes}
 use Rattle.trans_actions.specs.declared.table.Kind.TheVariants.{Condition, Opcode}
 use Rattle.trans_actions.specs.Names.{action_names, numbers, light_number}
 use Rattle.trans_actions.specs.Helpers.{Helper, conditions, opcodes, refill, uses, helper_directives}

@@ -7,7 +7,7 @@ use Rattle.inform_tree.specs.Statements.{Statement, statements}
 use Rattle.inform_tree.specs.Words.{is_name, is_name_byte}
 use Rattle.inform_tree.specs.Depths.{statement_depth, statements_depth}
 use Rattle.inform_tree.specs.Formed.{is_formed_statement, are_formed_statements}
-use Rattle.trans_rows.specs.Names.{message_name, condition_name, opcode_name, line_name}
+use Rattle.trans_specs.specs.Names.{message_name, condition_name, opcode_name, line_name}
 
 -- ---- names that end in a number
 

@@ -29,9 +29,9 @@ use Rattle.scott_types.specs.Opcode.{opcode_of, uses as uses_of}
 use Rattle.scott_rules.specs.Actions.{goes_on_after}
 use Rattle.scott_rules.specs.Opcodes.{last_room}
 use Rattle.trans_actions.specs.declared.table.Kind.TheVariants as kind
-use Rattle.trans_rows.specs.Names.{message_name, opcode_name}
-use Rattle.trans_rows.specs.Lines.{number_arguments, next_parameters, call_value, call_statement, get_number, condition_test, is_test, opcode_call, message_call, get_statements, opcode_statements, all_statements, line_value, line_body}
-use Rattle.trans_rows.proofs.Lengths.{few}
+use Rattle.trans_specs.specs.Names.{message_name, opcode_name}
+use Rattle.trans_specs.specs.Lines.{number_arguments, next_parameters, call_value, call_statement, get_number, condition_test, is_test, opcode_call, message_call, get_statements, opcode_statements, all_statements, line_value, line_body}
+use Rattle.trans_specs.proofs.Lengths.{few}
 use Rattle.trans_actions.specs.Names.{action_names, numbers, light_number}
 use Rattle.trans_actions.specs.Helpers.{Helper, conditions, opcodes, refill, uses, used_rows, helper_directives}
 use Rattle.trans_actions.specs.Directives.{routine_of_line, lines_from, line_directives}
@@ -39,9 +39,6 @@ use Rattle.trans_actions.specs.Laws.{ActionsFormed}
 use Rattle.trans_actions.proofs.FineLists.{both, message_named, condition_named, opcode_named, line_named, Fine, AllFine, joined, raised, all_formed, all_shallow}
 
 -- ---- numbers
-
-natural_number : (n : ℕ) → is_natural n ≡ true → is_number n ≡ true
-natural_number n h = grind (arith, h)
 
 natural_small : (n : ℕ) → is_natural n ≡ true → n < 2 ^ 32
 natural_small n h = grind (arith, h)

@@ -1,4 +1,4 @@
--- Opcodes that move items do what they owe.
+-- Opcodes that move items meet their specifications.
 use Rattle.std.proofs.Common.{◌≡◌, ◌∙◌, arith, ℕ, zero, suc, ◌<◌, ◌≤◌, ◌%◌, ℤ, pos, negsuc, ◌≤ℤ◌, nat_eq, nat_lt, Bool, true, false, not, ◌&&◌, ◌||◌, if◌then◌else◌, List, [], ◌∷◌, ◌++◌, length, map, codes, Some, None, is_some, refl, sym, ap, subst, append-nil}
 use Rattle.std.specs.Prelude.{set, slice_get}
 use Rattle.std.specs.List.{list_any, AllByRecursion}
@@ -26,24 +26,24 @@ use Rattle.scott_types.specs.State.{Fits, has_item, is_here, place_of, with_plac
 use Rattle.scott_types.specs.declared.phrases.Phrase.TheVariants.{TooMuch}
 use Rattle.scott_types.specs.Phrase.{text_in}
 use Rattle.scott_rules.specs.Opcodes.{moved, redrawn, swapped, is_full, refilled, changed}
-use Rattle.trans_rows.specs.Tables.{bit}
-use Rattle.trans_rows.specs.Views.{naturals}
-use Rattle.trans_rows.specs.Wide.{is_word_of}
-use Rattle.trans_rows.specs.Names.{opcode_name}
-use Rattle.trans_rows.specs.Standing.{StandsFor}
-use Rattle.trans_rows.specs.Calls.{StageLeft, CallLeaves}
-use Rattle.trans_rows.proofs.Entries.{bit_tells, place_at}
-use Rattle.trans_rows.proofs.Kept.{kept_then, kept_redraw, kept_item, kept_light, kept_flag}
-use Rattle.trans_rows.proofs.Left.{nothing_left, said_left, left_then}
-use Rattle.trans_rows.proofs.Acts.{CallActs, returns_acts}
+use Rattle.trans_specs.specs.Tables.{bit}
+use Rattle.trans_specs.specs.Views.{naturals}
+use Rattle.trans_specs.specs.Wide.{is_word_of}
+use Rattle.trans_specs.specs.Names.{opcode_name}
+use Rattle.trans_specs.specs.Standing.{StandsFor}
+use Rattle.trans_specs.specs.Calls.{StageLeft, CallLeaves}
+use Rattle.trans_specs.proofs.Entries.{bit_tells, place_at}
+use Rattle.trans_specs.proofs.Kept.{kept_then, kept_redraw, kept_item, kept_light, kept_flag}
+use Rattle.trans_specs.proofs.Left.{nothing_left, said_left, left_then}
+use Rattle.trans_specs.proofs.Acts.{CallActs, returns_acts}
 use Rattle.trans_actions.specs.declared.table.Kind.TheVariants as kinds
 use Rattle.trans_actions.specs.Names.{action_names, light_number}
 use Rattle.trans_actions.specs.Helpers.{uses, refill}
 use Rattle.trans_actions.proofs.Known.{Known, Own, opcode_there}
-use Rattle.trans_rows.proofs.Room.{one_less}
+use Rattle.trans_specs.proofs.Room.{one_less}
 use Rattle.trans_actions.proofs.Stored.{is_less, less_is, few_items, flag_at, least_light, same_most, no_light}
 use Rattle.trans_actions.proofs.Tests.{helper_room}
-use Rattle.trans_actions.proofs.Effects.{left_by, opcode_steps, OpcodeRow, some_is, two_less, alone}
+use Rattle.trans_actions.proofs.Effects.{left_by, opcode_steps, OpcodeSpec, some_is, two_less, alone}
 use Rattle.trans_actions.proofs.Moved.{move_numbers, Moves, moves}
 
 module _ {style : Style} {db : Database} {p : Program} (known : Known style db p) where
@@ -52,7 +52,7 @@ module _ {style : Style} {db : Database} {p : Program} (known : Known style db p
       → list_any (uses kinds.Opcode db) move_numbers ≡ true
   moving n i at used = some_is (uses kinds.Opcode db) move_numbers i at used
 
-  pub opcode_53 : OpcodeRow style db p 53
+  pub opcode_53 : OpcodeSpec style db p 53
   unfolding body_of action_names digits
   opcode_53 used called_here a b s noun w d room stands =
       two_less (λ d. CallActs None db p d (opcode_name 53) (pos a ∷ []) w noun
@@ -65,7 +65,7 @@ module _ {style : Style} {db : Database} {p : Program} (known : Known style db p
       (next (call_alone (argument (local refl) (argument (global refl stands.ready.shows.room_is)
       (called m.does)))) end) at_end)) m.leaves)
 
-  pub opcode_55 : OpcodeRow style db p 55
+  pub opcode_55 : OpcodeSpec style db p 55
   unfolding body_of action_names digits
   opcode_55 used called_here a b s noun w d room stands =
       two_less (λ d. CallActs None db p d (opcode_name 55) (pos a ∷ []) w noun
@@ -78,7 +78,7 @@ module _ {style : Style} {db : Database} {p : Program} (known : Known style db p
       (next (call_alone (argument (local refl) (argument number (called m.does)))) end) at_end))
       m.leaves)
 
-  pub opcode_59 : OpcodeRow style db p 59
+  pub opcode_59 : OpcodeSpec style db p 59
   unfolding body_of action_names digits
   opcode_59 used called_here a b s noun w d room stands =
       two_less (λ d. CallActs None db p d (opcode_name 59) (pos a ∷ []) w noun
@@ -91,7 +91,7 @@ module _ {style : Style} {db : Database} {p : Program} (known : Known style db p
       (next (call_alone (argument (local refl) (argument number (called m.does)))) end) at_end))
       m.leaves)
 
-  pub opcode_74 : OpcodeRow style db p 74
+  pub opcode_74 : OpcodeSpec style db p 74
   unfolding body_of action_names digits
   opcode_74 used called_here a b s noun w d room stands =
       two_less (λ d. CallActs None db p d (opcode_name 74) (pos a ∷ []) w noun
@@ -104,7 +104,7 @@ module _ {style : Style} {db : Database} {p : Program} (known : Known style db p
       (next (call_alone (argument (local refl) (argument number (called m.does)))) end) at_end))
       m.leaves)
 
-  pub opcode_75 : OpcodeRow style db p 75
+  pub opcode_75 : OpcodeSpec style db p 75
   unfolding body_of action_names digits
   opcode_75 used called_here a b s noun w d room stands =
       two_less (λ d. CallActs None db p d (opcode_name 75) (pos a ∷ pos b ∷ []) w noun
@@ -119,7 +119,7 @@ module _ {style : Style} {db : Database} {p : Program} (known : Known style db p
       (omega (arith, few)) stands)))) (called m.does)))) end) at_end)) m.leaves)
 
   -- 62: an item goes to a place, which is a byte
-  pub opcode_62 : OpcodeRow style db p 62
+  pub opcode_62 : OpcodeSpec style db p 62
   unfolding body_of action_names digits
   opcode_62 used called_here a b s noun w d room stands = one_less (λ d. CallActs None db p d
       (opcode_name 62) (pos a ∷ pos b ∷ []) w noun
@@ -172,7 +172,7 @@ module _ {style : Style} {db : Database} {p : Program} (known : Known style db p
             (nothing_left stands)
 
   -- 72: two items change places
-  pub opcode_72 : OpcodeRow style db p 72
+  pub opcode_72 : OpcodeSpec style db p 72
   unfolding body_of action_names digits
   opcode_72 used called_here a b s noun w d room stands = two_less (λ d. CallActs None db p d
       (opcode_name 72) (pos a ∷ pos b ∷ []) w noun (swapped s a b) [] (opcode_steps db)) 108 d room
@@ -296,7 +296,7 @@ module _ {style : Style} {db : Database} {p : Program} (known : Known style db p
         (subst (λ z. negsuc 0 ≤ℤ z) (sym is)
         (least_light stands.ready.fits.light.0 stands.ready.fits.light.1)))
 
-  pub opcode_69 : OpcodeRow style db p 69
+  pub opcode_69 : OpcodeSpec style db p 69
   unfolding body_of action_names digits
   opcode_69 used called_here a b s noun w d room stands = two_less (λ d. CallActs None db p d
       (opcode_name 69) [] w noun (refilled db s) [] (opcode_steps db)) 108 d room
@@ -309,13 +309,13 @@ module _ {style : Style} {db : Database} {p : Program} (known : Known style db p
         lit_state = lit s noun w stands
 
   -- 52: a get is refused where the hands are full, and tells that
-  pub get_row : uses kinds.Opcode db 52 ≡ true → (a : ℕ) (s : State) (noun : List ℕ) (w : Stage)
+  pub get_spec : uses kinds.Opcode db 52 ≡ true → (a : ℕ) (s : State) (noun : List ℕ) (w : Stage)
       (d : ℕ) → helper_room ≤ d → StandsFor db s noun w
       → CallLeaves p d (opcode_name 52) (pos a ∷ []) w (pos (bit (not (is_full db s)))) db
       (changed db Get a 0 s) noun
       (said_steps (if is_full db s then text_in style TooMuch else [])) (opcode_steps db)
   unfolding body_of action_names digits
-  get_row used a s noun w d room stands = two_less (λ d. CallLeaves p d (opcode_name 52)
+  get_spec used a s noun w d room stands = two_less (λ d. CallLeaves p d (opcode_name 52)
       (pos a ∷ []) w (pos (bit (not (is_full db s)))) db (if is_full db s then s else moved s a 255)
       noun (said_steps (if is_full db s then text_in style TooMuch else [])) (opcode_steps db))
       108 d room (λ k few. by k few (is_full db s) refl

@@ -13,12 +13,12 @@ use Rattle.scott_types.specs.Database.{Database}
 use Rattle.scott_types.specs.Limits.{KeepsLimits}
 use Rattle.scott_types.specs.Style.{in_style}
 use Rattle.scott_rules.specs.Laws.{OpcodeFits}
-use Rattle.trans_rows.specs.Wide.{is_word_of}
-use Rattle.trans_rows.specs.Names.{line_number}
-use Rattle.trans_rows.specs.Writes.{GlobalsWritten, EntriesWritten}
-use Rattle.trans_rows.specs.Laws.{NumbersAreTheirWords, LinesHaveWords}
-use Rattle.trans_rows.specs.DataRows.{DataRows}
-use Rattle.trans_rows.specs.HelperRows.{HelperRows}
+use Rattle.trans_specs.specs.Wide.{is_word_of}
+use Rattle.trans_specs.specs.Names.{line_number}
+use Rattle.trans_specs.specs.Writes.{GlobalsWritten, EntriesWritten}
+use Rattle.trans_specs.specs.Laws.{NumbersAreTheirWords, LinesHaveWords}
+use Rattle.trans_specs.specs.DataSpecs.{DataSpecs}
+use Rattle.trans_specs.specs.HelperSpecs.{HelperSpecs}
 use Rattle.trans_actions.specs.declared.table.Kind.TheVariants.{Condition, Opcode}
 use Rattle.trans_actions.specs.Names.{action_names, numbers, helper_names}
 use Rattle.trans_actions.specs.Helpers.{uses, Helper, conditions, opcodes, refill, used_rows}
@@ -41,8 +41,8 @@ pub record Known (style : Style) (db : Database) (p : Program) : Type 0 where
   pub limits : KeepsLimits db
   pub laws : Laws
   pub light_word : is_word_of p.width db.header.light ≡ true
-  pub helpers : HelperRows (in_style style db) p helper_names
-  pub texts : DataRows (in_style style db) p (codes "look") (codes "inventory") (codes "score")
+  pub helpers : HelperSpecs (in_style style db) p helper_names
+  pub texts : DataSpecs (in_style style db) p (codes "look") (codes "inventory") (codes "score")
       (codes "burn")
   pub messages : HasMessages db p
   pub conditions : AllByRecursion (Own style db p (uses Condition db)) conditions

@@ -15,7 +15,7 @@ pub mod Numbered
 pub mod Performed
 pub mod LineRuns
 pub mod Light
-pub mod Owed
+pub mod LinesMet
 pub mod FineLists
 pub mod Formed
 pub mod Demanded

@@ -2,8 +2,8 @@
 use Rattle.std.proofs.Common.{◌≡◌, Bool, true, false, not, cond, List, ◌∷◌, find, Some, None, refl}
 use Rattle.inform_tree.specs.declared.widths.Width.{Width}
 use Rattle.scott_types.specs.Database.{Database}
-use Rattle.trans_rows.specs.declared.places.Place.TheVariants.{Carry, Treasures, Light, Home}
-use Rattle.trans_rows.specs.Wide.{Placed, is_word_of, placed_actions, is_too_wide, wide_at}
+use Rattle.trans_specs.specs.declared.places.Place.TheVariants.{Carry, Treasures, Light, Home}
+use Rattle.trans_specs.specs.Wide.{Placed, is_word_of, placed_actions, is_too_wide, wide_at}
 
 word_or_wide : (b : Bool) → not b ≡ false → b ≡ true
 word_or_wide true h = refl

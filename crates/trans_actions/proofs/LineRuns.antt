@@ -1,4 +1,4 @@
--- A line's routine does what the line owes.
+-- A line's routine meets its specification.
 use Rattle.std.proofs.Common.{◌≡◌, ◌∙◌, arith, ℕ, zero, suc, ◌+◌, ◌*◌, ◌-◌, ◌/◌, ◌%◌, ◌<◌, ◌≤◌, ◌^◌, pos, nat_eq, ◌==◌, Bool, true, false, not, cond, ◌&&◌, ◌||◌, if◌then◌else◌, List, [], ◌∷◌, ◌++◌, map, filter, length, Option, Some, None, refl, sym, ap, subst, append_assoc, true≢false}
 use Rattle.std.specs.Prelude.{slice_index_or, flat_map}
 use Rattle.std.specs.List.{AllByRecursion, list_all, list_any}
@@ -35,28 +35,28 @@ use Rattle.scott_rules.specs.Conditions.{holds}
 use Rattle.scott_rules.specs.Outcomes.{Outcome as Result}
 use Rattle.scott_rules.specs.Opcodes.{run_opcodes}
 use Rattle.scott_rules.specs.Actions.{condition_holds, passes, goes_on_after, ran_of, performed, action_result}
-use Rattle.trans_rows.specs.Tables.{bit}
-use Rattle.trans_rows.specs.Wide.{is_word_of}
-use Rattle.trans_rows.specs.Steps.{line_steps}
-use Rattle.trans_rows.specs.Names.{line_name, line_number, condition_name}
-use Rattle.trans_rows.specs.Standing.{StandsFor}
-use Rattle.trans_rows.specs.Lines.{condition_test, is_test, condition_tests, all_statements, line_value, line_routine}
-use Rattle.trans_rows.specs.ActionRows.{passed_value, LineOutcome, LineDone, LineRow}
-use Rattle.trans_rows.specs.Calls.{StageLeft, CallLeaves}
-use Rattle.trans_rows.specs.Laws.{HasWords, LinesAreNumbered}
-use Rattle.trans_rows.proofs.Lists.{each_with, each_passes, one_of_all}
-use Rattle.trans_rows.proofs.Room.{one_less}
-use Rattle.trans_rows.proofs.Entries.{bit_tells}
-use Rattle.trans_rows.proofs.Left.{stands_after, nothing_left}
-use Rattle.trans_rows.proofs.Acts.{stops_within}
-use Rattle.trans_rows.proofs.Lengths.{few as few_of_list}
+use Rattle.trans_specs.specs.Tables.{bit}
+use Rattle.trans_specs.specs.Wide.{is_word_of}
+use Rattle.trans_specs.specs.Steps.{line_steps}
+use Rattle.trans_specs.specs.Names.{line_name, line_number, condition_name}
+use Rattle.trans_specs.specs.Standing.{StandsFor}
+use Rattle.trans_specs.specs.Lines.{condition_test, is_test, condition_tests, all_statements, line_value, line_routine}
+use Rattle.trans_specs.specs.ActionSpecs.{passed_value, LineOutcome, LineDone, LineSpec}
+use Rattle.trans_specs.specs.Calls.{StageLeft, CallLeaves}
+use Rattle.trans_specs.specs.Laws.{HasWords, LinesAreNumbered}
+use Rattle.trans_specs.proofs.Lists.{each_with, each_passes, one_of_all}
+use Rattle.trans_specs.proofs.Room.{one_less}
+use Rattle.trans_specs.proofs.Entries.{bit_tells}
+use Rattle.trans_specs.proofs.Left.{stands_after, nothing_left}
+use Rattle.trans_specs.proofs.Acts.{stops_within}
+use Rattle.trans_specs.proofs.Lengths.{few as few_of_list}
 use Rattle.trans_actions.specs.declared.table.Kind.TheVariants as kinds
 use Rattle.trans_actions.specs.Helpers.{has_condition, has_opcode, uses}
 use Rattle.trans_actions.specs.Directives.{line_directives}
 use Rattle.trans_actions.proofs.Known.{Known}
 use Rattle.trans_actions.proofs.ByNumber.{at_number}
 use Rattle.trans_actions.proofs.LinesIn.{line_is_in}
-use Rattle.trans_actions.proofs.Tests.{condition_steps, ConditionRow, condition_rows}
+use Rattle.trans_actions.proofs.Tests.{condition_steps, ConditionSpec, condition_specs}
 use Rattle.trans_actions.proofs.Effects.{some_is}
 use Rattle.trans_actions.proofs.ListActs.{ListActsBy}
 use Rattle.trans_actions.proofs.Performed.{IsOwnWord, each_steps, performs}
@@ -102,8 +102,8 @@ module _ {style : Style} {db : Database} {p : Program} (known : Known style db p
   condition_does packed can test = let
       from : (1 ≤ condition_code packed) × (condition_code packed ≤ 19) = code_from packed test in
       let is : 1 + (condition_code packed - 1) ≡ condition_code packed = omega (arith, from.0) in
-      subst (ConditionRow db p) is (at_number (ConditionRow db p) 1 19 (condition_code packed - 1)
-      (condition_rows known) (omega (arith, from.0, from.1)))
+      subst (ConditionSpec db p) is (at_number (ConditionSpec db p) 1 19 (condition_code packed - 1)
+      (condition_specs known) (omega (arith, from.0, from.1)))
       (some_is (uses kinds.Condition db) (condition_code packed ∷ []) 0 refl can.used)
       (argument_of packed) s noun w d space stands
 
@@ -250,7 +250,7 @@ sizes_of a h = (same 5 (length a.conds) conds.0, opcodes_long) where
   opcodes_long : length (opcode_numbers a) ≡ 4
   opcodes_long = omega (arith, twice a.pairs, same 2 (length a.pairs) pairs.0)
 
--- ---- the row
+-- ---- the specification
 
 module _ {style : Style} {db : Database} {p : Program} (known : Known style db p)
     (none_wide : AllByRecursion (HasWords p.width) db.actions) where
@@ -416,11 +416,11 @@ module _ {style : Style} {db : Database} {p : Program} (known : Known style db p
 many : {db : Database} → KeepsLimits db → length db.actions ≤ 5000
 many {db} limits = few_of_list 5000 db.actions limits.sizes.actions
 
-pub line_row : {style : Style} {db : Database} {p : Program} → Known style db p
+pub line_spec : {style : Style} {db : Database} {p : Program} → Known style db p
     → AllByRecursion (HasWords p.width) db.actions
     → ((name : List ℕ) (at : ℕ) → p.notes name at ≡ line_number name) → LinesAreNumbered
-    → Holds p (line_directives db) → LineRow (in_style style db) p
-line_row {style} {db} {p} known none_wide notes_lines numbered holds k s noun w d room has stands =
+    → Holds p (line_directives db) → LineSpec (in_style style db) p
+line_spec {style} {db} {p} known none_wide notes_lines numbered holds k s noun w d room has stands =
     subst (λ note. LineDone (in_style style db) p d k w noun
     (after note (as_steps (action_result (in_style style db) noun k s))))
     (sym (ap (λ (b : Bool). if b then [] else Noted k ∷ []) has.not_zero))

@@ -11,10 +11,10 @@ use Rattle.inform_signature.proofs.Elements.{element_at}
 use Rattle.scott_types.specs.declared.parts.Action.{Action}
 use Rattle.scott_types.specs.Database.{Database, action_at}
 use Rattle.scott_types.specs.Action.{is_zero_action}
-use Rattle.trans_rows.specs.Names.{line_name}
-use Rattle.trans_rows.specs.Lines.{line_routine}
-use Rattle.trans_rows.specs.ActionRows.{HasLineRoutine}
-use Rattle.trans_rows.specs.Shaped.{IsIn}
+use Rattle.trans_specs.specs.Names.{line_name}
+use Rattle.trans_specs.specs.Lines.{line_routine}
+use Rattle.trans_specs.specs.ActionSpecs.{HasLineRoutine}
+use Rattle.trans_specs.specs.Shaped.{IsIn}
 use Rattle.trans_actions.specs.Directives.{routine_of_line, lines_from, line_directives}
 
 -- ---- lines

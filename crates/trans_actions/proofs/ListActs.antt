@@ -17,11 +17,11 @@ use Rattle.inform_logic.proofs.Stops.{later, handed_up, step_stops, called_stops
 use Rattle.scott_types.specs.declared.states.State.{State}
 use Rattle.scott_types.specs.Database.{Database}
 use Rattle.scott_rules.specs.Outcomes.{Outcome as Result, and_then}
-use Rattle.trans_rows.specs.Views.{Shows}
-use Rattle.trans_rows.specs.Standing.{StandsFor}
-use Rattle.trans_rows.specs.Calls.{StageLeft}
-use Rattle.trans_rows.proofs.Left.{nothing_left, left_then}
-use Rattle.trans_rows.proofs.Acts.{CallActs}
+use Rattle.trans_specs.specs.Views.{Shows}
+use Rattle.trans_specs.specs.Standing.{StandsFor}
+use Rattle.trans_specs.specs.Calls.{StageLeft}
+use Rattle.trans_specs.proofs.Left.{nothing_left, left_then}
+use Rattle.trans_specs.proofs.Acts.{CallActs}
 
 -- they are done, and what comes after them goes on from the stage that they leave
 pub record ListDone (db : Database) (p : Program) (d : ℕ) (xs : List Statement) (scope : Scope)

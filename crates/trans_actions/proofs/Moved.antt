@@ -22,12 +22,12 @@ use Rattle.scott_types.specs.declared.styles.Style.{Style}
 use Rattle.scott_types.specs.Database.{Database}
 use Rattle.scott_types.specs.State.{Fits, has_item, is_here, place_of, with_place}
 use Rattle.scott_rules.specs.Opcodes.{moved}
-use Rattle.trans_rows.specs.Views.{naturals, Shows}
-use Rattle.trans_rows.specs.Standing.{StandsFor}
-use Rattle.trans_rows.specs.Calls.{StageLeft}
-use Rattle.trans_rows.proofs.Entries.{place_at}
-use Rattle.trans_rows.proofs.Kept.{kept_then, kept_redraw, kept_item}
-use Rattle.trans_rows.proofs.Left.{nothing_left}
+use Rattle.trans_specs.specs.Views.{naturals, Shows}
+use Rattle.trans_specs.specs.Standing.{StandsFor}
+use Rattle.trans_specs.specs.Calls.{StageLeft}
+use Rattle.trans_specs.proofs.Entries.{place_at}
+use Rattle.trans_specs.proofs.Kept.{kept_then, kept_redraw, kept_item}
+use Rattle.trans_specs.proofs.Left.{nothing_left}
 use Rattle.trans_actions.specs.declared.table.Kind.TheVariants as kinds
 use Rattle.trans_actions.specs.Names.{action_names}
 use Rattle.trans_actions.specs.Helpers.{uses}

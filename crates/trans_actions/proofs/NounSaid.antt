@@ -28,10 +28,10 @@ use Rattle.inform_codes.specs.Grown.{body_of}
 use Rattle.scott_types.specs.declared.states.State.{State}
 use Rattle.scott_types.specs.declared.styles.Style.{Style}
 use Rattle.scott_types.specs.Database.{Database}
-use Rattle.trans_rows.specs.Views.{naturals}
-use Rattle.trans_rows.specs.Tables.{buffer_length}
-use Rattle.trans_rows.specs.Names.{opcode_name}
-use Rattle.trans_rows.specs.Standing.{StandsFor, IsPrintable}
+use Rattle.trans_specs.specs.Views.{naturals}
+use Rattle.trans_specs.specs.Tables.{buffer_length}
+use Rattle.trans_specs.specs.Names.{opcode_name}
+use Rattle.trans_specs.specs.Standing.{StandsFor, IsPrintable}
 use Rattle.trans_actions.specs.declared.table.Kind.TheVariants as kinds
 use Rattle.trans_actions.specs.Names.{action_names}
 use Rattle.trans_actions.specs.Helpers.{uses}

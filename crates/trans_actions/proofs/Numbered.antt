@@ -9,7 +9,7 @@ use Rattle.scott_types.specs.Database.{Database}
 use Rattle.scott_types.specs.Opcode.{named, opcode_of}
 use Rattle.trans_actions.proofs.Known.{Known}
 use Rattle.trans_actions.proofs.ByNumber.{AllFrom, at_number}
-use Rattle.trans_actions.proofs.Effects.{is_called, OpcodeRow}
+use Rattle.trans_actions.proofs.Effects.{is_called, OpcodeSpec}
 use Rattle.trans_actions.proofs.ItemEffects.{opcode_53, opcode_55, opcode_59, opcode_62, opcode_69, opcode_72, opcode_74, opcode_75}
 use Rattle.trans_actions.proofs.RoomEffects.{opcode_54, opcode_56, opcode_57, opcode_58, opcode_60, opcode_61, opcode_67, opcode_68, opcode_80, opcode_87}
 use Rattle.trans_actions.proofs.CounterEffects.{opcode_77, opcode_79, opcode_81, opcode_82, opcode_83}
@@ -55,11 +55,11 @@ called_from n h = by (nat_eq n 0) (nat_lt n 52) (nat_lt n 90) (nat_lt n 102) ref
 
 module _ {style : Style} {db : Database} {p : Program} (known : Known style db p) where
   -- 73 is no call
-  none : OpcodeRow style db p 73
+  none : OpcodeSpec style db p 73
   none used called_too = cc
 
-  all_rows : AllFrom (OpcodeRow style db p) 53 37
-  all_rows = (
+  all_specs : AllFrom (OpcodeSpec style db p) 53 37
+  all_specs = (
     opcode_53 known,
     (
       opcode_54 known,
@@ -173,11 +173,11 @@ module _ {style : Style} {db : Database} {p : Program} (known : Known style db p
     ),
   )
 
-  pub opcode_rows : (n : ℕ) → is_called (opcode_of n) ≡ true → OpcodeRow style db p n
-  opcode_rows n h = let from : (53 ≤ n) × (n ≤ 89) = called_from n h in
+  pub opcode_specs : (n : ℕ) → is_called (opcode_of n) ≡ true → OpcodeSpec style db p n
+  opcode_specs n h = let from : (53 ≤ n) × (n ≤ 89) = called_from n h in
       let is : 53 + (n - 53) ≡ n = omega (arith, from.0) in
-      subst (OpcodeRow style db p) is
-      (at_number (OpcodeRow style db p) 53 37 (n - 53) all_rows (omega (arith, from.0, from.1)))
+      subst (OpcodeSpec style db p) is
+      (at_number (OpcodeSpec style db p) 53 37 (n - 53) all_specs (omega (arith, from.0, from.1)))
 
 -- ---- a get
 

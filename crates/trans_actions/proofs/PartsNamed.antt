@@ -3,15 +3,15 @@ use Rattle.std.proofs.Common.{◌≡◌, ◌≢◌, ◌∙◌, arith, ℕ, ℤ, 
 use Rattle.std.specs.List.{AllByRecursion, list_all, starts_with}
 use Rattle.std.proofs.lemmas.Bool.{and_parts}
 use Rattle.inform_tree.specs.Programs as d
-use Rattle.inform_tree.specs.Programs.{DirectiveTree, RoutineTree, Routine}
+use Rattle.inform_tree.specs.Programs.{DirectiveTree, Routine}
 use Rattle.inform_names.specs.Meanings.{name_of}
 use Rattle.inform_signature.proofs.Elements.{one_in, in_second}
 use Rattle.scott_types.specs.declared.styles.Style.{Style}
 use Rattle.scott_types.specs.Database.{Database}
-use Rattle.trans_rows.specs.Names.{line_name}
-use Rattle.trans_rows.specs.Shaped.{IsLine}
-use Rattle.trans_rows.proofs.Lengths.{few}
-use Rattle.trans_rows.proofs.Lists.{of_both, each_with}
+use Rattle.trans_specs.specs.Names.{line_name}
+use Rattle.trans_specs.specs.Shaped.{IsLine}
+use Rattle.trans_specs.proofs.Lengths.{few}
+use Rattle.trans_specs.proofs.Lists.{of_both, each_with}
 use Rattle.trans_actions.specs.declared.table.Kind.TheVariants.{Condition, Opcode}
 use Rattle.trans_actions.specs.Names.{action_names}
 use Rattle.trans_actions.specs.Helpers.{conditions, opcodes, refill, uses, helper_directives}

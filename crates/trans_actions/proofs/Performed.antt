@@ -29,22 +29,22 @@ use Rattle.scott_types.specs.Opcode.{opcode_of, uses as parameter_count}
 use Rattle.scott_types.specs.Style.{in_style}
 use Rattle.scott_rules.specs.Outcomes.{Outcome as Result, and_then}
 use Rattle.scott_rules.specs.Opcodes.{said_message, is_full, moved, opcode_effect, takes, run_opcodes}
-use Rattle.trans_rows.specs.Tables.{bit}
-use Rattle.trans_rows.specs.Steps.{text_steps}
-use Rattle.trans_rows.specs.Names.{message_name, opcode_name}
-use Rattle.trans_rows.specs.Standing.{StandsFor}
-use Rattle.trans_rows.specs.Lines.{number_arguments, call_statement, next_parameters, opcode_call, get_statements, opcode_statements, all_statements}
-use Rattle.trans_rows.specs.Calls.{StageLeft, CallLeaves, CallSays}
-use Rattle.trans_rows.proofs.Entries.{bit_tells}
-use Rattle.trans_rows.proofs.Left.{said_left}
-use Rattle.trans_rows.proofs.Acts.{CallActs, returns_acts}
+use Rattle.trans_specs.specs.Tables.{bit}
+use Rattle.trans_specs.specs.Steps.{text_steps}
+use Rattle.trans_specs.specs.Names.{message_name, opcode_name}
+use Rattle.trans_specs.specs.Standing.{StandsFor}
+use Rattle.trans_specs.specs.Lines.{number_arguments, call_statement, next_parameters, opcode_call, get_statements, opcode_statements, all_statements}
+use Rattle.trans_specs.specs.Calls.{StageLeft, CallLeaves, CallSays}
+use Rattle.trans_specs.proofs.Entries.{bit_tells}
+use Rattle.trans_specs.proofs.Left.{said_left}
+use Rattle.trans_specs.proofs.Acts.{CallActs, returns_acts}
 use Rattle.trans_actions.specs.declared.table.Kind.TheVariants as kinds
 use Rattle.trans_actions.specs.Helpers.{uses}
 use Rattle.trans_actions.proofs.Known.{Known}
 use Rattle.trans_actions.proofs.Stored.{is_less}
 use Rattle.trans_actions.proofs.Effects.{opcode_steps, is_called}
-use Rattle.trans_actions.proofs.ItemEffects.{get_row}
-use Rattle.trans_actions.proofs.Numbered.{opcode_rows, get_is}
+use Rattle.trans_actions.proofs.ItemEffects.{get_spec}
+use Rattle.trans_actions.proofs.Numbered.{opcode_specs, get_is}
 use Rattle.trans_actions.proofs.ListActs.{ListActs, list_within, list_end, list_next, list_branch, list_call}
 
 -- ---- parameters
@@ -224,7 +224,7 @@ module _ {style : Style} {db : Database} {p : Program} (known : Known style db p
           acts = subst (λ o. CallActs (effect o).value.over db p d (opcode_name n)
               (map pos (take (parameter_count o) (a ∷ b ∷ []))) w noun (effect o).value.state
               (said_steps (effect o).events) (opcode_steps db)) is
-              (opcode_rows known n (ap is_called is ∙ called_too) used
+              (opcode_specs known n (ap is_called is ∙ called_too) used
               (ap is_called is ∙ called_too) a b s noun w d space stands)
 
           leads : (e : Outcome) (last : Scope) (w' : Stage) (k : ℕ)
@@ -319,7 +319,7 @@ module _ {style : Style} {db : Database} {p : Program} (known : Known style db p
 
       get_acts : Acts (get_statements params taken left) w (whole_get (is_full db s))
           (suc (length ns) * each_steps db)
-      get_acts = get_by (is_full db s) (get_row known own a s noun w d space stands)
+      get_acts = get_by (is_full db s) (get_spec known own a s noun w d space stands)
 
     -- any opcode
     each_acts : (o : Opcode) → opcode_of n ≡ o

@@ -1,4 +1,4 @@
--- Opcodes that change the room or a flag do what they owe.
+-- Opcodes that change the room or a flag meet their specifications.
 use Rattle.std.proofs.Common.{◌≡◌, arith, ℕ, suc, ◌<◌, pos, nat_lt, Bool, true, false, if◌then◌else◌, List, [], ◌∷◌, ◌++◌, length, map, codes, Some, None, is_some, refl, sym, ap, subst, append-nil}
 use Rattle.std.specs.Prelude.{set, slice_get, slice_index, slice_set}
 use Rattle.std.proofs.lemmas.List.{map-append}
@@ -27,28 +27,28 @@ use Rattle.scott_types.specs.Database.{Database}
 use Rattle.scott_types.specs.State.{Fits, with_flag}
 use Rattle.scott_rules.specs.Opcodes.{last_room, dead}
 use Rattle.scott_rules.specs.Looking.{looked}
-use Rattle.trans_rows.specs.Tables.{bit}
-use Rattle.trans_rows.specs.Views.{naturals}
-use Rattle.trans_rows.specs.Steps.{text_steps}
-use Rattle.trans_rows.specs.Names.{opcode_name}
-use Rattle.trans_rows.specs.Standing.{StandsFor}
-use Rattle.trans_rows.specs.Calls.{StageLeft, CallSays}
-use Rattle.trans_rows.proofs.Lengths.{few}
-use Rattle.trans_rows.proofs.Kept.{kept_then, kept_said, kept_here, kept_saved, kept_redraw, kept_flag, kept_rsave}
-use Rattle.trans_rows.proofs.Left.{nothing_left, said_left, left_then}
-use Rattle.trans_rows.proofs.Acts.{CallActs, returns_acts}
+use Rattle.trans_specs.specs.Tables.{bit}
+use Rattle.trans_specs.specs.Views.{naturals}
+use Rattle.trans_specs.specs.Steps.{text_steps}
+use Rattle.trans_specs.specs.Names.{opcode_name}
+use Rattle.trans_specs.specs.Standing.{StandsFor}
+use Rattle.trans_specs.specs.Calls.{StageLeft, CallSays}
+use Rattle.trans_specs.proofs.Lengths.{few}
+use Rattle.trans_specs.proofs.Kept.{kept_then, kept_said, kept_here, kept_saved, kept_redraw, kept_flag, kept_rsave}
+use Rattle.trans_specs.proofs.Left.{nothing_left, said_left, left_then}
+use Rattle.trans_specs.proofs.Acts.{CallActs, returns_acts}
 use Rattle.trans_actions.specs.Names.{action_names}
 use Rattle.trans_actions.proofs.Known.{Known, opcode_there}
-use Rattle.trans_rows.proofs.Room.{one_less}
+use Rattle.trans_specs.proofs.Room.{one_less}
 use Rattle.trans_actions.proofs.Stored.{is_less, flag_at, natural_at}
-use Rattle.trans_actions.proofs.Effects.{left_by, opcode_steps, OpcodeRow, alone}
+use Rattle.trans_actions.proofs.Effects.{left_by, opcode_steps, OpcodeSpec, alone}
 
 module _ {style : Style} {db : Database} {p : Program} (known : Known style db p) where
   few_rooms : length db.rooms < 32768
   few_rooms = omega (arith, few 255 db.rooms known.limits.sizes.rooms)
 
   -- 54: to a room that is there
-  pub opcode_54 : OpcodeRow style db p 54
+  pub opcode_54 : OpcodeSpec style db p 54
   unfolding body_of action_names digits
   opcode_54 used called_here a b s noun w d room stands = one_less (λ d. CallActs None db p d
       (opcode_name 54) (pos a ∷ []) w noun (if nat_lt a (length db.rooms)
@@ -78,7 +78,7 @@ module _ {style : Style} {db : Database} {p : Program} (known : Known style db p
             there) end) end) at_end)) (nothing_left stands)
 
   -- 80: the saved room
-  pub opcode_80 : OpcodeRow style db p 80
+  pub opcode_80 : OpcodeSpec style db p 80
   unfolding body_of action_names digits
   opcode_80 used called_here a b s noun w d room stands = one_less (λ d. CallActs None db p d
       (opcode_name 80) [] w noun (record s { room = s.saved; saved = s.room; redraw = true }) []
@@ -101,7 +101,7 @@ module _ {style : Style} {db : Database} {p : Program} (known : Known style db p
       (sym (append-nil w.past))))
 
   -- 87: a backup room
-  pub opcode_87 : OpcodeRow style db p 87
+  pub opcode_87 : OpcodeSpec style db p 87
   unfolding body_of action_names digits
   opcode_87 used called_here a b s noun w d room stands = one_less (λ d. CallActs None db p d
       (opcode_name 87) (pos a ∷ []) w noun (if nat_lt a 16 then backed else s) []
@@ -164,7 +164,7 @@ module _ {style : Style} {db : Database} {p : Program} (known : Known style db p
     flag_there n few =
         ap is_some (flag_at s.flags n (omega (arith, few, stands.ready.fits.flags)))
 
-  pub opcode_56 : OpcodeRow style db p 56
+  pub opcode_56 : OpcodeSpec style db p 56
   unfolding body_of action_names digits
   opcode_56 used called_here a b s noun w d room stands = one_less (λ d. CallActs None db p d
       (opcode_name 56) [] w noun (with_flag s 15 true) [] (opcode_steps db)) 109 d room
@@ -175,7 +175,7 @@ module _ {style : Style} {db : Database} {p : Program} (known : Known style db p
       (flag_left s noun w stands 15 true
       (known.laws.opcode_fits db (Flags Darken) a b s known.limits stands.ready.fits)))
 
-  pub opcode_57 : OpcodeRow style db p 57
+  pub opcode_57 : OpcodeSpec style db p 57
   unfolding body_of action_names digits
   opcode_57 used called_here a b s noun w d room stands = one_less (λ d. CallActs None db p d
       (opcode_name 57) [] w noun (with_flag s 15 false) [] (opcode_steps db)) 109 d room
@@ -186,7 +186,7 @@ module _ {style : Style} {db : Database} {p : Program} (known : Known style db p
       (flag_left s noun w stands 15 false
       (known.laws.opcode_fits db (Flags Lighten) a b s known.limits stands.ready.fits)))
 
-  pub opcode_67 : OpcodeRow style db p 67
+  pub opcode_67 : OpcodeSpec style db p 67
   unfolding body_of action_names digits
   opcode_67 used called_here a b s noun w d room stands = one_less (λ d. CallActs None db p d
       (opcode_name 67) [] w noun (with_flag s 0 true) [] (opcode_steps db)) 109 d room
@@ -197,7 +197,7 @@ module _ {style : Style} {db : Database} {p : Program} (known : Known style db p
       (flag_left s noun w stands 0 true
       (known.laws.opcode_fits db (Flags SetZero) a b s known.limits stands.ready.fits)))
 
-  pub opcode_68 : OpcodeRow style db p 68
+  pub opcode_68 : OpcodeSpec style db p 68
   unfolding body_of action_names digits
   opcode_68 used called_here a b s noun w d room stands = one_less (λ d. CallActs None db p d
       (opcode_name 68) [] w noun (with_flag s 0 false) [] (opcode_steps db)) 109 d room
@@ -208,7 +208,7 @@ module _ {style : Style} {db : Database} {p : Program} (known : Known style db p
       (flag_left s noun w stands 0 false
       (known.laws.opcode_fits db (Flags ClearZero) a b s known.limits stands.ready.fits)))
 
-  pub opcode_58 : OpcodeRow style db p 58
+  pub opcode_58 : OpcodeSpec style db p 58
   unfolding body_of action_names digits
   opcode_58 used called_here a b s noun w d room stands = one_less (λ d. CallActs None db p d
       (opcode_name 58) (pos a ∷ []) w noun (if nat_lt a 32 then with_flag s a true else s) []
@@ -230,7 +230,7 @@ module _ {style : Style} {db : Database} {p : Program} (known : Known style db p
             (next (if_false (compare (local refl) number there) end) end) at_end))
             (nothing_left stands)
 
-  pub opcode_60 : OpcodeRow style db p 60
+  pub opcode_60 : OpcodeSpec style db p 60
   unfolding body_of action_names digits
   opcode_60 used called_here a b s noun w d room stands = one_less (λ d. CallActs None db p d
       (opcode_name 60) (pos a ∷ []) w noun (if nat_lt a 32 then with_flag s a false else s) []
@@ -253,7 +253,7 @@ module _ {style : Style} {db : Database} {p : Program} (known : Known style db p
             (nothing_left stands)
 
   -- 61: the dead wake in the last room, which is described
-  pub opcode_61 : OpcodeRow style db p 61
+  pub opcode_61 : OpcodeSpec style db p 61
   unfolding body_of action_names digits
   opcode_61 used called_here a b s noun w d room stands = one_less (λ d. CallActs None db p d
       (opcode_name 61) [] w noun (dead db s)

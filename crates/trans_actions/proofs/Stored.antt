@@ -7,10 +7,10 @@ use Rattle.inform_tree.specs.declared.conditions.Relation.TheVariants.{Le}
 use Rattle.inform_meaning.specs.Words.{compares}
 use Rattle.scott_types.specs.Database.{Database, place_of_item}
 use Rattle.scott_types.specs.Limits.{KeepsLimits}
-use Rattle.trans_rows.specs.Tables.{bit, start_places}
-use Rattle.trans_rows.specs.Views.{naturals}
-use Rattle.trans_rows.proofs.Entries.{place_at}
-use Rattle.trans_rows.proofs.Lengths.{few}
+use Rattle.trans_specs.specs.Tables.{bit, start_places}
+use Rattle.trans_specs.specs.Views.{naturals}
+use Rattle.trans_specs.proofs.Entries.{place_at}
+use Rattle.trans_specs.proofs.Lengths.{few}
 
 -- what a test of numbers means
 pub is_less : (a n : ℕ) → nat_lt a n ≡ true → a < n

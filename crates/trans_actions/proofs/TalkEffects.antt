@@ -1,4 +1,4 @@
--- Opcodes that say something, or end the game, do what they owe.
+-- Opcodes that say something, or end the game, meet their specifications.
 use Rattle.std.proofs.Common.{◌≡◌, ◌∙◌, arith, ℕ, suc, ◌≤◌, pos, Bool, true, false, if◌then◌else◌, [], ◌∷◌, ◌++◌, codes, Some, None, refl, sym, subst}
 use Rattle.std.specs.Prelude.{slice_get}
 use Rattle.std.proofs.lemmas.List.{map-append}
@@ -24,20 +24,20 @@ use Rattle.scott_types.specs.Style.{in_style}
 use Rattle.scott_types.specs.Database.{Database}
 use Rattle.scott_rules.specs.Looking.{looked, inventory, scored, all_stored}
 use Rattle.scott_rules.specs.Opcodes.{by_opcode, by_score}
-use Rattle.trans_rows.specs.Names.{opcode_name}
-use Rattle.trans_rows.proofs.Entries.{bit_tells}
-use Rattle.trans_rows.proofs.Left.{nothing_left, said_left, left_then}
-use Rattle.trans_rows.proofs.Acts.{CallActs, returns_acts, stops_within}
+use Rattle.trans_specs.specs.Names.{opcode_name}
+use Rattle.trans_specs.proofs.Entries.{bit_tells}
+use Rattle.trans_specs.proofs.Left.{nothing_left, said_left, left_then}
+use Rattle.trans_specs.proofs.Acts.{CallActs, returns_acts, stops_within}
 use Rattle.trans_actions.specs.declared.table.Kind.TheVariants as kinds
 use Rattle.trans_actions.specs.Names.{action_names}
 use Rattle.trans_actions.specs.Helpers.{uses}
 use Rattle.trans_actions.proofs.Known.{Known, opcode_there}
-use Rattle.trans_rows.proofs.Room.{one_less}
+use Rattle.trans_specs.proofs.Room.{one_less}
 use Rattle.trans_actions.proofs.NounSaid.{noun_is_said, few_bytes, more_bytes}
-use Rattle.trans_actions.proofs.Effects.{opcode_steps, OpcodeRow, some_is, two_less, alone}
+use Rattle.trans_actions.proofs.Effects.{opcode_steps, OpcodeSpec, some_is, two_less, alone}
 
 module _ {style : Style} {db : Database} {p : Program} (known : Known style db p) where
-  pub opcode_64 : OpcodeRow style db p 64
+  pub opcode_64 : OpcodeSpec style db p 64
   unfolding body_of action_names digits
   opcode_64 used called_here a b s noun w d room stands = one_less (λ d. CallActs None db p d
       (opcode_name 64) [] w noun s (said_steps (looked (in_style style db) s)) (opcode_steps db))
@@ -48,7 +48,7 @@ module _ {style : Style} {db : Database} {p : Program} (known : Known style db p
       end) at_end))
       (said_left (looked (in_style style db) s) stands))
 
-  pub opcode_76 : OpcodeRow style db p 76
+  pub opcode_76 : OpcodeSpec style db p 76
   unfolding body_of action_names digits
   opcode_76 used called_here a b s noun w d room stands = one_less (λ d. CallActs None db p d
       (opcode_name 76) [] w noun s (said_steps (looked (in_style style db) s)) (opcode_steps db))
@@ -59,7 +59,7 @@ module _ {style : Style} {db : Database} {p : Program} (known : Known style db p
       end) at_end))
       (said_left (looked (in_style style db) s) stands))
 
-  pub opcode_66 : OpcodeRow style db p 66
+  pub opcode_66 : OpcodeSpec style db p 66
   unfolding body_of action_names digits
   opcode_66 used called_here a b s noun w d room stands = one_less (λ d. CallActs None db p d
       (opcode_name 66) [] w noun s (said_steps (inventory (in_style style db) s)) (opcode_steps db))
@@ -70,7 +70,7 @@ module _ {style : Style} {db : Database} {p : Program} (known : Known style db p
       end) at_end))
       (said_left (inventory (in_style style db) s) stands))
 
-  pub opcode_71 : OpcodeRow style db p 71
+  pub opcode_71 : OpcodeSpec style db p 71
   unfolding body_of action_names digits
   opcode_71 used called_here a b s noun w d room stands = one_less (λ d. CallActs None db p d
       (opcode_name 71) [] w noun s (said_steps (text_of NoSaving)) (opcode_steps db)) 109 d room
@@ -79,7 +79,7 @@ module _ {style : Style} {db : Database} {p : Program} (known : Known style db p
       (next (print (print_text print_nothing)) end) at_end))
       (said_left (text_of NoSaving) stands))
 
-  pub opcode_78 : OpcodeRow style db p 78
+  pub opcode_78 : OpcodeSpec style db p 78
   unfolding body_of action_names digits
   opcode_78 used called_here a b s noun w d room stands = one_less (λ d. CallActs None db p d
       (opcode_name 78) [] w noun s (said_steps (signed_decimal s.counter)) (opcode_steps db)) 109 d
@@ -90,7 +90,7 @@ module _ {style : Style} {db : Database} {p : Program} (known : Known style db p
       at_end))
       (said_left (signed_decimal s.counter) stands))
 
-  pub opcode_86 : OpcodeRow style db p 86
+  pub opcode_86 : OpcodeSpec style db p 86
   unfolding body_of action_names digits text_of
   opcode_86 used called_here a b s noun w d room stands = one_less (λ d. CallActs None db p d
       (opcode_name 86) [] w noun s (said_steps (10 ∷ [])) (opcode_steps db)) 109 d room
@@ -99,7 +99,7 @@ module _ {style : Style} {db : Database} {p : Program} (known : Known style db p
       (next new_line end) at_end))
       (said_left (10 ∷ []) stands))
 
-  pub opcode_70 : OpcodeRow style db p 70
+  pub opcode_70 : OpcodeSpec style db p 70
   unfolding body_of action_names digits
   opcode_70 used called_here a b s noun w d room stands = one_less (λ d. CallActs None db p d
       (opcode_name 70) [] w noun s [] (opcode_steps db)) 109 d room
@@ -107,7 +107,7 @@ module _ {style : Style} {db : Database} {p : Program} (known : Known style db p
       (opcode_there known 18 (alone db 70 used)) end at_end))
       (nothing_left stands))
 
-  pub opcode_88 : OpcodeRow style db p 88
+  pub opcode_88 : OpcodeSpec style db p 88
   unfolding body_of action_names digits
   opcode_88 used called_here a b s noun w d room stands = one_less (λ d. CallActs None db p d
       (opcode_name 88) [] w noun s [] (opcode_steps db)) 109 d room
@@ -115,7 +115,7 @@ module _ {style : Style} {db : Database} {p : Program} (known : Known style db p
       (opcode_there known 35 (alone db 88 used)) end at_end))
       (nothing_left stands))
 
-  pub opcode_89 : OpcodeRow style db p 89
+  pub opcode_89 : OpcodeSpec style db p 89
   unfolding body_of action_names digits
   opcode_89 used called_here a b s noun w d room stands = one_less (λ d. CallActs None db p d
       (opcode_name 89) (pos a ∷ []) w noun s [] (opcode_steps db)) 109 d room
@@ -129,7 +129,7 @@ module _ {style : Style} {db : Database} {p : Program} (known : Known style db p
       → list_any (uses kinds.Opcode db) (84 ∷ 85 ∷ []) ≡ true
   saying_noun n i at used = some_is (uses kinds.Opcode db) (84 ∷ 85 ∷ []) i at used
 
-  pub opcode_84 : OpcodeRow style db p 84
+  pub opcode_84 : OpcodeSpec style db p 84
   unfolding body_of action_names digits
   opcode_84 used called_here a b s noun w d room stands = one_less (λ d. CallActs None db p d
       (opcode_name 84) [] w noun s (said_steps noun) (opcode_steps db)) 109 d room
@@ -137,7 +137,7 @@ module _ {style : Style} {db : Database} {p : Program} (known : Known style db p
       (noun_is_said known s noun w stands
       (saying_noun 84 0 refl used) k)) (said_left noun stands))
 
-  pub opcode_85 : OpcodeRow style db p 85
+  pub opcode_85 : OpcodeSpec style db p 85
   unfolding body_of action_names digits text_of
   opcode_85 used called_here a b s noun w d room stands = two_less (λ d. CallActs None db p d
       (opcode_name 85) [] w noun s (said_steps (noun ++ 10 ∷ [])) (opcode_steps db)) 108 d room
@@ -152,7 +152,7 @@ module _ {style : Style} {db : Database} {p : Program} (known : Known style db p
 
   -- ---- endings
 
-  pub opcode_63 : OpcodeRow style db p 63
+  pub opcode_63 : OpcodeSpec style db p 63
   unfolding body_of action_names digits
   opcode_63 used called_here a b s noun w d room stands = one_less
       (λ d. CallActs (Some by_opcode) db
@@ -171,7 +171,7 @@ module _ {style : Style} {db : Database} {p : Program} (known : Known style db p
         };
       })
 
-  pub opcode_65 : OpcodeRow style db p 65
+  pub opcode_65 : OpcodeSpec style db p 65
   unfolding body_of action_names digits
   opcode_65 used called_here a b s noun w d room stands = one_less (λ d. CallActs
       (if all_stored db s then Some by_score else None) db p d (opcode_name 65) [] w noun s

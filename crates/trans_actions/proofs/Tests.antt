@@ -1,4 +1,4 @@
--- The routines of conditions do what they owe.
+-- The routines of conditions meet their specifications.
 use Rattle.std.proofs.Common.{◌≡◌, ◌∙◌, arith, ℕ, ◌<◌, ◌≤◌, ◌+◌, ◌*◌, pos, nat_eq, nat_lt, Bool, true, false, not, List, [], ◌∷◌, length, codes, Some, refl, sym, ap₂, subst}
 use Rattle.std.specs.Fmt.{digits}
 use Rattle.std.specs.List.{list_any}
@@ -25,12 +25,12 @@ use Rattle.scott_types.specs.Database.{Database}
 use Rattle.scott_types.specs.Condition.{condition_of}
 use Rattle.scott_types.specs.State.{place_of, is_near, flag_of, carried_count}
 use Rattle.scott_rules.specs.Conditions.{start_place, holds}
-use Rattle.trans_rows.specs.Tables.{bit}
-use Rattle.trans_rows.specs.Steps.{share}
-use Rattle.trans_rows.specs.Names.{condition_name}
-use Rattle.trans_rows.specs.Standing.{StandsFor}
-use Rattle.trans_rows.proofs.Room.{one_less}
-use Rattle.trans_rows.proofs.Entries.{bit_tells, place_at}
+use Rattle.trans_specs.specs.Tables.{bit}
+use Rattle.trans_specs.specs.Steps.{share}
+use Rattle.trans_specs.specs.Names.{condition_name}
+use Rattle.trans_specs.specs.Standing.{StandsFor}
+use Rattle.trans_specs.proofs.Room.{one_less}
+use Rattle.trans_specs.proofs.Entries.{bit_tells, place_at}
 use Rattle.trans_actions.specs.declared.table.Kind.TheVariants as kinds
 use Rattle.trans_actions.specs.Names.{action_names}
 use Rattle.trans_actions.specs.Helpers.{uses}
@@ -60,14 +60,14 @@ abbrev pub condition_steps : Database → ℕ
 condition_steps db = 4 * share db
 
 -- where a line has the condition, its routine gives 1 where it holds and else 0
-abbrev pub ConditionRow : Database → Program → ℕ → Type 0
-ConditionRow db p code = list_any (uses kinds.Condition db) (code ∷ []) ≡ true → (a : ℕ) (s : State)
+abbrev pub ConditionSpec : Database → Program → ℕ → Type 0
+ConditionSpec db p code = list_any (uses kinds.Condition db) (code ∷ []) ≡ true → (a : ℕ) (s : State)
     (noun : List ℕ) (w : Stage) (d : ℕ) → helper_room ≤ d → StandsFor db s noun w
     → Does p d (condition_name code) (pos a ∷ []) w
     (pos (bit (holds db s a (condition_of code)))) w (condition_steps db)
 
 module _ {style : Style} {db : Database} {p : Program} (known : Known style db p) where
-  cond_1 : ConditionRow db p 1
+  cond_1 : ConditionSpec db p 1
   unfolding body_of action_names digits
   cond_1 used a s noun w d room stands = one_less (λ d. Does p d (condition_name 1) (pos a ∷ [])
       w (pos (bit (holds db s a (condition_of 1)))) w (condition_steps db)) 109 d room
@@ -75,7 +75,7 @@ module _ {style : Style} {db : Database} {p : Program} (known : Known style db p
       (compare (call (argument (local refl) (called (known.helpers.places a s noun w k
       (omega (arith, few)) stands)))) number (eq_is (place_of s a) 255))) by_return))
 
-  cond_2 : ConditionRow db p 2
+  cond_2 : ConditionSpec db p 2
   unfolding body_of action_names digits
   cond_2 used a s noun w d room stands = one_less (λ d. Does p d (condition_name 2) (pos a ∷ [])
       w (pos (bit (holds db s a (condition_of 2)))) w (condition_steps db)) 109 d room
@@ -84,7 +84,7 @@ module _ {style : Style} {db : Database} {p : Program} (known : Known style db p
       (omega (arith, few)) stands)))) (global refl stands.ready.shows.room_is)
       (eq_is (place_of s a) s.room))) by_return))
 
-  cond_3 : ConditionRow db p 3
+  cond_3 : ConditionSpec db p 3
   unfolding body_of action_names digits
   cond_3 used a s noun w d room stands = one_less (λ d. Does p d (condition_name 3) (pos a ∷ [])
       w (pos (bit (holds db s a (condition_of 3)))) w (condition_steps db)) 109 d room
@@ -92,14 +92,14 @@ module _ {style : Style} {db : Database} {p : Program} (known : Known style db p
       (nonzero (call (argument (local refl) (called (known.helpers.near_items a s noun w k
       (omega (arith, few)) stands)))) (bit_tells (is_near s a)))) by_return))
 
-  cond_4 : ConditionRow db p 4
+  cond_4 : ConditionSpec db p 4
   unfolding body_of action_names digits
   cond_4 used a s noun w d room stands = one_less (λ d. Does p d (condition_name 4) (pos a ∷ [])
       w (pos (bit (holds db s a (condition_of 4)))) w (condition_steps db)) 109 d room
       (λ k few. does_within (omega arith) (routine (condition_there known 3 used) (tells
       (compare (global refl stands.ready.shows.room_is) (local refl) (eq_is s.room a))) by_return))
 
-  cond_5 : ConditionRow db p 5
+  cond_5 : ConditionSpec db p 5
   unfolding body_of action_names digits
   cond_5 used a s noun w d room stands = one_less (λ d. Does p d (condition_name 5) (pos a ∷ [])
       w (pos (bit (holds db s a (condition_of 5)))) w (condition_steps db)) 109 d room
@@ -108,7 +108,7 @@ module _ {style : Style} {db : Database} {p : Program} (known : Known style db p
       (omega (arith, few)) stands)))) (global refl stands.ready.shows.room_is)
       (ne_is (place_of s a) s.room))) by_return))
 
-  cond_6 : ConditionRow db p 6
+  cond_6 : ConditionSpec db p 6
   unfolding body_of action_names digits
   cond_6 used a s noun w d room stands = one_less (λ d. Does p d (condition_name 6) (pos a ∷ [])
       w (pos (bit (holds db s a (condition_of 6)))) w (condition_steps db)) 109 d room
@@ -116,14 +116,14 @@ module _ {style : Style} {db : Database} {p : Program} (known : Known style db p
       (compare (call (argument (local refl) (called (known.helpers.places a s noun w k
       (omega (arith, few)) stands)))) number (ne_is (place_of s a) 255))) by_return))
 
-  cond_7 : ConditionRow db p 7
+  cond_7 : ConditionSpec db p 7
   unfolding body_of action_names digits
   cond_7 used a s noun w d room stands = one_less (λ d. Does p d (condition_name 7) (pos a ∷ [])
       w (pos (bit (holds db s a (condition_of 7)))) w (condition_steps db)) 109 d room
       (λ k few. does_within (omega arith) (routine (condition_there known 6 used) (tells
       (compare (global refl stands.ready.shows.room_is) (local refl) (ne_is s.room a))) by_return))
 
-  cond_10 : ConditionRow db p 10
+  cond_10 : ConditionSpec db p 10
   unfolding body_of action_names digits
   cond_10 used a s noun w d room stands = one_less (λ d. Does p d (condition_name 10) (pos a ∷ [])
       w (pos (bit (holds db s a (condition_of 10)))) w (condition_steps db)) 109 d room
@@ -131,7 +131,7 @@ module _ {style : Style} {db : Database} {p : Program} (known : Known style db p
       (compare (call (called (known.helpers.carried_items s noun w k (omega (arith, few)) stands)))
       number refl)) by_return))
 
-  cond_11 : ConditionRow db p 11
+  cond_11 : ConditionSpec db p 11
   unfolding body_of action_names digits
   cond_11 used a s noun w d room stands = one_less (λ d. Does p d (condition_name 11) (pos a ∷ [])
       w (pos (bit (holds db s a (condition_of 11)))) w (condition_steps db)) 109 d room
@@ -139,7 +139,7 @@ module _ {style : Style} {db : Database} {p : Program} (known : Known style db p
       (compare (call (called (known.helpers.carried_items s noun w k (omega (arith, few)) stands)))
       number (eq_is (carried_count s) 0))) by_return))
 
-  cond_12 : ConditionRow db p 12
+  cond_12 : ConditionSpec db p 12
   unfolding body_of action_names digits
   cond_12 used a s noun w d room stands = one_less (λ d. Does p d (condition_name 12) (pos a ∷ [])
       w (pos (bit (holds db s a (condition_of 12)))) w (condition_steps db)) 109 d room
@@ -148,7 +148,7 @@ module _ {style : Style} {db : Database} {p : Program} (known : Known style db p
       (known.helpers.near_items a s noun w k (omega (arith, few)) stands))))
       (bit_tells (is_near s a))))) by_return))
 
-  cond_13 : ConditionRow db p 13
+  cond_13 : ConditionSpec db p 13
   unfolding body_of action_names digits
   cond_13 used a s noun w d room stands = one_less (λ d. Does p d (condition_name 13) (pos a ∷ [])
       w (pos (bit (holds db s a (condition_of 13)))) w (condition_steps db)) 109 d room
@@ -156,7 +156,7 @@ module _ {style : Style} {db : Database} {p : Program} (known : Known style db p
       (compare (call (argument (local refl) (called (known.helpers.places a s noun w k
       (omega (arith, few)) stands)))) number (ne_is (place_of s a) 0))) by_return))
 
-  cond_14 : ConditionRow db p 14
+  cond_14 : ConditionSpec db p 14
   unfolding body_of action_names digits
   cond_14 used a s noun w d room stands = one_less (λ d. Does p d (condition_name 14) (pos a ∷ [])
       w (pos (bit (holds db s a (condition_of 14)))) w (condition_steps db)) 109 d room
@@ -164,7 +164,7 @@ module _ {style : Style} {db : Database} {p : Program} (known : Known style db p
       (compare (call (argument (local refl) (called (known.helpers.places a s noun w k
       (omega (arith, few)) stands)))) number (eq_is (place_of s a) 0))) by_return))
 
-  cond_15 : ConditionRow db p 15
+  cond_15 : ConditionSpec db p 15
   unfolding body_of action_names digits
   cond_15 used a s noun w d room stands = one_less (λ d. Does p d (condition_name 15) (pos a ∷ [])
       w (pos (bit (holds db s a (condition_of 15)))) w (condition_steps db)) 109 d room
@@ -172,14 +172,14 @@ module _ {style : Style} {db : Database} {p : Program} (known : Known style db p
       (compare (global refl stands.ready.shows.counter_is) (local refl) (at_most_is s.counter a)))
       by_return))
 
-  cond_16 : ConditionRow db p 16
+  cond_16 : ConditionSpec db p 16
   unfolding body_of action_names digits
   cond_16 used a s noun w d room stands = one_less (λ d. Does p d (condition_name 16) (pos a ∷ [])
       w (pos (bit (holds db s a (condition_of 16)))) w (condition_steps db)) 109 d room
       (λ k few. does_within (omega arith) (routine (condition_there known 15 used) (tells
       (compare (global refl stands.ready.shows.counter_is) (local refl) refl)) by_return))
 
-  cond_19 : ConditionRow db p 19
+  cond_19 : ConditionSpec db p 19
   unfolding body_of action_names digits
   cond_19 used a s noun w d room stands = one_less (λ d. Does p d (condition_name 19) (pos a ∷ [])
       w (pos (bit (holds db s a (condition_of 19)))) w (condition_steps db)) 109 d room
@@ -260,28 +260,28 @@ module _ {style : Style} {db : Database} {p : Program} (known : Known style db p
             (entry (local argument_is) stands.ready.tables.start_is (start_at db a there))
             (eq_is (place_of s a) (start_place db a) ∙ is)) none_holds))
 
-  cond_8 : ConditionRow db p 8
+  cond_8 : ConditionSpec db p 8
   unfolding body_of action_names digits
   cond_8 used a s noun w d room stands = one_less (λ d. Does p d (condition_name 8) (pos a ∷ [])
       w (pos (bit (holds db s a (condition_of 8)))) w (condition_steps db)) 109 d room
       (λ k few. does_within (omega arith) (routine (condition_there known 7 used) (tells
       (flag_tested a s noun w k stands _ refl)) by_return))
 
-  cond_9 : ConditionRow db p 9
+  cond_9 : ConditionSpec db p 9
   unfolding body_of action_names digits
   cond_9 used a s noun w d room stands = one_less (λ d. Does p d (condition_name 9) (pos a ∷ [])
       w (pos (bit (holds db s a (condition_of 9)))) w (condition_steps db)) 109 d room
       (λ k few. does_within (omega arith) (routine (condition_there known 8 used) (tells
       (negated (flag_tested a s noun w k stands _ refl))) by_return))
 
-  cond_17 : ConditionRow db p 17
+  cond_17 : ConditionSpec db p 17
   unfolding body_of action_names digits
   cond_17 used a s noun w d room stands = one_less (λ d. Does p d (condition_name 17) (pos a ∷ [])
       w (pos (bit (holds db s a (condition_of 17)))) w (condition_steps db)) 109 d room
       (λ k few. does_within (omega arith) (routine (condition_there known 16 used) (tells
       (start_tested a s noun w k stands _ refl)) by_return))
 
-  cond_18 : ConditionRow db p 18
+  cond_18 : ConditionSpec db p 18
   unfolding body_of action_names digits
   cond_18 used a s noun w d room stands = one_less (λ d. Does p d (condition_name 18) (pos a ∷ [])
       w (pos (bit (holds db s a (condition_of 18)))) w (condition_steps db)) 109 d room
@@ -290,8 +290,8 @@ module _ {style : Style} {db : Database} {p : Program} (known : Known style db p
 
   -- ---- all of them, by their numbers
 
-  pub condition_rows : AllFrom (ConditionRow db p) 1 19
-  condition_rows = (
+  pub condition_specs : AllFrom (ConditionSpec db p) 1 19
+  condition_specs = (
     cond_1,
     (
       cond_2,

@@ -11,7 +11,7 @@ use Rattle.inform_codes.specs.Codes.{name_in}
 use Rattle.inform_codes.specs.Routines.{Row, row_routine, rows_directives}
 use Rattle.scott_types.specs.declared.styles.Style.{Style}
 use Rattle.scott_types.specs.Database.{Database}
-use Rattle.trans_rows.proofs.Lists.{of_both}
+use Rattle.trans_specs.proofs.Lists.{of_both}
 use Rattle.trans_actions.specs.declared.table.Kind.TheVariants.{Condition, Opcode}
 use Rattle.trans_actions.specs.Names.{action_names, numbers}
 use Rattle.trans_actions.specs.Helpers.{Helper, conditions, opcodes, refill, uses, used_rows, helper_directives}

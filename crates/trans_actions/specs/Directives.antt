@@ -6,8 +6,8 @@ use Rattle.scott_types.specs.declared.parts.Action.{Action}
 use Rattle.scott_types.specs.declared.styles.Style.{Style}
 use Rattle.scott_types.specs.Database.{Database}
 use Rattle.scott_types.specs.Action.{is_zero_action}
-use Rattle.trans_rows.specs.Names.{line_name}
-use Rattle.trans_rows.specs.Lines.{line_body}
+use Rattle.trans_specs.specs.Names.{line_name}
+use Rattle.trans_specs.specs.Lines.{line_body}
 use Rattle.trans_actions.specs.Helpers.{helper_directives}
 
 -- the routine of a line by its number

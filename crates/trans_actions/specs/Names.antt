@@ -5,7 +5,7 @@ use Rattle.scott_types.specs.declared.phrases.Phrase.TheVariants.{TooMuch, Dead,
 use Rattle.scott_types.specs.Database.{Database}
 use Rattle.scott_types.specs.Phrase.{text_of, text_in}
 use Rattle.scott_rules.specs.Opcodes.{last_room}
-use Rattle.trans_rows.specs.HelperRows.{HelperNames}
+use Rattle.trans_specs.specs.HelperSpecs.{HelperNames}
 use Rattle.trans_actions.specs.declared.names.TheConstants.{NAMES}
 
 -- the texts, in the order of their places

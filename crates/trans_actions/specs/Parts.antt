@@ -12,11 +12,11 @@ use Rattle.inform_signature.specs.Soundness.{IsFaultless}
 use Rattle.scott_types.specs.declared.styles.Style.{Style}
 use Rattle.scott_types.specs.Database.{Database}
 use Rattle.scott_types.specs.Limits.{KeepsLimits}
-use Rattle.trans_rows.specs.Names.{message_name, group_name, line_name}
-use Rattle.trans_rows.specs.Lines.{line_routine}
-use Rattle.trans_rows.specs.ActionRows.{HasLineRoutine}
-use Rattle.trans_rows.specs.Owed.{Translates}
-use Rattle.trans_rows.specs.Shaped.{IsIn, IsLine, program_calls}
+use Rattle.trans_specs.specs.Names.{message_name, group_name, line_name}
+use Rattle.trans_specs.specs.Lines.{line_routine}
+use Rattle.trans_specs.specs.ActionSpecs.{HasLineRoutine}
+use Rattle.trans_specs.specs.Meeting.{Translates}
+use Rattle.trans_specs.specs.Shaped.{IsIn, IsLine, program_calls}
 use Rattle.trans_actions.specs.Needed.{needed}
 use Rattle.trans_actions.specs.Directives.{action_directives}
 

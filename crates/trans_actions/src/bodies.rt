@@ -2,8 +2,8 @@
 ghost use Rattle.std.specs.Prelude.{◌≡◌, ◌++◌, IfOk, map, filter};
 ghost use Rattle.inform_tree.specs.Statements.{statement_of};
 ghost use Rattle.scott_types.specs.Opcode.{uses};
-ghost use Rattle.trans_rows.specs.Lines.{condition_test, is_test, message_call, get_statements, call_statement, next_parameters, all_statements, line_value, line_body};
-ghost use Rattle.trans_rows.specs.Names.{opcode_name};
+ghost use Rattle.trans_specs.specs.Lines.{condition_test, is_test, message_call, get_statements, call_statement, next_parameters, all_statements, line_value, line_body};
+ghost use Rattle.trans_specs.specs.Names.{opcode_name};
 ghost use Rattle.scott_rules.specs.Actions.{goes_on_after};
 
 use crate::calls::{left, name, next};

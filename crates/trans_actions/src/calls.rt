@@ -1,7 +1,7 @@
 //! Calls of the routines whose names end in a number.
 ghost use Rattle.std.specs.Prelude.{◌≡◌, ◌++◌, IfOk, drop, decimal};
 ghost use Rattle.inform_tree.specs.Values.{arguments_of};
-ghost use Rattle.trans_rows.specs.Lines.{number_arguments, next_parameters};
+ghost use Rattle.trans_specs.specs.Lines.{number_arguments, next_parameters};
 
 use adv_io::Memory;
 use inform_codes::numbered;

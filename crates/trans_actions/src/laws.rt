@@ -1,19 +1,19 @@
-//! What the routines of lines owe, and what a program needs to know of them. Each law is the
-//! contract of a function that does nothing else.
-ghost use Rattle.trans_actions.specs.Laws.{LinesOwe, ActionsFormed};
+//! The routines of lines meet their specifications, and what a program needs to know of them. Each
+//! law is the contract of a function that does nothing else.
+ghost use Rattle.trans_actions.specs.Laws.{LinesMeetSpecs, ActionsFormed};
 ghost use Rattle.trans_actions.specs.Parts.{ActionsAreNamed, ActionsAreDistinct, LinesAreThere, LinesAlone, ActionsCallNone, ActionsAreFaultless};
 
 use inform_signature::laws::sound_routines_are_faultless;
 use scott_rules::laws::opcode_fits;
-use trans_rows::laws::{
+use trans_specs::laws::{
     entries_written, globals_written, lines_are_numbered, lines_have_words, none_wide_at_32,
     numbers_are_their_words,
 };
 
 /// Where a program has these routines and those of the messages, and the texts and helpers do what
-/// they owe, each line does what it owes.
-pub fn lines_owe()
-    ensures { LinesOwe }
+/// they owe, each line meets its specification.
+pub fn lines_meet_specs()
+    ensures { LinesMeetSpecs }
 {
     opcode_fits();
     globals_written();

@@ -16,9 +16,9 @@ mod bodies;
 mod calls;
 
 // All of them.
-mod lines;
+mod emitting;
 
-// What they owe.
+// That they meet their specifications.
 pub mod laws;
 
-pub use lines::actions;
+pub use emitting::actions;

@@ -18,8 +18,8 @@ use Rattle.scott_types.specs.declared.states.State.{State}
 use Rattle.scott_types.specs.declared.styles.Style.{Style}
 use Rattle.scott_types.specs.Database.{Database}
 use Rattle.scott_rules.specs.Transfer.{is_all}
-use Rattle.trans_rows.specs.Tables.{bit}
-use Rattle.trans_rows.specs.Standing.{StandsFor}
+use Rattle.trans_specs.specs.Tables.{bit}
+use Rattle.trans_specs.specs.Standing.{StandsFor}
 use Rattle.trans_commands.proofs.Known.{Known}
 
 -- ---- bytes in a buffer

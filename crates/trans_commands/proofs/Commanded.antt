@@ -21,14 +21,14 @@ use Rattle.scott_types.specs.Style.{in_style}
 use Rattle.scott_rules.specs.Commands.{go_verb, is_direction}
 use Rattle.scott_rules.specs.Outcomes.{Outcome}
 use Rattle.scott_rules.specs.Rounds.{walk_result, by_actions, going, command_result}
-use Rattle.trans_rows.proofs.Lengths.{there as is_there}
-use Rattle.trans_rows.specs.Tables.{or_zero}
-use Rattle.trans_rows.specs.Standing.{StandsFor}
-use Rattle.trans_rows.specs.CommandRows.{IsNoun, CommandEnds, CommandRow, command_steps, command_room, search_room}
-use Rattle.trans_commands.specs.Laws.{CommandsOwe}
-use Rattle.trans_rows.proofs.Left.{said_left, nothing_left}
+use Rattle.trans_specs.proofs.Lengths.{there as is_there}
+use Rattle.trans_specs.specs.Tables.{or_zero}
+use Rattle.trans_specs.specs.Standing.{StandsFor}
+use Rattle.trans_specs.specs.CommandSpecs.{IsNoun, CommandEnds, CommandSpec, command_steps, command_room, search_room}
+use Rattle.trans_commands.specs.Laws.{CommandsMeetSpecs}
+use Rattle.trans_specs.proofs.Left.{said_left, nothing_left}
 use Rattle.trans_commands.proofs.Spent.{obey_steps, walk_steps, command_fits}
-use Rattle.trans_rows.proofs.Acts.{CallActs, CallActsBy, acts_within, acts_call, acts_if, acts_next, acts_routine, returns_acts}
+use Rattle.trans_specs.proofs.Acts.{CallActs, CallActsBy, acts_within, acts_call, acts_if, acts_next, acts_routine, returns_acts}
 use Rattle.trans_commands.proofs.Known.{Laws, Known}
 use Rattle.trans_commands.proofs.Tabled.{some_noun}
 use Rattle.trans_commands.proofs.Walked.{walk_acts}
@@ -115,7 +115,7 @@ module _ {style : Style} {db : Database} {p : Program} (known : Known style db p
         (argument (global refl verb_is) (argument (global refl noun_is) x)))
         (obey_acts known s typed w stands verb noun spoken there d room))))
 
--- ---- the row
+-- ---- the specification
 
 ends_by : (style : Style) {db : Database} {p : Program} {d : ℕ} {w : Stage} {typed : List ℕ}
     {over : Option ℕ} (t : Traced Step Outcome)
@@ -135,9 +135,9 @@ seven_less P d h by = subst P is (by (d - 7) (omega (arith, h))) where
   is : suc (suc (suc (suc (suc (suc (suc (d - 7))))))) ≡ d
   is = omega (arith, h)
 
-command_row : {style : Style} {db : Database} {p : Program} → Known style db p
-    → CommandRow (in_style style db) p (codes "command")
-command_row {style} {db} {p} known verb noun s typed w d room some there verb_is noun_is stands =
+command_spec : {style : Style} {db : Database} {p : Program} → Known style db p
+    → CommandSpec (in_style style db) p (codes "command")
+command_spec {style} {db} {p} known verb noun s typed w d room some there verb_is noun_is stands =
     seven_less (λ d. CommandEnds
     (command_result (in_style style db) typed verb noun s).value.over (in_style style db) p d
     (codes "command") w typed (command_result (in_style style db) typed verb noun s)) d room
@@ -146,8 +146,8 @@ command_row {style} {db} {p} known verb noun s typed w d room some there verb_is
     (acts_within (command_fits db (is_there 255 db.items known.limits.sizes.items))
     (command_acts known s typed w stands verb some verb_is k few noun noun_is there)))
 
-pub commands_owe : Laws → CommandsOwe
-commands_owe laws style width db p translates serves helpers searches = command_row (record {
+pub commands_meet_specs : Laws → CommandsMeetSpecs
+commands_meet_specs laws style width db p translates serves helpers searches = command_spec (record {
   limits = translates.limits;
   laws = laws;
   helpers = helpers;

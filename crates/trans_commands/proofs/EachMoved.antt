@@ -29,16 +29,16 @@ use Rattle.scott_types.specs.Database.{Database}
 use Rattle.scott_types.specs.Style.{in_style}
 use Rattle.scott_rules.specs.Search.{SearchOutcome}
 use Rattle.scott_rules.specs.Transfer.{verb_for, is_taken, is_refused, transferred, AllOutcome, all_moved, all_after, all_item, all_items}
-use Rattle.trans_rows.specs.Tables.{bit}
-use Rattle.trans_rows.specs.Views.{Shows}
-use Rattle.trans_rows.specs.Standing.{StandsFor}
-use Rattle.trans_rows.specs.Calls.{StageLeft}
-use Rattle.trans_rows.specs.CommandRows.{search_room}
-use Rattle.trans_rows.proofs.Left.{nothing_left, left_then}
+use Rattle.trans_specs.specs.Tables.{bit}
+use Rattle.trans_specs.specs.Views.{Shows}
+use Rattle.trans_specs.specs.Standing.{StandsFor}
+use Rattle.trans_specs.specs.Calls.{StageLeft}
+use Rattle.trans_specs.specs.CommandSpecs.{search_room}
+use Rattle.trans_specs.proofs.Left.{nothing_left, left_then}
 use Rattle.trans_commands.proofs.Spent.{item_steps}
 use Rattle.trans_commands.proofs.Blocks.{first_of, rest_of, loop_of}
 use Rattle.trans_commands.proofs.Known.{Known, body, few_items}
-use Rattle.trans_rows.proofs.Entries.{bit_tells}
+use Rattle.trans_specs.proofs.Entries.{bit_tells}
 use Rattle.trans_commands.proofs.OneItem.{can_take}
 use Rattle.trans_commands.proofs.MovedNext.{item_search, NextLeaves, NextActs, move_next}
 use Rattle.trans_commands.specs.declared.transfers.TheConstants.{MOVE_ALL}

@@ -8,9 +8,9 @@ use Rattle.scott_types.specs.declared.parts.Room.{Room}
 use Rattle.scott_types.specs.Database.{Database, room_at}
 use Rattle.scott_types.specs.Room.{room_beyond, exit_of}
 use Rattle.scott_types.specs.Limits.{is_number, is_file_text, is_room, KeepsLimits}
-use Rattle.trans_rows.specs.Tables.{exits_of_room, exits}
-use Rattle.trans_rows.specs.Views.{naturals}
-use Rattle.trans_rows.specs.Laws.{ExitsStand}
+use Rattle.trans_specs.specs.Tables.{exits_of_room, exits}
+use Rattle.trans_specs.specs.Views.{naturals}
+use Rattle.trans_specs.specs.Laws.{ExitsStand}
 
 entry_in : (xs : List ℕ) (n : ℕ) → n < length xs
     → slice_get (naturals xs) n ≡ Some (pos (slice_index xs n))

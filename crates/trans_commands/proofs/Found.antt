@@ -20,11 +20,11 @@ use Rattle.scott_types.specs.declared.endings.Transfer.{Transfer}
 use Rattle.scott_types.specs.Database.{Database}
 use Rattle.scott_rules.specs.Words.{root}
 use Rattle.scott_rules.specs.Transfer.{verb_for, is_at_hand, item_named}
-use Rattle.trans_rows.specs.Tables.{class_of, item_word, is_class, class_of_noun}
-use Rattle.trans_rows.specs.Standing.{StandsFor}
+use Rattle.trans_specs.specs.Tables.{class_of, item_word, is_class, class_of_noun}
+use Rattle.trans_specs.specs.Standing.{StandsFor}
 use Rattle.trans_commands.proofs.Blocks.{first_of, rest_of, loop_of}
 use Rattle.trans_commands.proofs.Known.{Known, body, few_items}
-use Rattle.trans_rows.proofs.Entries.{bit_tells}
+use Rattle.trans_specs.proofs.Entries.{bit_tells}
 use Rattle.trans_commands.proofs.Tabled.{tabled}
 use Rattle.trans_commands.proofs.Named.{classed, no_class, class_some, by_class}
 use Rattle.trans_commands.proofs.OneItem.{at_hand}

@@ -11,11 +11,11 @@ use Rattle.scott_types.specs.Database.{Database}
 use Rattle.scott_types.specs.Limits.{KeepsLimits}
 use Rattle.scott_types.specs.Style.{in_style}
 use Rattle.scott_rules.specs.Laws.{WalkFits, TransferFits, WordNamesLeastMatch}
-use Rattle.trans_rows.proofs.Lengths.{few}
-use Rattle.trans_rows.specs.HelperRows.{HelperRows}
-use Rattle.trans_rows.specs.CommandRows.{SearchRow}
-use Rattle.trans_rows.specs.Laws.{ExitsStand, ClassesTell}
-use Rattle.trans_rows.specs.Writes.{GlobalsWritten, EntriesWritten}
+use Rattle.trans_specs.proofs.Lengths.{few}
+use Rattle.trans_specs.specs.HelperSpecs.{HelperSpecs}
+use Rattle.trans_specs.specs.CommandSpecs.{SearchSpec}
+use Rattle.trans_specs.specs.Laws.{ExitsStand, ClassesTell}
+use Rattle.trans_specs.specs.Writes.{GlobalsWritten, EntriesWritten}
 use Rattle.trans_commands.specs.declared.names.TheConstants.{COMMAND_NAME, OBEY_NAME, WALK_NAME, NO_WAY_NAME, TRANSFER_NAME, IS_ALL_NAME, MOVE_ALL_NAME, MOVE_NEXT_NAME, MOVE_ONE_NAME, FIND_ITEM_NAME, AT_HAND_NAME, CAN_TAKE_NAME, IS_REFUSED_NAME, PUT_ITEM_NAME, VERB, NOUN, MARK, CLASS, ROOM, INDEX}
 use Rattle.trans_commands.specs.declared.commanding.TheConstants.{COMMAND, OBEY}
 use Rattle.trans_commands.specs.declared.walking.TheConstants.{WALK, NO_WAY}
@@ -44,8 +44,8 @@ Own style db p row = Has p (row_routine (command_names style) (length db.items �
 pub record Known (style : Style) (db : Database) (p : Program) : Type 0 where
   pub limits : KeepsLimits db
   pub laws : Laws
-  pub helpers : HelperRows (in_style style db) p helper_names
-  pub searches : SearchRow (in_style style db) p (codes "search")
+  pub helpers : HelperSpecs (in_style style db) p helper_names
+  pub searches : SearchSpec (in_style style db) p (codes "search")
   pub command : Own style db p (COMMAND_NAME, [], COMMAND)
   pub obey : Own style db p (OBEY_NAME, VERB ∷ NOUN ∷ MARK ∷ [], OBEY)
   pub walk : Own style db p (WALK_NAME, NOUN ∷ ROOM ∷ [], WALK)

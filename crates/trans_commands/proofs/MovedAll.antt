@@ -26,16 +26,16 @@ use Rattle.scott_types.specs.Database.{Database}
 use Rattle.scott_types.specs.Style.{in_style}
 use Rattle.scott_types.specs.State.{is_dark}
 use Rattle.scott_rules.specs.Transfer.{verb_for, is_too_dark, AllOutcome, all_items, all_from, all_transferred, none_taken}
-use Rattle.trans_rows.specs.Tables.{bit}
-use Rattle.trans_rows.specs.Standing.{StandsFor}
-use Rattle.trans_rows.specs.Steps.{text_steps}
-use Rattle.trans_rows.specs.CommandRows.{search_room}
-use Rattle.trans_rows.proofs.Left.{said_left, nothing_left, left_then}
+use Rattle.trans_specs.specs.Tables.{bit}
+use Rattle.trans_specs.specs.Standing.{StandsFor}
+use Rattle.trans_specs.specs.Steps.{text_steps}
+use Rattle.trans_specs.specs.CommandSpecs.{search_room}
+use Rattle.trans_specs.proofs.Left.{said_left, nothing_left, left_then}
 use Rattle.trans_commands.proofs.Spent.{turns_steps, all_steps}
-use Rattle.trans_rows.proofs.Acts.{CallActs, returns_acts, stops_within}
+use Rattle.trans_specs.proofs.Acts.{CallActs, returns_acts, stops_within}
 use Rattle.trans_commands.proofs.Blocks.{first_of, rest_of, test_of, block_of}
 use Rattle.trans_commands.proofs.Known.{Known, body}
-use Rattle.trans_rows.proofs.Entries.{bit_tells}
+use Rattle.trans_specs.proofs.Entries.{bit_tells}
 use Rattle.trans_commands.proofs.EachMoved.{at_item, TurnsActBy, turns_from}
 use Rattle.trans_commands.specs.declared.transfers.TheConstants.{MOVE_ALL}
 

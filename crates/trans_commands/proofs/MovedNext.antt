@@ -32,16 +32,16 @@ use Rattle.scott_rules.specs.Groups.{groups}
 use Rattle.scott_rules.specs.Laws.{EntryMatches, IsLeastMatch}
 use Rattle.scott_rules.specs.Search.{SearchOutcome, search_result}
 use Rattle.scott_rules.specs.Transfer.{verb_for, is_refused, transferred}
-use Rattle.trans_rows.specs.Tables.{or_zero, item_word}
-use Rattle.trans_rows.specs.Standing.{StandsFor}
-use Rattle.trans_rows.specs.Steps.{text_steps}
-use Rattle.trans_rows.specs.Calls.{StageLeft, CallLeaves, CallEndsGame, CallSays}
-use Rattle.trans_rows.specs.CommandRows.{IsNoun, SearchFinds, search_steps, search_room}
-use Rattle.trans_rows.proofs.Left.{said_left, left_then}
+use Rattle.trans_specs.specs.Tables.{or_zero, item_word}
+use Rattle.trans_specs.specs.Standing.{StandsFor}
+use Rattle.trans_specs.specs.Steps.{text_steps}
+use Rattle.trans_specs.specs.Calls.{StageLeft, CallLeaves, CallEndsGame, CallSays}
+use Rattle.trans_specs.specs.CommandSpecs.{IsNoun, SearchFinds, search_steps, search_room}
+use Rattle.trans_specs.proofs.Left.{said_left, left_then}
 use Rattle.trans_commands.proofs.Spent.{next_steps}
-use Rattle.trans_rows.proofs.Acts.{stops_within}
+use Rattle.trans_specs.proofs.Acts.{stops_within}
 use Rattle.trans_commands.proofs.Known.{Known}
-use Rattle.trans_rows.proofs.Entries.{bit_tells}
+use Rattle.trans_specs.proofs.Entries.{bit_tells}
 use Rattle.trans_commands.proofs.Tabled.{tabled}
 use Rattle.trans_commands.proofs.OneItem.{refused, put_stage, put_item, put_left}
 

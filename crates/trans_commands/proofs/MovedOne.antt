@@ -26,15 +26,15 @@ use Rattle.scott_types.specs.Style.{in_style}
 use Rattle.scott_rules.specs.Words.{is_empty, is_typed, entries_of, column_of, root}
 use Rattle.scott_rules.specs.Outcomes.{Outcome}
 use Rattle.scott_rules.specs.Transfer.{verb_for, is_at_hand, is_refused, item_named, one_moved, one_from, one_transferred}
-use Rattle.trans_rows.specs.Tables.{or_zero, class_of_noun}
-use Rattle.trans_rows.specs.Standing.{StandsFor}
-use Rattle.trans_rows.specs.DataRows.{text_room}
-use Rattle.trans_rows.specs.CommandRows.{IsNoun}
-use Rattle.trans_rows.proofs.Left.{said_left, left_then}
+use Rattle.trans_specs.specs.Tables.{or_zero, class_of_noun}
+use Rattle.trans_specs.specs.Standing.{StandsFor}
+use Rattle.trans_specs.specs.DataSpecs.{text_room}
+use Rattle.trans_specs.specs.CommandSpecs.{IsNoun}
+use Rattle.trans_specs.proofs.Left.{said_left, left_then}
 use Rattle.trans_commands.proofs.Spent.{one_steps}
-use Rattle.trans_rows.proofs.Acts.{CallActs, returns_acts}
+use Rattle.trans_specs.proofs.Acts.{CallActs, returns_acts}
 use Rattle.trans_commands.proofs.Known.{Known, few_items}
-use Rattle.trans_rows.proofs.Entries.{bit_tells}
+use Rattle.trans_specs.proofs.Entries.{bit_tells}
 use Rattle.trans_commands.proofs.Tabled.{some_noun}
 use Rattle.trans_commands.proofs.Named.{class_at}
 use Rattle.trans_commands.proofs.Found.{Gives, find_item}

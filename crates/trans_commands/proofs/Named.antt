@@ -14,9 +14,9 @@ use Rattle.scott_types.specs.ItemText.{is_starred, between_slashes, get_word}
 use Rattle.scott_types.specs.Limits.{KeepsLimits}
 use Rattle.scott_rules.specs.Words.{is_empty, is_typed, entries_of, column_of, root}
 use Rattle.scott_rules.specs.Transfer.{is_at_hand, item_named}
-use Rattle.trans_rows.specs.Tables.{or_zero, guarded, item_word, is_class, class_of, class_of_noun, classes}
-use Rattle.trans_rows.specs.Views.{naturals}
-use Rattle.trans_rows.specs.Laws.{ClassesTell}
+use Rattle.trans_specs.specs.Tables.{or_zero, guarded, item_word, is_class, class_of, class_of_noun, classes}
+use Rattle.trans_specs.specs.Views.{naturals}
+use Rattle.trans_specs.specs.Laws.{ClassesTell}
 use Rattle.trans_commands.proofs.Tabled.{tabled_at}
 
 -- ---- words that aren't typed

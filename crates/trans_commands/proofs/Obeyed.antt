@@ -31,16 +31,16 @@ use Rattle.scott_rules.specs.Groups.{groups}
 use Rattle.scott_rules.specs.Search.{SearchOutcome, search_result}
 use Rattle.scott_rules.specs.Transfer.{verb_for, is_all, all_transferred, one_transferred, transfer}
 use Rattle.scott_rules.specs.Rounds.{not_done, unmatched, by_found, by_actions}
-use Rattle.trans_rows.specs.Tables.{bit, or_zero}
-use Rattle.trans_rows.specs.Standing.{StandsFor}
-use Rattle.trans_rows.specs.Calls.{CallLeaves}
-use Rattle.trans_rows.specs.CommandRows.{IsNoun, SearchFinds, search_steps, search_room}
-use Rattle.trans_rows.proofs.Left.{said_left, nothing_left, left_then}
+use Rattle.trans_specs.specs.Tables.{bit, or_zero}
+use Rattle.trans_specs.specs.Standing.{StandsFor}
+use Rattle.trans_specs.specs.Calls.{CallLeaves}
+use Rattle.trans_specs.specs.CommandSpecs.{IsNoun, SearchFinds, search_steps, search_room}
+use Rattle.trans_specs.proofs.Left.{said_left, nothing_left, left_then}
 use Rattle.trans_commands.proofs.Spent.{transfer_steps, obey_steps}
-use Rattle.trans_rows.proofs.Acts.{CallActs, acts_within, acts_call, acts_if, acts_next, acts_routine, returns_acts, stops_within}
+use Rattle.trans_specs.proofs.Acts.{CallActs, acts_within, acts_call, acts_if, acts_next, acts_routine, returns_acts, stops_within}
 use Rattle.trans_commands.proofs.Blocks.{first_of, rest_of, test_of}
 use Rattle.trans_commands.proofs.Known.{Known, body}
-use Rattle.trans_rows.proofs.Entries.{bit_tells}
+use Rattle.trans_specs.proofs.Entries.{bit_tells}
 use Rattle.trans_commands.proofs.AllAsked.{all_asked}
 use Rattle.trans_commands.proofs.MovedOne.{move_one}
 use Rattle.trans_commands.proofs.MovedAll.{move_all}

@@ -20,14 +20,14 @@ use Rattle.scott_types.specs.State.{with_place, place_of}
 use Rattle.scott_rules.specs.Words.{is_empty}
 use Rattle.scott_rules.specs.Opcodes.{is_full}
 use Rattle.scott_rules.specs.Transfer.{verb_for, is_at_hand, is_taken, is_refused, destination, transferred}
-use Rattle.trans_rows.specs.Tables.{bit, item_word}
-use Rattle.trans_rows.specs.Views.{naturals}
-use Rattle.trans_rows.specs.Standing.{StandsFor}
-use Rattle.trans_rows.specs.Steps.{text_steps}
-use Rattle.trans_rows.specs.DataRows.{text_room}
-use Rattle.trans_rows.specs.Calls.{StageLeft}
+use Rattle.trans_specs.specs.Tables.{bit, item_word}
+use Rattle.trans_specs.specs.Views.{naturals}
+use Rattle.trans_specs.specs.Standing.{StandsFor}
+use Rattle.trans_specs.specs.Steps.{text_steps}
+use Rattle.trans_specs.specs.DataSpecs.{text_room}
+use Rattle.trans_specs.specs.Calls.{StageLeft}
 use Rattle.trans_commands.proofs.Known.{Known}
-use Rattle.trans_rows.proofs.Entries.{bit_tells, place_at}
+use Rattle.trans_specs.proofs.Entries.{bit_tells, place_at}
 use Rattle.trans_commands.proofs.Tabled.{tabled}
 
 module _ {style : Style} {db : Database} {p : Program} (known : Known style db p) (s : State)

@@ -2,8 +2,8 @@
 use Rattle.std.proofs.Common.{◌≡◌, arith, ℕ, ◌+◌, ◌*◌, ◌≤◌, length, subst}
 use Rattle.std.proofs.Math.Nat.{mul-le-mul_left}
 use Rattle.scott_types.specs.Database.{Database}
-use Rattle.trans_rows.specs.Steps.{highest, share, text_steps}
-use Rattle.trans_rows.specs.CommandRows.{search_steps, command_steps}
+use Rattle.trans_specs.specs.Steps.{highest, share, text_steps}
+use Rattle.trans_specs.specs.CommandSpecs.{search_steps, command_steps}
 
 -- one of all items at its turn, with the turn; all turns; and all items
 abbrev pub next_steps : Database → ℕ

@@ -1,8 +1,8 @@
 -- Entries of the tables of items and nouns.
 use Rattle.std.proofs.Common.{◌≡◌, arith, ℕ, zero, suc, ◌<◌, pos, nat_eq, false, List, [], ◌∷◌, map, length, drop, slice_get, Some, refl}
 use Rattle.std.specs.Prelude.{slice_index_or}
-use Rattle.trans_rows.specs.Tables.{guarded}
-use Rattle.trans_rows.specs.Views.{naturals}
+use Rattle.trans_specs.specs.Tables.{guarded}
+use Rattle.trans_specs.specs.Views.{naturals}
 
 -- a noun from 1 on isn't 0
 pub some_noun : (noun : ℕ) → 0 < noun → nat_eq noun 0 ≡ false

@@ -26,18 +26,18 @@ use Rattle.scott_types.specs.Style.{in_style}
 use Rattle.scott_types.specs.State.{is_dark, Fits}
 use Rattle.scott_rules.specs.Outcomes.{Outcome, goes_on}
 use Rattle.scott_rules.specs.Rounds.{moved_to, no_way, walk_result}
-use Rattle.trans_rows.proofs.Lengths.{few}
-use Rattle.trans_rows.specs.Standing.{StandsFor}
-use Rattle.trans_rows.specs.Steps.{text_steps}
-use Rattle.trans_rows.specs.DataRows.{text_room}
-use Rattle.trans_rows.specs.Calls.{StageLeft}
-use Rattle.trans_rows.proofs.Left.{said_left, nothing_left, left_then}
+use Rattle.trans_specs.proofs.Lengths.{few}
+use Rattle.trans_specs.specs.Standing.{StandsFor}
+use Rattle.trans_specs.specs.Steps.{text_steps}
+use Rattle.trans_specs.specs.DataSpecs.{text_room}
+use Rattle.trans_specs.specs.Calls.{StageLeft}
+use Rattle.trans_specs.proofs.Left.{said_left, nothing_left, left_then}
 use Rattle.trans_commands.proofs.Spent.{walk_steps}
-use Rattle.trans_rows.proofs.Acts.{CallActs, acts_within, acts_call, acts_if, acts_next, acts_routine, returns_acts}
+use Rattle.trans_specs.proofs.Acts.{CallActs, acts_within, acts_call, acts_if, acts_next, acts_routine, returns_acts}
 use Rattle.trans_commands.proofs.Blocks.{first_of, rest_of}
 use Rattle.trans_commands.proofs.Exits.{exit_at}
 use Rattle.trans_commands.proofs.Known.{Known, body}
-use Rattle.trans_rows.proofs.Entries.{bit_tells}
+use Rattle.trans_specs.proofs.Entries.{bit_tells}
 use Rattle.trans_commands.specs.declared.walking.TheConstants.{WALK}
 
 module _ {style : Style} {db : Database} {p : Program} (known : Known style db p) (s : State)

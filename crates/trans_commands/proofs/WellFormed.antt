@@ -5,8 +5,8 @@ use Rattle.inform_tree.specs.Words.{is_number}
 use Rattle.inform_codes.specs.Grown.{body_of}
 use Rattle.inform_codes.specs.Routines.{rows_directives}
 use Rattle.scott_types.specs.Phrase.{text_of, second_person}
-use Rattle.trans_rows.proofs.Lengths.{few}
-use Rattle.trans_commands.specs.declared.table.TheConstants.{ROUTINES}
+use Rattle.trans_specs.proofs.Lengths.{few}
+use Rattle.trans_commands.specs.declared.emitting.TheConstants.{ROUTINES}
 use Rattle.trans_commands.specs.Names.{command_names}
 use Rattle.trans_commands.specs.Laws.{CommandsFormed}
 

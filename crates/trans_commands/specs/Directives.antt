@@ -4,7 +4,7 @@ use Rattle.inform_tree.specs.Programs.{DirectiveTree}
 use Rattle.inform_codes.specs.Routines.{rows_directives}
 use Rattle.scott_types.specs.declared.styles.Style.{Style}
 use Rattle.scott_types.specs.Database.{Database}
-use Rattle.trans_commands.specs.declared.table.TheConstants.{ROUTINES}
+use Rattle.trans_commands.specs.declared.emitting.TheConstants.{ROUTINES}
 use Rattle.trans_commands.specs.Names.{command_names}
 
 -- how many items there are is handed in

@@ -3,7 +3,7 @@ use Rattle.std.specs.Prelude.{ℕ, List, [], ◌∷◌, ◌++◌, map, codes}
 use Rattle.scott_types.specs.declared.styles.Style.{Style}
 use Rattle.scott_types.specs.declared.phrases.Phrase.TheVariants.{TooMuch, NeedDirection, DarkMove, Moved, BrokenNeck, NoExitThere, NotYet, NotUnderstood, DarkGet, ItemDone, NothingTaken, NothingDropped, WhatItem, Done, BeyondPower}
 use Rattle.scott_types.specs.Phrase.{text_of, text_in}
-use Rattle.trans_rows.specs.HelperRows.{HelperNames}
+use Rattle.trans_specs.specs.HelperSpecs.{HelperNames}
 use Rattle.trans_commands.specs.declared.names.TheConstants.{NAMES}
 
 -- the texts, in the order of their places

@@ -10,8 +10,8 @@ mod items;
 mod transfers;
 mod walking;
 
-// All of them as directives, and what they owe.
+// All of them as directives, and that they meet their specifications.
 pub mod laws;
-mod table;
+mod emitting;
 
-pub use table::commands;
+pub use emitting::commands;

@@ -26,17 +26,17 @@ use Rattle.scott_types.specs.State.{place_of, is_near, lamp, Fits}
 use Rattle.scott_rules.specs.Light.{light_text, said_near, put_out, light_seen, light_counted}
 use Rattle.scott_rules.proofs.FittingStates.{Fits-light}
 use Rattle.scott_rules.proofs.Fitting.{Fits-light_counted}
-use Rattle.trans_rows.specs.Wide.{is_word_of}
-use Rattle.trans_rows.specs.Views.{Shows}
-use Rattle.trans_rows.specs.Standing.{StandsFor}
-use Rattle.trans_rows.specs.Calls.{StageLeft, CallLeaves}
+use Rattle.trans_specs.specs.Wide.{is_word_of}
+use Rattle.trans_specs.specs.Views.{Shows}
+use Rattle.trans_specs.specs.Standing.{StandsFor}
+use Rattle.trans_specs.specs.Calls.{StageLeft, CallLeaves}
 use Rattle.trans_data.proofs.Burnt.{say_does, out_stage, flags, items, out_does, out_shows, out_kept, out_past}
-use Rattle.trans_rows.proofs.Writes.{globals_written}
+use Rattle.trans_specs.proofs.Writes.{globals_written}
 use Rattle.trans_data.specs.Routines.{routine_names}
 use Rattle.trans_data.proofs.Lists.{bit_nonzero}
 use Rattle.trans_data.proofs.Served.{HasAll}
 use Rattle.trans_data.proofs.Places.{place_does, near_does}
-use Rattle.trans_rows.proofs.Kept.{Kept, kept_then, kept_said, kept_light}
+use Rattle.trans_specs.proofs.Kept.{Kept, kept_then, kept_said, kept_light}
 use Rattle.trans_data.proofs.LightWords.{light_less, range_less, is_item}
 
 module _ (style : Style) (db : Database) (limits : KeepsLimits db) (p : Program)

@@ -23,15 +23,15 @@ use Rattle.scott_types.specs.Database.{Database}
 use Rattle.scott_types.specs.Phrase.{text_of}
 use Rattle.scott_types.specs.State.{lamp, out_flag, with_flag, with_place}
 use Rattle.scott_rules.specs.Light.{turns_text, dim_text, light_text}
-use Rattle.trans_rows.specs.Tables.{bit}
-use Rattle.trans_rows.specs.Views.{naturals, Shows}
-use Rattle.trans_rows.proofs.Writes.{entries_written}
+use Rattle.trans_specs.specs.Tables.{bit}
+use Rattle.trans_specs.specs.Views.{naturals, Shows}
+use Rattle.trans_specs.proofs.Writes.{entries_written}
 use Rattle.trans_data.specs.declared.names.TheConstants as n
 use Rattle.trans_data.specs.declared.lights.TheConstants as l
 use Rattle.trans_data.specs.Routines.{routine_names}
 use Rattle.trans_data.proofs.Served.{HasAll, tree}
 use Rattle.trans_data.proofs.Looks.{said_three}
-use Rattle.trans_rows.proofs.Kept.{Kept, kept_then, kept_flag, kept_item}
+use Rattle.trans_specs.proofs.Kept.{Kept, kept_then, kept_flag, kept_item}
 
 module _ (style : Style) (db : Database) (p : Program) (has : HasAll style db p) where
   -- ---- what is said of the light

@@ -1,7 +1,7 @@
 -- The texts that are chosen of lists, one after the other, and how they are joined.
 use Rattle.std.proofs.Common.{◌≡◌, ◌∙◌, arith, ℕ, ◌+◌, nat_eq, Bool, true, false, cond, if◌then◌else◌, List, [], ◌∷◌, ◌++◌, map, length, fold, refl, sym, ap, append_assoc}
 use Rattle.std.specs.Prelude.{zip, filter, flat_map}
-use Rattle.adv_io.specs.Text.{joined, joined_or}
+use Rattle.adv_io.specs.Text.{joined}
 use Rattle.scott_rules.specs.Looking.{chosen}
 
 -- ---- the first of two lists
@@ -58,15 +58,3 @@ pub all_joined : (separator : List ℕ) (texts : List (List ℕ))
     → rest_joined separator 0 texts ≡ joined separator texts
 all_joined separator [] = refl
 all_joined separator (text ∷ texts) = ap (λ rest. text ++ rest) (others separator texts)
-
--- texts of which there is one at least, or none
-pub some_joined : (none separator : List ℕ) (texts : List (List ℕ))
-    → nat_eq (length texts) 0 ≡ false
-    → rest_joined separator 0 texts ≡ joined_or none separator texts
-some_joined none separator [] h = cc
-some_joined none separator (text ∷ texts) h = all_joined separator (text ∷ texts)
-
-pub none_joined : (none separator : List ℕ) (texts : List (List ℕ)) → nat_eq (length texts) 0 ≡ true
-    → none ≡ joined_or none separator texts
-none_joined none separator [] h = refl
-none_joined none separator (text ∷ texts) h = absurd (grind (arith, h))

@@ -9,7 +9,7 @@ use Rattle.scott_types.specs.declared.commands.Column.TheVariants.{Nouns}
 use Rattle.scott_types.specs.Database.{Database}
 use Rattle.scott_rules.specs.Words.{column_of, entries_of, is_typed}
 use Rattle.scott_index.specs.WordIndex.{WordIndex, found_in}
-use Rattle.trans_rows.specs.Tables.{is_class}
+use Rattle.trans_specs.specs.Tables.{is_class}
 use Rattle.trans_data.specs.Nouns.{class_from, FindsClasses, FindsClassesBefore}
 
 -- a noun is the class of a word, or the word has it after it

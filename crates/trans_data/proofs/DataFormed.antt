@@ -18,9 +18,9 @@ use Rattle.scott_types.specs.ItemText.{is_treasure}
 use Rattle.scott_types.specs.Room.{room_beyond}
 use Rattle.scott_types.specs.State.{is_place, is_counter, is_room_of, Fits}
 use Rattle.scott_rules.specs.Words.{is_empty, is_typed, column_of, entries_of, which}
-use Rattle.trans_rows.specs.Tables.{bit, or_zero, guarded, exits_of_room, exits, word_letters, bases, is_class, class_of, class_of_noun, classes, item_word}
-use Rattle.trans_rows.specs.Directives.{written, global, integers, data_directives}
-use Rattle.trans_rows.proofs.Bounds.{Below, below_guarded, below_map, below_flat, below_tested, below_bit, below_choice, below_bases, below_position, below_entry, below_word_letters}
+use Rattle.trans_specs.specs.Tables.{bit, or_zero, guarded, exits_of_room, exits, word_letters, bases, is_class, class_of, class_of_noun, classes, item_word}
+use Rattle.trans_specs.specs.Directives.{written, global, integers, data_directives}
+use Rattle.trans_specs.proofs.Bounds.{Below, below_guarded, below_map, below_flat, below_tested, below_bit, below_choice, below_bases, below_position, below_entry, below_word_letters}
 use Rattle.trans_data.specs.Laws.{DataFormed}
 use Rattle.trans_data.proofs.Exits.{few_rooms}
 use Rattle.trans_data.proofs.Lists.{at_most}

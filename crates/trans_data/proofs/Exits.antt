@@ -34,9 +34,9 @@ use Rattle.scott_types.specs.Phrase.{text_of}
 use Rattle.scott_types.specs.Room.{room_beyond}
 use Rattle.scott_types.specs.State.{Fits}
 use Rattle.scott_rules.specs.Looking.{chosen, directions, exit_names}
-use Rattle.trans_rows.specs.Tables.{exits_of_room, exits}
-use Rattle.trans_rows.specs.Views.{naturals}
-use Rattle.trans_rows.proofs.Flat.{exits_stand}
+use Rattle.trans_specs.specs.Tables.{exits_of_room, exits}
+use Rattle.trans_specs.specs.Views.{naturals}
+use Rattle.trans_specs.proofs.Flat.{exits_stand}
 use Rattle.trans_data.specs.Routines.{routine_names}
 use Rattle.trans_data.proofs.Lists.{under, is_under, at_most}
 use Rattle.trans_data.proofs.Served.{HasAll}

@@ -4,7 +4,7 @@ mod Places
 mod Rooms
 mod Spoken
 mod Chosen
-mod HelpersOwed
+mod HelpersMet
 mod Listed
 mod Exits
 mod Looks
@@ -13,7 +13,7 @@ mod Rated
 mod LightWords
 mod Burnt
 mod Burning
-mod Owed
+mod DataMet
 mod Zeros
 mod ClassIndexes
 mod DataFormed

@@ -7,8 +7,8 @@ use Rattle.inform_tree.specs.declared.widths.Width.{Width}
 use Rattle.inform_tree.specs.declared.widths.Width.TheVariants.{W16, W32}
 use Rattle.inform_meaning.specs.Words.{word_sum}
 use Rattle.scott_types.specs.Database.{Database}
-use Rattle.trans_rows.specs.declared.places.Place.TheVariants.{Carry, Treasures, Light, Home}
-use Rattle.trans_rows.specs.Wide.{Placed, is_word_of, placed_actions, is_too_wide, wide_at}
+use Rattle.trans_specs.specs.declared.places.Place.TheVariants.{Carry, Treasures, Light, Home}
+use Rattle.trans_specs.specs.Wide.{Placed, is_word_of, placed_actions, is_too_wide, wide_at}
 
 -- ---- the light of the header is a word
 

@@ -32,13 +32,13 @@ use Rattle.scott_types.specs.ItemText.{shown}
 use Rattle.scott_types.specs.Phrase.{text_of}
 use Rattle.scott_types.specs.State.{Fits}
 use Rattle.scott_rules.specs.Looking.{items_at, items_at_place}
-use Rattle.trans_rows.specs.Views.{naturals, Shows}
+use Rattle.trans_specs.specs.Views.{naturals, Shows}
 use Rattle.trans_data.specs.Numbers.{numbers}
 use Rattle.trans_data.specs.Routines.{routine_names}
 use Rattle.trans_data.proofs.Lists.{entry_before, under, not_under}
 use Rattle.trans_data.proofs.Served.{HasAll}
 use Rattle.trans_data.proofs.Places.{item_below, counting, few_items}
-use Rattle.trans_data.proofs.HelpersOwed.{item_does}
+use Rattle.trans_data.proofs.HelpersMet.{item_does}
 use Rattle.trans_data.proofs.Chosen.{with_first, chosen_first, rest_joined, all_joined}
 
 -- ---- `if (n) print "..";`

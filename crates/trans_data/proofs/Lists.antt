@@ -3,9 +3,9 @@ use Rattle.std.proofs.Common.{◌≡◌, arith, ℕ, zero, suc, ◌+◌, ◌-◌
 use Rattle.std.specs.Ordering.{int_eq}
 use Rattle.std.proofs.lemmas.Int.{ints}
 use Rattle.scott_types.specs.Database.{Database}
-use Rattle.trans_rows.specs.Tables.{bit}
-use Rattle.trans_rows.specs.Views.{naturals}
-use Rattle.trans_rows.specs.Steps.{share}
+use Rattle.trans_specs.specs.Tables.{bit}
+use Rattle.trans_specs.specs.Views.{naturals}
+use Rattle.trans_specs.specs.Steps.{share}
 use Rattle.trans_data.specs.Numbers.{byte_or_more}
 
 -- ---- entries

@@ -30,8 +30,8 @@ use Rattle.scott_types.specs.Phrase.{text_of, text_in}
 use Rattle.scott_types.specs.Style.{in_style}
 use Rattle.scott_types.specs.State.{is_dark, carried_place, Fits}
 use Rattle.scott_rules.specs.Looking.{described, exit_names, exits_listed, items_at, items_seen, seen_in_light, looked, inventory}
-use Rattle.trans_rows.specs.Views.{Shows}
-use Rattle.trans_rows.specs.Standing.{HasTables}
+use Rattle.trans_specs.specs.Views.{Shows}
+use Rattle.trans_specs.specs.Standing.{HasTables}
 use Rattle.trans_data.specs.Routines.{routine_names}
 use Rattle.trans_data.specs.Texts.{room_texts}
 use Rattle.trans_data.proofs.Lists.{is_under, bit_nonzero}

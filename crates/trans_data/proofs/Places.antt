@@ -25,8 +25,8 @@ use Rattle.scott_types.specs.Database.{Database}
 use Rattle.scott_types.specs.Limits.{KeepsLimits}
 use Rattle.scott_types.specs.State.{place_of, is_near, flag_of, is_dark, dark_flag, lamp, carried_count, Fits}
 use Rattle.scott_rules.specs.Opcodes.{is_full}
-use Rattle.trans_rows.specs.Tables.{bit}
-use Rattle.trans_rows.specs.Views.{Shows}
+use Rattle.trans_specs.specs.Tables.{bit}
+use Rattle.trans_specs.specs.Views.{Shows}
 use Rattle.trans_data.specs.Numbers.{byte_or_more, numbers}
 use Rattle.trans_data.specs.Routines.{routine_names}
 use Rattle.trans_data.proofs.Lists.{entry_before, number_before, flag_there, past_the_end, count_few, under, is_under, not_under, at_most, same_byte, byte_small, bit_nonzero}

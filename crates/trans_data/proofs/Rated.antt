@@ -27,9 +27,9 @@ use Rattle.scott_types.specs.Phrase.{text_of, text_in}
 use Rattle.scott_types.specs.State.{Fits}
 use Rattle.scott_types.specs.Style.{in_style}
 use Rattle.scott_rules.specs.Looking.{is_stored, stored_count, rate, is_full_score, all_stored, score_around, scored}
-use Rattle.trans_rows.specs.Tables.{bit}
-use Rattle.trans_rows.specs.Views.{Shows}
-use Rattle.trans_rows.specs.Standing.{HasTables}
+use Rattle.trans_specs.specs.Tables.{bit}
+use Rattle.trans_specs.specs.Views.{Shows}
+use Rattle.trans_specs.specs.Standing.{HasTables}
 use Rattle.trans_data.specs.declared.names.TheConstants as n
 use Rattle.trans_data.specs.declared.scoring.TheConstants as h
 use Rattle.trans_data.specs.Numbers.{byte_or_more, divisor, goal, numbers}

@@ -8,7 +8,7 @@ use Rattle.inform_logic.proofs.Steps.{with_room}
 use Rattle.inform_logic.proofs.Routines.{does_within}
 use Rattle.scott_types.specs.declared.states.State.{State}
 use Rattle.scott_types.specs.Database.{Database}
-use Rattle.trans_rows.specs.Calls.{CallLeaves}
+use Rattle.trans_specs.specs.Calls.{CallLeaves}
 
 pub with_calls : (calls d : ℕ) {p : Program} {name : List ℕ} {values : List ℤ} {w w' : Stage}
     {v : ℤ} {n most : ℕ} → calls ≤ d → n ≤ most

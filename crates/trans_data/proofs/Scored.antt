@@ -30,9 +30,9 @@ use Rattle.scott_types.specs.Limits.{KeepsLimits}
 use Rattle.scott_types.specs.ItemText.{is_treasure}
 use Rattle.scott_types.specs.State.{is_place, Fits}
 use Rattle.scott_rules.specs.Looking.{is_stored, stored_count}
-use Rattle.trans_rows.specs.Tables.{bit}
-use Rattle.trans_rows.specs.Views.{naturals, Shows}
-use Rattle.trans_rows.specs.Standing.{HasTables}
+use Rattle.trans_specs.specs.Tables.{bit}
+use Rattle.trans_specs.specs.Views.{naturals, Shows}
+use Rattle.trans_specs.specs.Standing.{HasTables}
 use Rattle.trans_data.specs.Numbers.{byte_or_more, numbers}
 use Rattle.trans_data.specs.Routines.{routine_names}
 use Rattle.trans_data.proofs.Lists.{entry_before, under, not_under, at_most, same_byte, byte_small, bit_nonzero}

@@ -1,6 +1,5 @@
 -- What a program that has the routines has of each.
-use Rattle.std.proofs.Common.{◌≡◌, ◌∙◌, ℕ, List, [], ◌∷◌, ◌++◌, codes, None, refl}
-use Rattle.std.specs.List.{AllByRecursion}
+use Rattle.std.proofs.Common.{◌≡◌, ◌∙◌, ℕ, List, [], ◌∷◌, codes, None, refl}
 use Rattle.inform_tree.specs.declared.widths.Width.{Width}
 use Rattle.inform_tree.specs.Programs.{RoutineTree, Routine}
 use Rattle.inform_meaning.specs.Worlds.{Program}
@@ -10,8 +9,8 @@ use Rattle.inform_codes.specs.declared.codes.Code.{Code}
 use Rattle.inform_codes.specs.Routines.{row_routine, rows_directives}
 use Rattle.scott_types.specs.declared.styles.Style.{Style}
 use Rattle.scott_types.specs.Database.{Database}
-use Rattle.trans_rows.specs.Names.{line_number}
-use Rattle.trans_rows.specs.Programs.{Serves}
+use Rattle.trans_specs.specs.Names.{line_number}
+use Rattle.trans_specs.specs.Programs.{Serves}
 use Rattle.trans_data.specs.declared.names.TheConstants as n
 use Rattle.trans_data.specs.declared.helpers.TheConstants as h
 use Rattle.trans_data.specs.declared.listing.TheConstants as t

@@ -15,7 +15,7 @@ use Rattle.inform_codes.specs.Grown.{body_of}
 use Rattle.scott_types.specs.Database.{Database}
 use Rattle.scott_types.specs.Phrase.{text_of}
 use Rattle.scott_rules.specs.Opcodes.{said_message}
-use Rattle.trans_rows.specs.Names.{line_number, message_name}
+use Rattle.trans_specs.specs.Names.{line_number, message_name}
 use Rattle.trans_data.specs.Texts.{message_directive, message_directives, text_cases, text_routine}
 use Rattle.trans_data.proofs.Lists.{under}
 use Rattle.trans_data.proofs.Served.{has_it}

@@ -21,7 +21,7 @@ use Rattle.scott_types.specs.ItemText.{is_slash, is_starred, shown}
 use Rattle.scott_types.specs.Limits.{is_file_byte, is_file_text, is_item, is_room, KeepsLimits}
 use Rattle.scott_types.specs.Phrase.{text_of, second_person, text_in}
 use Rattle.scott_rules.specs.Looking.{described}
-use Rattle.trans_rows.specs.Names.{message_name}
+use Rattle.trans_specs.specs.Names.{message_name}
 use Rattle.trans_data.specs.declared.scoring.TheConstants.{HUNDREDTHS, LESS_HUNDREDTHS}
 use Rattle.trans_data.specs.declared.lights.TheConstants.{COUNTED_LIGHT, DIM_LIGHT, OUT, VANISHED}
 use Rattle.trans_data.specs.Numbers.{byte_or_more, divisor, goal, numbers}

@@ -1,4 +1,4 @@
--- The laws of the routines: what they owe.
+-- The laws of the routines: they meet their specifications.
 use Rattle.std.specs.Prelude.{◌≡◌, true, List, ◌++◌, codes}
 use Rattle.inform_tree.specs.declared.widths.Width.{Width}
 use Rattle.inform_tree.specs.Programs.{DirectiveTree}
@@ -10,10 +10,10 @@ use Rattle.scott_types.specs.Database.{Database}
 use Rattle.scott_types.specs.Limits.{KeepsLimits}
 use Rattle.scott_types.specs.State.{Fits}
 use Rattle.scott_types.specs.Style.{in_style}
-use Rattle.trans_rows.specs.Directives.{data_directives}
-use Rattle.trans_rows.specs.Programs.{Serves}
-use Rattle.trans_rows.specs.HelperRows.{HelperNames, HelperRows}
-use Rattle.trans_rows.specs.Owed.{Translates, DataOwe}
+use Rattle.trans_specs.specs.Directives.{data_directives}
+use Rattle.trans_specs.specs.Programs.{Serves}
+use Rattle.trans_specs.specs.HelperSpecs.{HelperNames, HelperSpecs}
+use Rattle.trans_specs.specs.Meeting.{Translates, MeetDataSpecs}
 use Rattle.trans_data.specs.Texts.{text_directives}
 
 -- A program that has some directives and then others has each of the two.
@@ -31,16 +31,16 @@ helper_names = record {
   item_text = codes "say_item";
 }
 
--- The routines of items and places do what they owe.
-abbrev pub HelpersOwe : Type 0
-HelpersOwe = (style : Style) (width : Width) (db : Database) (p : Program)
+-- The routines of items and places meet their specifications.
+abbrev pub HelpersMeetSpecs : Type 0
+HelpersMeetSpecs = (style : Style) (width : Width) (db : Database) (p : Program)
     → Translates width db → Serves width (text_directives style db) p
-    → HelperRows (in_style style db) p helper_names
+    → HelperSpecs (in_style style db) p helper_names
 
--- The routines of texts and of the light do what they owe.
-abbrev pub DataOwes : Type 0
-DataOwes = (style : Style) (width : Width) (db : Database)
-    → DataOwe width (in_style style db) (text_directives style db) (codes "look")
+-- The routines of texts and of the light meet their specifications.
+abbrev pub DataMeetsSpecs : Type 0
+DataMeetsSpecs = (style : Style) (width : Width) (db : Database)
+    → MeetDataSpecs width (in_style style db) (text_directives style db) (codes "look")
     (codes "inventory") (codes "score") (codes "burn")
 
 -- The routines have a text, for a database that keeps its limits.

@@ -6,7 +6,7 @@ use Rattle.scott_types.specs.declared.commands.Column.TheVariants.{Nouns}
 use Rattle.scott_types.specs.Database.{Database}
 use Rattle.scott_rules.specs.Words.{entries_of, is_typed}
 use Rattle.scott_index.specs.WordIndex.{WordIndex, found_in}
-use Rattle.trans_rows.specs.Tables.{is_class}
+use Rattle.trans_specs.specs.Tables.{is_class}
 
 -- the first class from noun k on that a word matches
 abbrev pub class_from : Database → List ℕ → ℕ → Option ℕ

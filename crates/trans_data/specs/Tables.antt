@@ -4,7 +4,7 @@ use Rattle.inform_tree.specs.Programs.{DirectiveTree}
 use Rattle.scott_types.specs.declared.states.State.{State}
 use Rattle.scott_types.specs.declared.styles.Style.{Style}
 use Rattle.scott_types.specs.Database.{Database}
-use Rattle.trans_rows.specs.Directives.{data_directives}
+use Rattle.trans_specs.specs.Directives.{data_directives}
 use Rattle.trans_data.specs.Texts.{text_directives}
 
 -- the globals and arrays, and then the routines

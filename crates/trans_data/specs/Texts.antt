@@ -10,7 +10,7 @@ use Rattle.scott_types.specs.declared.styles.Style.{Style}
 use Rattle.scott_types.specs.Database.{Database}
 use Rattle.scott_types.specs.ItemText.{shown}
 use Rattle.scott_rules.specs.Looking.{described}
-use Rattle.trans_rows.specs.Names.{message_name}
+use Rattle.trans_specs.specs.Names.{message_name}
 use Rattle.trans_data.specs.declared.messages.TheConstants.{MESSAGE}
 use Rattle.trans_data.specs.Routines.{fixed_directives}
 

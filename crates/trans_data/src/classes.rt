@@ -2,7 +2,7 @@
 ghost use Rattle.std.specs.Prelude.{◌≡◌, ◌++◌, IfOk, map};
 ghost use Rattle.scott_rules.specs.Words.{column_of, entries_of};
 ghost use Rattle.scott_types.specs.declared.commands.Column.TheVariants.{Nouns};
-ghost use Rattle.trans_rows.specs.Tables.{class_of_noun as the_noun_class, classes as the_classes};
+ghost use Rattle.trans_specs.specs.Tables.{class_of_noun as the_noun_class, classes as the_classes};
 
 use crate::nouns::{IndexedNouns, is_class};
 use adv_io::Memory;

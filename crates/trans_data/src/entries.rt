@@ -2,8 +2,8 @@
 ghost use Rattle.std.specs.Prelude.{◌≡◌, ◌++◌, [], ◌∷◌, IfOk, pos, map};
 ghost use Rattle.inform_tree.specs.Programs.{directive_of};
 ghost use Rattle.inform_tree.specs.declared.values.Const.TheVariants as k;
-ghost use Rattle.trans_rows.specs.Tables.{guarded};
-ghost use Rattle.trans_rows.specs.Directives.{written as the_written, global as the_global, integers as the_integers, words as the_words, bytes as the_bytes, zero_bytes as the_zero_bytes};
+ghost use Rattle.trans_specs.specs.Tables.{guarded};
+ghost use Rattle.trans_specs.specs.Directives.{written as the_written, global as the_global, integers as the_integers, words as the_words, bytes as the_bytes, zero_bytes as the_zero_bytes};
 
 use adv_io::Memory;
 use inform_tree::{Const, Directive, Name};

@@ -1,7 +1,7 @@
 //! The table of exits.
 ghost use Rattle.std.specs.Prelude.{◌≡◌, ◌≤◌, ◌++◌, IfOk, map, flat_map};
 ghost use Rattle.scott_types.specs.Room.{room_beyond};
-ghost use Rattle.trans_rows.specs.Tables.{exits_of_room};
+ghost use Rattle.trans_specs.specs.Tables.{exits_of_room};
 
 use adv_io::Memory;
 use scott_types::{Db, Room, room_beyond};

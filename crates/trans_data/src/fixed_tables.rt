@@ -2,8 +2,8 @@
 ghost use Rattle.std.specs.Prelude.{◌≡◌, [], ◌∷◌, IfOk, map, codes};
 ghost use Rattle.inform_tree.specs.Programs.{directive_of};
 ghost use Rattle.scott_types.specs.declared.commands.Column.TheVariants.{Verbs, Nouns};
-ghost use Rattle.trans_rows.specs.Tables.{start_places as the_places, exits as the_exits, word_letters as the_letters, word_bases, noun_classes, item_classes as the_item_classes, item_nouns as the_item_nouns, items_with_words as the_words, treasures as the_treasures};
-ghost use Rattle.trans_rows.specs.Directives.{words as the_array, bytes as the_bytes, buffers as the_buffers, fixed_arrays as the_arrays};
+ghost use Rattle.trans_specs.specs.Tables.{start_places as the_places, exits as the_exits, word_letters as the_letters, word_bases, noun_classes, item_classes as the_item_classes, item_nouns as the_item_nouns, items_with_words as the_words, treasures as the_treasures};
+ghost use Rattle.trans_specs.specs.Directives.{words as the_array, bytes as the_bytes, buffers as the_buffers, fixed_arrays as the_arrays};
 
 use crate::classes::classes;
 use crate::entries::{bytes, with_guard, words, zero_bytes};

@@ -4,7 +4,7 @@ ghost use Rattle.scott_types.specs.Database.{place_of_item};
 ghost use Rattle.scott_types.specs.ItemText.{is_treasure as is_treasure_text};
 ghost use Rattle.scott_rules.specs.Words.{is_empty, which as the_which};
 ghost use Rattle.scott_types.specs.declared.commands.Column.TheVariants.{Nouns};
-ghost use Rattle.trans_rows.specs.Tables.{bit, or_zero, item_word};
+ghost use Rattle.trans_specs.specs.Tables.{bit, or_zero, item_word};
 ghost use Rattle.trans_data.specs.Items.{class_of_item as the_item_class};
 
 use crate::nouns::IndexedNouns;

@@ -31,9 +31,9 @@ mod state_tables;
 mod word_tables;
 
 // All of them.
-mod game_tables;
+mod emitting;
 
-// What the routines owe.
+// That the routines meet their specifications.
 pub mod laws;
 
-pub use game_tables::tables;
+pub use emitting::tables;

@@ -4,7 +4,7 @@ ghost use Rattle.std.specs.Option.{option_or};
 ghost use Rattle.scott_rules.specs.Words.{is_typed, which};
 ghost use Rattle.scott_types.specs.declared.commands.Column.TheVariants.{Nouns};
 ghost use Rattle.scott_index.specs.WordIndex.{found_in};
-ghost use Rattle.trans_rows.specs.Tables.{or_zero, is_class as the_test, class_of as the_class};
+ghost use Rattle.trans_specs.specs.Tables.{or_zero, is_class as the_test, class_of as the_class};
 ghost use Rattle.trans_data.specs.Nouns.{FindsClasses};
 
 use adv_io::Memory;

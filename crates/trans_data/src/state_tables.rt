@@ -1,8 +1,8 @@
 //! The globals and arrays of a state, and the globals with which a turn works.
 ghost use Rattle.std.specs.Prelude.{◌≡◌, IfOk, map};
 ghost use Rattle.inform_tree.specs.Programs.{directive_of};
-ghost use Rattle.trans_rows.specs.Tables.{bit as the_bit, guarded};
-ghost use Rattle.trans_rows.specs.Directives.{state_globals as the_globals, turn_globals as the_turn, state_arrays as the_arrays};
+ghost use Rattle.trans_specs.specs.Tables.{bit as the_bit, guarded};
+ghost use Rattle.trans_specs.specs.Directives.{state_globals as the_globals, turn_globals as the_turn, state_arrays as the_arrays};
 
 use crate::entries::{global, integers, with_guard, words};
 use adv_io::Memory;

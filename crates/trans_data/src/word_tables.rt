@@ -4,7 +4,7 @@ ghost use Rattle.std.specs.List.{list_all};
 ghost use Rattle.std.specs.Char.{is_ascii_graphic};
 ghost use Rattle.scott_types.specs.ItemText.{is_starred};
 ghost use Rattle.scott_rules.specs.Words.{column_of, entries_of};
-ghost use Rattle.trans_rows.specs.Tables.{entry_letters, bases_from, bases as the_bases};
+ghost use Rattle.trans_specs.specs.Tables.{entry_letters, bases_from, bases as the_bases};
 
 use adv_io::Memory;
 use scott_types::{Column, Db, Word, starts_with_star};

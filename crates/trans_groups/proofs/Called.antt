@@ -7,9 +7,9 @@ use Rattle.inform_names.specs.Demands.{no_loop, switch_in, statements_demands, c
 use Rattle.inform_meaning.specs.Tables.{same_name}
 use Rattle.scott_types.specs.Action.{verb_of, noun_of}
 use Rattle.scott_rules.specs.Groups.{Group}
-use Rattle.trans_rows.specs.Tables.{bit}
-use Rattle.trans_rows.specs.Names.{group_name, line_name}
-use Rattle.trans_rows.specs.Shaped.{demands_calls, routine_calls}
+use Rattle.trans_specs.specs.Tables.{bit}
+use Rattle.trans_specs.specs.Names.{group_name, line_name}
+use Rattle.trans_specs.specs.Shaped.{demands_calls, routine_calls}
 use Rattle.trans_groups.specs.Automatic.{chance, chances, automatic_routine}
 use Rattle.trans_groups.specs.Search.{group_tries, for_noun, verb_tries, has_verb, verb_cases, search_routine}
 

@@ -11,11 +11,11 @@ use Rattle.scott_types.specs.Database.{Database, action_at}
 use Rattle.scott_types.specs.Action.{verb_of}
 use Rattle.scott_rules.specs.Actions.{goes_on_after}
 use Rattle.scott_rules.specs.Groups.{Group, tail_of, groups_of, groups}
-use Rattle.trans_rows.specs.Tables.{bit}
-use Rattle.trans_rows.specs.Names.{group_name, line_name}
-use Rattle.trans_rows.specs.Lines.{call_statement, tail_lines, group_parts, group_routine}
-use Rattle.trans_rows.specs.Shaped.{demands_calls, program_calls}
-use Rattle.trans_rows.proofs.Lengths.{few}
+use Rattle.trans_specs.specs.Tables.{bit}
+use Rattle.trans_specs.specs.Names.{group_name, line_name}
+use Rattle.trans_specs.specs.Lines.{call_statement, tail_lines, group_parts, group_routine}
+use Rattle.trans_specs.specs.Shaped.{demands_calls, program_calls}
+use Rattle.trans_specs.proofs.Lengths.{few}
 use Rattle.trans_groups.specs.Automatic.{chances}
 use Rattle.trans_groups.specs.Search.{has_verb}
 use Rattle.trans_groups.specs.Trying.{trying_directives}

@@ -18,7 +18,7 @@ use Rattle.scott_types.specs.Style.{Game}
 use Rattle.scott_types.specs.Action.{verb_of, noun_of}
 use Rattle.scott_rules.specs.Groups.{Group, tail_of, groups_of}
 use Rattle.scott_rules.specs.Search.{is_for_noun, search_group, search_result}
-use Rattle.trans_rows.specs.Laws.{HasWords, NumbersAreTheirWords}
+use Rattle.trans_specs.specs.Laws.{HasWords, NumbersAreTheirWords}
 use Rattle.trans_groups.specs.Search.{verb_tries, has_verb, verb_cases}
 
 -- each verb stands for itself in the program

@@ -3,9 +3,9 @@ use Rattle.std.proofs.Common.{◌≡◌, arith, ℕ, zero, suc, ◌+◌, ◌-◌
 use Rattle.scott_types.specs.declared.parts.Action.{Action}
 use Rattle.scott_types.specs.Database.{Database}
 use Rattle.scott_rules.specs.Groups.{Group, tail_of, groups_of, groups}
-use Rattle.trans_rows.specs.Steps.{highest, line_steps}
-use Rattle.trans_rows.specs.CommandRows.{search_steps}
-use Rattle.trans_groups.specs.Rows.{group_steps}
+use Rattle.trans_specs.specs.Steps.{highest, line_steps}
+use Rattle.trans_specs.specs.CommandSpecs.{search_steps}
+use Rattle.trans_groups.specs.GroupSpecs.{group_steps}
 
 -- each group, and a few steps around it
 abbrev pub tries_steps : Database → List Group → ℕ
@@ -31,9 +31,6 @@ lines_few k (a ∷ actions) = by (a.vocab == 0) (lines_few (k + 1) actions) wher
   by false more = omega (arith, more)
 
 module _ (db : Database) where
-  group_few : (n x : ℕ) → (n + 1) * (x + 2) + 4 + 10 ≤ (n + 1) * (x + 16)
-  group_few n x = omega arith
-
   tries_few : (gs : List Group) → tries_steps db gs ≤ lines_in gs * (line_steps db + 16)
   tries_few [] = omega arith
   tries_few (g ∷ gs) = both (length g.tail) (lines_in gs) (line_steps db) (tries_steps db gs)

@@ -1,4 +1,4 @@
--- The automatic step does what it owes, where each group does.
+-- The automatic step meets its specification, where each group does.
 use Rattle.std.proofs.Common.{◌≡◌, ◌∙◌, arith, ℕ, suc, ◌==◌, ℤ, ◌<◌, ◌≤◌, ◌%◌, pos, nat_le, Bool, true, false, if◌then◌else◌, List, [], ◌∷◌, codes, None, is_some, refl, sym, append-nil}
 use Rattle.std.specs.List.{AllByRecursion, list_all}
 use Rattle.std.proofs.lemmas.Bool.{and_parts}
@@ -33,16 +33,16 @@ use Rattle.scott_types.specs.Style.{Game, in_style}
 use Rattle.scott_types.specs.Action.{verb_of, noun_of}
 use Rattle.scott_rules.specs.Actions.{ActionOutcome}
 use Rattle.scott_rules.specs.Groups.{Group, groups, group_tried, over_of, AutoOutcome, auto_after, auto_tried, auto_drawn, auto_group, automatic}
-use Rattle.trans_rows.specs.Standing.{StandsFor}
-use Rattle.trans_rows.specs.Names.{group_name}
-use Rattle.trans_rows.specs.Calls.{CallLeaves}
-use Rattle.trans_rows.specs.CommandRows.{search_steps}
-use Rattle.trans_rows.specs.AutomaticRows.{AutomaticHalts}
-use Rattle.trans_rows.proofs.Room.{one_less}
-use Rattle.trans_rows.proofs.Acts.{stops_within}
-use Rattle.trans_groups.specs.Rows.{CallRan, group_room, group_steps, GroupRow}
+use Rattle.trans_specs.specs.Standing.{StandsFor}
+use Rattle.trans_specs.specs.Names.{group_name}
+use Rattle.trans_specs.specs.Calls.{CallLeaves}
+use Rattle.trans_specs.specs.CommandSpecs.{search_steps}
+use Rattle.trans_specs.specs.AutomaticSpecs.{AutomaticHalts}
+use Rattle.trans_specs.proofs.Room.{one_less}
+use Rattle.trans_specs.proofs.Acts.{stops_within}
+use Rattle.trans_groups.specs.GroupSpecs.{CallRan, group_room, group_steps, GroupSpec}
 use Rattle.trans_groups.specs.Automatic.{chance, chances, automatic_routine}
-use Rattle.trans_groups.specs.Laws.{AutomaticOwes}
+use Rattle.trans_groups.specs.Laws.{AutomaticMeetsSpec}
 use Rattle.trans_groups.proofs.Counted.{tries_steps, enough_steps}
 use Rattle.trans_groups.proofs.Steps.{StepActsBy, StepActs, past_of, step_within, step_then}
 
@@ -176,22 +176,22 @@ module _ (game : Game) (p : Program) (d : ℕ) (room : group_room ≤ d) (scope 
         };
       }
 
-      chosen : GroupRow game p g → (b : Bool) → Tested b
+      chosen : GroupSpec game p g → (b : Bool) → Tested b
           → Chance (after (Drew draw ∷ []) (auto_tried b game g s draws (automatic game gs)))
-      chosen row true test = let t = group_tried game [] g s in
-          tried t.value.ran t test (row s [] drew d room (stands_drawn draw draws stands))
-      chosen row false test = passed_by test
+      chosen meets true test = let t = group_tried game [] g s in
+          tried t.value.ran t test (meets s [] drew d room (stands_drawn draw draws stands))
+      chosen meets false test = passed_by test
 
-    drawn : GroupRow game p g → ActsAll gs → (draws : List ℕ) → w.draws ≡ draws → AllDraws draws
+    drawn : GroupSpec game p g → ActsAll gs → (draws : List ℕ) → w.draws ≡ draws → AllDraws draws
         → Chance (auto_drawn game g s draws (automatic game gs))
-    drawn row more [] there fair = waits there
-    drawn row more (draw ∷ draws) there fair =
+    drawn meets more [] there fair = waits there
+    drawn meets more (draw ∷ draws) there fair =
         let parts = and_parts (is_draw draw) (list_all is_draw draws) fair in
-        chosen draw draws more parts.1 row (nat_le draw (noun_of g.vocab))
+        chosen draw draws more parts.1 meets (nat_le draw (noun_of g.vocab))
         (tested w draw draws g.vocab there parts.0 (nat_le draw (noun_of g.vocab)) refl)
 
-  chances_do : (gs : List Group) → AllByRecursion (GroupRow game p) gs → ActsAll gs
-  chances_do [] rows s w draws there fair stands = record {
+  chances_do : (gs : List Group) → AllByRecursion (GroupSpec game p) gs → ActsAll gs
+  chances_do [] meets s w draws there fair stands = record {
     acts = record {
       after = w;
       runs = end;
@@ -202,15 +202,15 @@ module _ (game : Game) (p : Program) (d : ℕ) (room : group_room ≤ d) (scope 
       over_stays = refl;
     };
   }
-  chances_do (g ∷ gs) rows s w draws there fair stands =
-      by (verb_of g.vocab == 0) (chances_do gs rows.1) where
+  chances_do (g ∷ gs) meets s w draws there fair stands =
+      by (verb_of g.vocab == 0) (chances_do gs meets.1) where
         by : (auto : Bool) → ActsAll gs
             → let r = auto_group auto game g s draws (automatic game gs) in
             StepActs r.value.halt game.db p d (statements (if auto
             then chance (noun_of g.vocab) g.head ∷ chances gs else chances gs)) scope w
             r.value.state
             r.value.draws r.events (tries_steps game.db (g ∷ gs))
-        by true more = drawn g gs s w stands rows.0 more draws there fair
+        by true more = drawn g gs s w stands meets.0 more draws there fair
         by false more = step_within (omega arith) (more s w draws there fair stands)
 
 -- ---- the whole step
@@ -293,14 +293,14 @@ module _ (db : Database) (p : Program) (has : Has p (automatic_routine (groups d
     over_is = r.over_is;
   }
 
-pub automatic_owes : AutomaticOwes
-automatic_owes style width db p serves rows s noun w d room fair stands =
+pub automatic_meets_spec : AutomaticMeetsSpec
+automatic_meets_spec style width db p serves meets s noun w d room fair stands =
     let t = automatic (in_style style db) (groups db) s w.draws in
     one_less (λ d. AutomaticHalts t.value.halt p d (codes "automatic") w db t (search_steps db)) 129
     d
     room (λ k few. halts db p held k w stands.ready.working.nb_there t.value.halt t
     (chances_do (in_style style db) p k (omega (arith, few)) (scope db p held k w
-    stands.ready.working.nb_there) (groups db) rows s (without_noun w) w.draws refl fair.fair
+    stands.ready.working.nb_there) (groups db) meets s (without_noun w) w.draws refl fair.fair
     (no_noun stands)).acts) where
       held : Has p (automatic_routine (groups db))
       held = has p serves.holds.0 (serves.notes_lines (codes "automatic") serves.holds.0.0)

@@ -30,12 +30,12 @@ use Rattle.scott_types.specs.Database.{Database, action_at}
 use Rattle.scott_types.specs.Action.{verb_of, noun_of, is_zero_action}
 use Rattle.scott_rules.specs.Actions.{goes_on_after}
 use Rattle.scott_rules.specs.Groups.{Group, tail_of, groups_of, groups}
-use Rattle.trans_rows.specs.Wide.{is_word_of}
-use Rattle.trans_rows.specs.Names.{group_name, line_name}
-use Rattle.trans_rows.specs.Lines.{call_statement, group_parts, group_routine}
-use Rattle.trans_rows.specs.ActionRows.{HasLineRoutine}
-use Rattle.trans_rows.specs.Laws.{HasWords, LinesHaveWords}
-use Rattle.trans_rows.proofs.Lists.{each_with, of_sources}
+use Rattle.trans_specs.specs.Wide.{is_word_of}
+use Rattle.trans_specs.specs.Names.{group_name, line_name}
+use Rattle.trans_specs.specs.Lines.{call_statement, group_parts, group_routine}
+use Rattle.trans_specs.specs.ActionSpecs.{HasLineRoutine}
+use Rattle.trans_specs.specs.Laws.{HasWords, LinesHaveWords}
+use Rattle.trans_specs.proofs.Lists.{each_with, of_sources}
 use Rattle.trans_groups.specs.Automatic.{chance, chances, automatic_routine}
 use Rattle.trans_groups.specs.Search.{group_tries, for_noun, verb_tries, has_verb, verb_cases, search_routine}
 use Rattle.trans_groups.specs.Trying.{trying_directives}

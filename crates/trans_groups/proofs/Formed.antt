@@ -16,9 +16,9 @@ use Rattle.scott_types.specs.Limits.{KeepsLimits, is_natural, is_action}
 use Rattle.scott_types.specs.Action.{verb_of, noun_of, is_zero_action}
 use Rattle.scott_rules.specs.Actions.{goes_on_after}
 use Rattle.scott_rules.specs.Groups.{Group, tail_of, groups_of, groups}
-use Rattle.trans_rows.specs.Names.{group_name, line_name}
-use Rattle.trans_rows.specs.Lines.{call_statement, group_parts, group_routine}
-use Rattle.trans_rows.proofs.Lengths.{few}
+use Rattle.trans_specs.specs.Names.{group_name, line_name}
+use Rattle.trans_specs.specs.Lines.{call_statement, group_parts, group_routine}
+use Rattle.trans_specs.proofs.Lengths.{few}
 use Rattle.trans_groups.specs.Automatic.{chance, chances, automatic_routine}
 use Rattle.trans_groups.specs.Search.{group_tries, for_noun, verb_tries, has_verb, verb_cases, search_routine}
 use Rattle.trans_groups.specs.Laws.{TryingFormed}

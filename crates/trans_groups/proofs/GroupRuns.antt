@@ -1,4 +1,4 @@
--- A group's routine does what the group owes, where each line does.
+-- A group's routine meets its specification, where that of each line does.
 use Rattle.std.proofs.Common.{◌≡◌, ◌∙◌, arith, ℕ, suc, ◌+◌, ◌*◌, ◌<◌, ◌≤◌, ℤ, pos, Bool, true, false, List, [], ◌∷◌, ◌++◌, length, codes, Option, Some, None, refl, sym, ap, subst, append-nil, append_assoc, true≢false}
 use Rattle.std.proofs.lemmas.Int.{ints}
 use Rattle.adv_io.specs.Steps.{Step, Traced, after}
@@ -25,16 +25,16 @@ use Rattle.scott_types.specs.Style.{Game}
 use Rattle.scott_rules.specs.Outcomes.{goes_on}
 use Rattle.scott_rules.specs.Actions.{ActionOutcome, goes_on_after, try_action}
 use Rattle.scott_rules.specs.Groups.{Group, tail_tried, passed_or_over, with_tail, after_head, group_tried}
-use Rattle.trans_rows.specs.Standing.{StandsFor}
-use Rattle.trans_rows.specs.Steps.{line_steps}
-use Rattle.trans_rows.specs.Names.{group_name, line_name}
-use Rattle.trans_rows.specs.Lines.{group_parts}
-use Rattle.trans_rows.specs.Calls.{StageLeft, CallLeaves}
-use Rattle.trans_rows.specs.ActionRows.{line_room, LineRow}
-use Rattle.trans_rows.proofs.Room.{one_less}
-use Rattle.trans_rows.proofs.Left.{left_then}
-use Rattle.trans_rows.proofs.Acts.{stops_within}
-use Rattle.trans_groups.specs.Rows.{group_steps, CallRan, GroupRow}
+use Rattle.trans_specs.specs.Standing.{StandsFor}
+use Rattle.trans_specs.specs.Steps.{line_steps}
+use Rattle.trans_specs.specs.Names.{group_name, line_name}
+use Rattle.trans_specs.specs.Lines.{group_parts}
+use Rattle.trans_specs.specs.Calls.{StageLeft, CallLeaves}
+use Rattle.trans_specs.specs.ActionSpecs.{line_room, LineSpec}
+use Rattle.trans_specs.proofs.Room.{one_less}
+use Rattle.trans_specs.proofs.Left.{left_then}
+use Rattle.trans_specs.proofs.Acts.{stops_within}
+use Rattle.trans_groups.specs.GroupSpecs.{group_steps, CallRan, GroupSpec}
 use Rattle.trans_groups.proofs.Heads.{GroupStands, tried_of}
 use Rattle.trans_groups.proofs.Zeros.{zero_tail, passed_is}
 use Rattle.trans_groups.proofs.Tails.{line_ran, BlockPassesBy, BlockPasses, calls_of, tail_does}
@@ -44,7 +44,7 @@ abbrev routine_by : ℕ → Bool → List ℕ → RoutineTree
 routine_by head more tail = let parts = group_parts more head tail in
     record { name = group_name head; locals = parts.0; body = statements parts.1 }
 
-module _ (game : Game) (p : Program) (rows : LineRow game p) (g : Group)
+module _ (game : Game) (p : Program) (meets : LineSpec game p) (g : Group)
     (there : GroupStands game.db g) (s : State) (noun : List ℕ) (w : Stage) (d : ℕ)
     (room : line_room ≤ d) (stands : StandsFor game.db s noun w) where
   -- the head's line
@@ -60,7 +60,7 @@ module _ (game : Game) (p : Program) (rows : LineRow game p) (g : Group)
       (line_steps game.db)
 
   head_ran : HeadRan t.value.ran
-  head_ran = line_ran game p d g.head w noun t.value.ran t (rows g.head s noun w d room there.head
+  head_ran = line_ran game p d g.head w noun t.value.ran t (meets g.head s noun w d room there.head
       stands)
 
   some_steps : line_steps game.db + 4 ≤ group_steps game.db g
@@ -179,7 +179,7 @@ module _ (game : Game) (p : Program) (rows : LineRow game p) (g : Group)
         rest.value.over game.db p d
         (calls_of lines) (scope (pos 2)) x.after noun rest.value.state rest.events
         (length g.tail * (line_steps game.db + 2))) tail_is
-        (tail_does game p rows noun d room (scope (pos 2)) g.tail there.tail t.value.state x.after
+        (tail_does game p meets noun d room (scope (pos 2)) g.tail there.tail t.value.state x.after
         x.leaves.stands)).acts
     with_its_tail (Over ending) is x = subst (λ ran. Acts ran t) (sym is) (record {
       after = x.after;
@@ -203,11 +203,11 @@ module _ (game : Game) (p : Program) (rows : LineRow game p) (g : Group)
       (true≢false (sym (passed_is game noun g.head s true passed) ∙ goes_on))) t.value.ran refl
       head_ran
 
-pub group_row : (game : Game) (p : Program) → LineRow game p → (g : Group) → GroupStands game.db g
+pub group_spec : (game : Game) (p : Program) → LineSpec game p → (g : Group) → GroupStands game.db g
     → Has p (routine_by g.head (goes_on_after (action_at game.db g.head)) (tried_of game.db g.tail))
-    → GroupRow game p g
-group_row game p rows g there has s noun w d room stands =
+    → GroupSpec game p g
+group_spec game p meets g there has s noun w d room stands =
     one_less (λ d. let r = group_tried game noun g s in CallRan r.value.ran game.db p d
     (group_name g.head) w noun r.value.state r.events (group_steps game.db g)) 120 d room
-    (λ k few. group_is_tried game p rows g there s noun w k few stands
+    (λ k few. group_is_tried game p meets g there s noun w k few stands
     (goes_on_after (action_at game.db g.head)) (tried_of game.db g.tail) refl refl has)

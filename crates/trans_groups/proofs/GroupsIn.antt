@@ -3,17 +3,17 @@ use Rattle.std.proofs.Common.{◌≡◌, ◌≢◌, arith, ℕ, zero, suc, ◌+�
 use Rattle.std.specs.List.{AllByRecursion, starts_with}
 use Rattle.std.proofs.lemmas.Fmt.{decimal_injective}
 use Rattle.inform_tree.specs.Programs as d
-use Rattle.inform_tree.specs.Programs.{RoutineTree, DirectiveTree, Routine}
+use Rattle.inform_tree.specs.Programs.{DirectiveTree, Routine}
 use Rattle.inform_names.specs.Meanings.{name_of}
 use Rattle.inform_logic.specs.Holding.{Distinct}
 use Rattle.inform_signature.proofs.Elements.{one_in}
 use Rattle.scott_types.specs.declared.parts.Action.{Action}
 use Rattle.scott_types.specs.Database.{Database}
 use Rattle.scott_rules.specs.Groups.{Group, tail_of, groups_of, groups}
-use Rattle.trans_rows.specs.Names.{group_name, line_name}
-use Rattle.trans_rows.specs.Lines.{group_routine}
-use Rattle.trans_rows.specs.Shaped.{IsIn, IsGroup, routine_calls}
-use Rattle.trans_rows.proofs.Lengths.{few}
+use Rattle.trans_specs.specs.Names.{group_name, line_name}
+use Rattle.trans_specs.specs.Lines.{group_routine}
+use Rattle.trans_specs.specs.Shaped.{IsIn, IsGroup, routine_calls}
+use Rattle.trans_specs.proofs.Lengths.{few}
 use Rattle.trans_groups.specs.Directives.{group_directives}
 use Rattle.trans_groups.specs.Trying.{trying_directives}
 use Rattle.trans_groups.specs.Parts.{GroupsAreDistinct, GroupsAreThere, GroupsAlone, GroupsCallLines}

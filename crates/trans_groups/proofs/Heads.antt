@@ -7,8 +7,8 @@ use Rattle.scott_types.specs.declared.parts.Action.{Action}
 use Rattle.scott_types.specs.Database.{Database, action_at}
 use Rattle.scott_types.specs.Action.{is_zero, is_zero_action}
 use Rattle.scott_rules.specs.Groups.{Group, tail_of, groups_of}
-use Rattle.trans_rows.specs.Lines.{group_routine}
-use Rattle.trans_rows.specs.ActionRows.{HasLineRoutine}
+use Rattle.trans_specs.specs.Lines.{group_routine}
+use Rattle.trans_specs.specs.ActionSpecs.{HasLineRoutine}
 use Rattle.trans_groups.specs.Directives.{group_directives, tried_from, routine_of_head, heads_from}
 
 abbrev none : Action

@@ -98,34 +98,9 @@ module _ (actions : List Action) where
   vocab_here k less = drop-cons actions k zero_action less
       ∙ ap (λ n. get_or actions k zero_action ∷ drop n actions) (sym (add-one k))
 
-  pub plain_line : (k : ℕ) → k < length actions → (vocab_at actions k == 0) ≡ true
-      → (firsts : ℕ → Option ℕ) → HasFirsts actions (k + 1) firsts → HasFirsts actions k firsts
-  plain_line k less plain firsts has verb = has verb
-      ∙ sym (ap (λ rest. first_head verb (groups_of k rest)) (vocab_here k less)
-      ∙ ap (λ (b : Bool). first_head verb (if b then groups_after actions (k + 1)
-      else record {
-        head = k;
-        vocab = vocab_at actions k;
-        tail = tail_of (k + 1) (drop (k + 1) actions);
-      } ∷ groups_after actions (k + 1))) plain)
-
   -- the first heads with that of one verb put before
   abbrev put : (ℕ → Option ℕ) → ℕ → ℕ → ℕ → Option ℕ
   put firsts own k verb = if own == verb then Some k else firsts verb
-
-  pub head_line : (k : ℕ) → k < length actions → (vocab_at actions k == 0) ≡ false
-      → (before after : ℕ → Option ℕ) → HasFirsts actions (k + 1) before
-      → ((verb : ℕ) → after verb ≡ put before (verb_of (vocab_at actions k)) k verb)
-      → HasFirsts actions k after
-  head_line k less head before after has is verb = is verb
-      ∙ ap (λ o. if verb_of (vocab_at actions k) == verb then Some k else o) (has verb)
-      ∙ sym (ap (λ rest. first_head verb (groups_of k rest)) (vocab_here k less)
-      ∙ ap (λ (b : Bool). first_head verb (if b then groups_after actions (k + 1)
-      else record {
-        head = k;
-        vocab = vocab_at actions k;
-        tail = tail_of (k + 1) (drop (k + 1) actions);
-      } ∷ groups_after actions (k + 1))) head)
 
   pub index_step : (line : ℕ) (before after : ℕ → Option ℕ) (nexts : List (Option ℕ))
       (next : Option ℕ) → 0 < line → line - 1 < length actions

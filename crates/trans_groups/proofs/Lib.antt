@@ -11,7 +11,7 @@ pub mod Searched
 pub mod Called
 pub mod CalledOnce
 pub mod Formed
-pub mod Owed
+pub mod GroupsMet
 pub mod GroupsIn
 pub mod Faultless
 pub mod Indexed

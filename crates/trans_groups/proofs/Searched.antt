@@ -1,4 +1,4 @@
--- The search does what it owes, where each group does.
+-- The search meets its specification, where each group does.
 use Rattle.std.proofs.Common.{◌≡◌, arith, ℕ, suc, ◌<◌, ◌≤◌, pos, Bool, true, false, List, [], ◌∷◌, codes, Option, refl, sym, subst}
 use Rattle.std.specs.List.{AllByRecursion}
 use Rattle.adv_io.specs.Steps.{Step, Traced}
@@ -20,23 +20,23 @@ use Rattle.scott_types.specs.declared.endings.Found.TheVariants.{Over, Done, Mat
 use Rattle.scott_types.specs.Style.{Game, in_style}
 use Rattle.scott_rules.specs.Groups.{groups}
 use Rattle.scott_rules.specs.Search.{SearchOutcome, search_result}
-use Rattle.trans_rows.specs.Tables.{or_zero}
-use Rattle.trans_rows.specs.Standing.{StandsFor}
-use Rattle.trans_rows.specs.Laws.{HasWords, NumbersAreTheirWords, LinesHaveWords}
-use Rattle.trans_rows.specs.Calls.{CallLeaves}
-use Rattle.trans_rows.specs.CommandRows.{SearchFinds, search_steps}
-use Rattle.trans_rows.proofs.Room.{one_less}
-use Rattle.trans_rows.proofs.Left.{nothing_left}
-use Rattle.trans_rows.proofs.Acts.{stops_within}
-use Rattle.trans_groups.specs.Rows.{group_room, GroupRow}
+use Rattle.trans_specs.specs.Tables.{or_zero}
+use Rattle.trans_specs.specs.Standing.{StandsFor}
+use Rattle.trans_specs.specs.Laws.{HasWords, NumbersAreTheirWords, LinesHaveWords}
+use Rattle.trans_specs.specs.Calls.{CallLeaves}
+use Rattle.trans_specs.specs.CommandSpecs.{SearchFinds, search_steps}
+use Rattle.trans_specs.proofs.Room.{one_less}
+use Rattle.trans_specs.proofs.Left.{nothing_left}
+use Rattle.trans_specs.proofs.Acts.{stops_within}
+use Rattle.trans_groups.specs.GroupSpecs.{group_room, GroupSpec}
 use Rattle.trans_groups.specs.Search.{verb_tries, has_verb, search_routine}
-use Rattle.trans_groups.specs.Laws.{SearchOwes}
+use Rattle.trans_groups.specs.Laws.{SearchMeetsSpec}
 use Rattle.trans_groups.proofs.Counted.{tries_steps, enough_steps}
 use Rattle.trans_groups.proofs.Tried.{scope_at, TriesActBy, tries_do}
 use Rattle.trans_groups.proofs.Chosen.{VerbsAreWords, verbs_are_words, chosen, none_chosen, none_found}
 
 module _ (game : Game) (p : Program) (has : Has p (search_routine (groups game.db)))
-    (rows : AllByRecursion (GroupRow game p) (groups game.db))
+    (meets : AllByRecursion (GroupSpec game p) (groups game.db))
     (words : VerbsAreWords p (groups game.db)) (verb : ℕ) (some : 0 < verb) (noun : Option ℕ)
     (s : State) (typed : List ℕ) (w : Stage) (d : ℕ) (stands : StandsFor game.db s typed w) where
   abbrev scope : ℕ → Scope
@@ -98,19 +98,19 @@ module _ (game : Game) (p : Program) (has : Has p (search_routine (groups game.d
       → let r = search_result game typed verb noun (groups game.db) s in Finds r.value.found r
   finds room true there = let r = search_result game typed verb noun (groups game.db) s in
       one_has there r.value.found r (tries_do game p d room typed has.at verb noun (groups game.db)
-      rows 0 s w stands).acts
+      meets 0 s w stands).acts
   finds room false none = subst (λ r. Finds r.value.found r)
       (sym (none_found game typed verb noun (groups game.db) s none)) (none_has none)
 
-pub search_owes : NumbersAreTheirWords → LinesHaveWords → SearchOwes
-search_owes their_words have_words style width db p translates serves rows verb noun s typed w d
+pub search_meets_spec : NumbersAreTheirWords → LinesHaveWords → SearchMeetsSpec
+search_meets_spec their_words have_words style width db p translates serves meets verb noun s typed w d
     room some is_noun stands =
     let game = in_style style db in
     one_less (λ d. let r = search_result game typed verb noun (groups db) s in
     SearchFinds r.value.found game p d (codes "search") (pos verb ∷ pos (or_zero noun) ∷ []) w typed
     r) 124 d room
     (λ k few. finds game p (has p serves.holds.0
-    (serves.notes_lines (codes "search") serves.holds.0.0)) rows
+    (serves.notes_lines (codes "search") serves.holds.0.0)) meets
     (verbs_are_words p their_words 0 db.actions lines) verb some noun s typed w k stands
     (omega (arith, few)) (has_verb verb (groups db)) refl) where
       lines : AllByRecursion (HasWords p.width) db.actions

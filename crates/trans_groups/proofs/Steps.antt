@@ -15,9 +15,9 @@ use Rattle.scott_types.specs.declared.states.State.{State}
 use Rattle.scott_types.specs.declared.endings.Halt.{Halt}
 use Rattle.scott_types.specs.declared.endings.Halt.TheVariants.{Through, Waits, Over as AtEnd}
 use Rattle.scott_types.specs.Database.{Database}
-use Rattle.trans_rows.specs.Views.{Shows}
-use Rattle.trans_rows.specs.Standing.{StandsFor}
-use Rattle.trans_rows.proofs.Acts.{BlockEndsGame}
+use Rattle.trans_specs.specs.Views.{Shows}
+use Rattle.trans_specs.specs.Standing.{StandsFor}
+use Rattle.trans_specs.proofs.Acts.{BlockEndsGame}
 
 -- ---- what becomes of a block of the step
 

@@ -20,15 +20,15 @@ use Rattle.scott_types.specs.Action.{is_zero_action}
 use Rattle.scott_rules.specs.Outcomes.{Outcome, and_then}
 use Rattle.scott_rules.specs.Actions.{ActionOutcome, try_action}
 use Rattle.scott_rules.specs.Groups.{over_of, outcome_of, tail_tried}
-use Rattle.trans_rows.specs.Standing.{StandsFor}
-use Rattle.trans_rows.specs.Steps.{line_steps}
-use Rattle.trans_rows.specs.Names.{line_name}
-use Rattle.trans_rows.specs.Lines.{call_statement}
-use Rattle.trans_rows.specs.Calls.{StageLeft, CallLeaves}
-use Rattle.trans_rows.specs.ActionRows.{LineOutcome, line_room, LineRow}
-use Rattle.trans_rows.proofs.Left.{nothing_left, left_then}
-use Rattle.trans_rows.proofs.Acts.{BlockEndsGame}
-use Rattle.trans_groups.specs.Rows.{CallRan}
+use Rattle.trans_specs.specs.Standing.{StandsFor}
+use Rattle.trans_specs.specs.Steps.{line_steps}
+use Rattle.trans_specs.specs.Names.{line_name}
+use Rattle.trans_specs.specs.Lines.{call_statement}
+use Rattle.trans_specs.specs.Calls.{StageLeft, CallLeaves}
+use Rattle.trans_specs.specs.ActionSpecs.{LineOutcome, line_room, LineSpec}
+use Rattle.trans_specs.proofs.Left.{nothing_left, left_then}
+use Rattle.trans_specs.proofs.Acts.{BlockEndsGame}
+use Rattle.trans_groups.specs.GroupSpecs.{CallRan}
 use Rattle.trans_groups.proofs.Heads.{tried_of}
 use Rattle.trans_groups.proofs.Zeros.{zero_line}
 
@@ -136,7 +136,7 @@ module _ {db : Database} {p : Program} {d : ℕ} {noun : List ℕ} {scope : Scop
     };
   }
 
-module _ (game : Game) (p : Program) (rows : LineRow game p) (noun : List ℕ) (d : ℕ)
+module _ (game : Game) (p : Program) (meets : LineSpec game p) (noun : List ℕ) (d : ℕ)
     (room : line_room ≤ d) (scope : Scope) where
   -- these calls do what it is to try these lines
   abbrev LinesDo : List ℕ → List ℕ → State → Stage → ℕ → Type 0
@@ -180,5 +180,5 @@ module _ (game : Game) (p : Program) (rows : LineRow game p) (noun : List ℕ) (
             passes_within more_steps (call_next t.value.ran k (tried_of game.db ks) t.value.state
             t.events (line_steps game.db) (tail_tried game noun ks)
             (line_ran game p d k w noun t.value.ran t
-            (rows k s noun w d room (record { there = there.0; not_zero = own }) stands))
+            (meets k s noun w d room (record { there = there.0; not_zero = own }) stands))
             (more t.value.state))

@@ -31,14 +31,14 @@ use Rattle.scott_types.specs.Action.{verb_of, noun_of}
 use Rattle.scott_rules.specs.Actions.{ActionOutcome}
 use Rattle.scott_rules.specs.Groups.{Group, group_tried}
 use Rattle.scott_rules.specs.Search.{SearchOutcome, is_for_noun, at_least_matched, search_after, search_group, search_result}
-use Rattle.trans_rows.specs.Tables.{or_zero}
-use Rattle.trans_rows.specs.Standing.{StandsFor}
-use Rattle.trans_rows.specs.Names.{group_name}
-use Rattle.trans_rows.specs.Calls.{StageLeft}
-use Rattle.trans_rows.specs.ActionRows.{passed_value}
-use Rattle.trans_rows.proofs.Left.{nothing_left, left_then}
-use Rattle.trans_rows.proofs.Acts.{BlockEndsGame}
-use Rattle.trans_groups.specs.Rows.{CallRan, group_room, group_steps, GroupRow}
+use Rattle.trans_specs.specs.Tables.{or_zero}
+use Rattle.trans_specs.specs.Standing.{StandsFor}
+use Rattle.trans_specs.specs.Names.{group_name}
+use Rattle.trans_specs.specs.Calls.{StageLeft}
+use Rattle.trans_specs.specs.ActionSpecs.{passed_value}
+use Rattle.trans_specs.proofs.Left.{nothing_left, left_then}
+use Rattle.trans_specs.proofs.Acts.{BlockEndsGame}
+use Rattle.trans_groups.specs.GroupSpecs.{CallRan, group_room, group_steps, GroupSpec}
 use Rattle.trans_groups.specs.Search.{group_tries, for_noun, verb_tries}
 use Rattle.trans_groups.proofs.Counted.{tries_steps}
 use Rattle.trans_groups.proofs.Steps.{past_of}
@@ -277,7 +277,7 @@ module _ (game : Game) (p : Program) (d : ℕ) (room : group_room ≤ d) (typed 
       TriesAct r.value.found game.db p d (statements (verb_tries verb gs)) scope m w typed
       r.value.state r.events (tries_steps game.db gs)
 
-  module _ (g : Group) (gs : List Group) (row : GroupRow game p g) (more : TriesAll gs) (m : ℕ)
+  module _ (g : Group) (gs : List Group) (meets : GroupSpec game p g) (more : TriesAll gs) (m : ℕ)
       (s : State) (w : Stage) (stands : StandsFor game.db s typed w) where
     abbrev others : State → Traced Step SearchOutcome
     others = search_result game typed verb noun gs
@@ -294,14 +294,14 @@ module _ (game : Game) (p : Program) (d : ℕ) (room : group_room ≤ d) (typed 
         (search_group fits game typed g s others)
     of_verb true true is own = let t = group_tried game typed g s in
         any_noun g.head (verb_tries verb gs) m (group_steps game.db g) (tries_steps game.db gs) w
-        others t.value.ran t (row s typed w d room stands) (more 1)
+        others t.value.ran t (meets s typed w d room stands) (more 1)
     of_verb true false is own = absurd (true≢false (sym (zero_is_for (noun_of g.vocab) noun is) ∙
         own))
     of_verb false true is own = let t = group_tried game typed g s in
         own_noun g.head (verb_tries verb gs) m (group_steps game.db g) (tries_steps game.db gs) w
         others (noun_of g.vocab)
         (compared m w g.vocab true (noun_tells (noun_of g.vocab) noun true is own)) t.value.ran t
-        (row s typed w d room stands) (more 1)
+        (meets s typed w d room stands) (more 1)
     of_verb false false is own = skips (group_steps game.db g + 10)
         (λ e last w' j run. within (omega arith) (next (if_false (compared m w g.vocab false
         (noun_tells (noun_of g.vocab) noun false is own)) end) run)) (more m s w stands)
@@ -314,8 +314,8 @@ module _ (game : Game) (p : Program) (d : ℕ) (room : group_room ≤ d) (typed 
     by_verb false = skips (group_steps game.db g + 10)
         (λ e last w' j run. within (omega arith) run) (more m s w stands)
 
-  pub tries_do : (gs : List Group) → AllByRecursion (GroupRow game p) gs → TriesAll gs
-  tries_do [] rows m s w stands =
+  pub tries_do : (gs : List Group) → AllByRecursion (GroupSpec game p) gs → TriesAll gs
+  tries_do [] meets m s w stands =
       record { acts = record { after = w; runs = end; leaves = nothing_left stands } }
-  tries_do (g ∷ gs) rows m s w stands =
-      by_verb g gs rows.0 (tries_do gs rows.1) m s w stands (verb_of g.vocab == verb)
+  tries_do (g ∷ gs) meets m s w stands =
+      by_verb g gs meets.0 (tries_do gs meets.1) m s w stands (verb_of g.vocab == verb)

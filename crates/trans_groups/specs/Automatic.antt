@@ -9,8 +9,8 @@ use Rattle.inform_tree.specs.Programs.{RoutineTree, DirectiveTree, Routine}
 use Rattle.scott_types.specs.Database.{Database}
 use Rattle.scott_types.specs.Action.{verb_of, noun_of}
 use Rattle.scott_rules.specs.Groups.{Group, groups}
-use Rattle.trans_rows.specs.Names.{group_name}
-use Rattle.trans_rows.specs.Lines.{call_statement}
+use Rattle.trans_specs.specs.Names.{group_name}
+use Rattle.trans_specs.specs.Lines.{call_statement}
 
 -- `if (random(100) <= N) group_k();`
 abbrev pub chance : ℕ → ℕ → Statement

@@ -7,8 +7,8 @@ use Rattle.scott_types.specs.Database.{Database}
 use Rattle.scott_types.specs.Action.{is_zero_action}
 use Rattle.scott_rules.specs.Actions.{goes_on_after}
 use Rattle.scott_rules.specs.Groups.{groups}
-use Rattle.trans_rows.specs.Names.{group_name}
-use Rattle.trans_rows.specs.Lines.{group_parts, group_routine}
+use Rattle.trans_specs.specs.Names.{group_name}
+use Rattle.trans_specs.specs.Lines.{group_parts, group_routine}
 
 -- one for each group
 abbrev pub group_directives : Database → List DirectiveTree

@@ -3,6 +3,6 @@ pub mod Automatic
 pub mod Search
 pub mod Heads
 pub mod Trying
-pub mod Rows
+pub mod GroupSpecs
 pub mod Laws
 pub mod Parts

@@ -11,11 +11,11 @@ use Rattle.inform_signature.specs.Soundness.{IsFaultless}
 use Rattle.scott_types.specs.Database.{Database}
 use Rattle.scott_types.specs.Limits.{KeepsLimits}
 use Rattle.scott_rules.specs.Groups.{Group, groups}
-use Rattle.trans_rows.specs.Names.{group_name, line_name}
-use Rattle.trans_rows.specs.Lines.{group_routine}
-use Rattle.trans_rows.specs.ActionRows.{HasLineRoutine}
-use Rattle.trans_rows.specs.Owed.{Translates}
-use Rattle.trans_rows.specs.Shaped.{IsIn, IsGroup, routine_calls, program_calls}
+use Rattle.trans_specs.specs.Names.{group_name, line_name}
+use Rattle.trans_specs.specs.Lines.{group_routine}
+use Rattle.trans_specs.specs.ActionSpecs.{HasLineRoutine}
+use Rattle.trans_specs.specs.Meeting.{Translates}
+use Rattle.trans_specs.specs.Shaped.{IsIn, IsGroup, routine_calls, program_calls}
 use Rattle.trans_groups.specs.Directives.{group_directives}
 use Rattle.trans_groups.specs.Trying.{trying_directives}
 

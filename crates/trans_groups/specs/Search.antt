@@ -10,8 +10,8 @@ use Rattle.inform_tree.specs.Programs.{RoutineTree, DirectiveTree, Routine}
 use Rattle.scott_types.specs.Database.{Database}
 use Rattle.scott_types.specs.Action.{verb_of, noun_of}
 use Rattle.scott_rules.specs.Groups.{Group, groups}
-use Rattle.trans_rows.specs.Names.{group_name}
-use Rattle.trans_rows.specs.Lines.{call_value}
+use Rattle.trans_specs.specs.Names.{group_name}
+use Rattle.trans_specs.specs.Lines.{call_value}
 
 -- ---- a head, and then what comes after it
 

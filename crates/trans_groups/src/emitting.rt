@@ -11,8 +11,8 @@ ghost use Rattle.inform_tree.specs.Programs as d;
 ghost use Rattle.inform_tree.specs.Programs.{directive_of};
 ghost use Rattle.scott_types.specs.Action.{is_zero, is_zero_action};
 ghost use Rattle.scott_rules.specs.Actions.{goes_on_after};
-ghost use Rattle.trans_rows.specs.Names.{line_name};
-ghost use Rattle.trans_rows.specs.Lines.{call_value, call_statement, tail_body, group_parts};
+ghost use Rattle.trans_specs.specs.Names.{line_name};
+ghost use Rattle.trans_specs.specs.Lines.{call_value, call_statement, tail_body, group_parts};
 ghost use Rattle.trans_groups.specs.Directives.{routine_of_head, heads_from, group_directives};
 
 use adv_io::Memory;

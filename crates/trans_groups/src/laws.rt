@@ -1,35 +1,37 @@
-//! What the routines owe, and what a program needs to know of them. Each law is the contract of a
-//! function that does nothing else.
-ghost use Rattle.trans_groups.specs.Laws.{GroupsOwe, AutomaticOwes, SearchOwes, TryingOwes, TryingFormed};
+//! The routines meet their specifications, and what a program needs to know of them. Each law is
+//! the contract of a function that does nothing else.
+ghost use Rattle.trans_groups.specs.Laws.{GroupsMeetSpecs, AutomaticMeetsSpec, SearchMeetsSpec, TryingMeetsSpecs, TryingFormed};
 ghost use Rattle.trans_groups.specs.Parts.{GroupsAreDistinct, GroupsAreThere, GroupsAlone, GroupsAreCalledOnce, GroupsCallLines, TryingIsFaultless};
 
-use trans_rows::laws::{lines_have_words, numbers_are_their_words};
+use trans_specs::laws::{lines_have_words, numbers_are_their_words};
 
-/// Where a program has the routines of groups, and each line does what it owes, so does each group.
-pub fn groups_owe()
-    ensures { GroupsOwe }
+/// Where a program has the routines of groups, and each line meets its specification, so does each
+/// group.
+pub fn groups_meet_specs()
+    ensures { GroupsMeetSpecs }
 {}
 
-/// Where a program has the automatic step, and each group does what it owes, so does the step.
-pub fn automatic_owes()
-    ensures { AutomaticOwes }
+/// Where a program has the automatic step, and each group meets its specification, so does the
+/// step.
+pub fn automatic_meets_spec()
+    ensures { AutomaticMeetsSpec }
 {}
 
-/// Where a program has the search, and each group does what it owes, so does the search.
-pub fn search_owes()
-    ensures { SearchOwes }
+/// Where a program has the search, and each group meets its specification, so does the search.
+pub fn search_meets_spec()
+    ensures { SearchMeetsSpec }
 {
     numbers_are_their_words();
     lines_have_words();
 }
 
-/// Where a program has all of these routines, and each line does what it owes, so do they.
-pub fn trying_owes()
-    ensures { TryingOwes }
+/// Where a program has all of these routines, and each line meets its specification, so do they.
+pub fn trying_meets_specs()
+    ensures { TryingMeetsSpecs }
 {
-    groups_owe();
-    automatic_owes();
-    search_owes();
+    groups_meet_specs();
+    automatic_meets_spec();
+    search_meets_spec();
 }
 
 /// All of these routines are well formed.

@@ -8,7 +8,7 @@ mod searching;
 mod stepping;
 mod trying;
 
-// What they owe.
+// That they meet their specifications.
 pub mod laws;
 
 pub use emitting::groups;

@@ -31,13 +31,13 @@ use Rattle.scott_types.specs.declared.styles.Style.{Style}
 use Rattle.scott_types.specs.declared.endings.Position.{Position}
 use Rattle.scott_types.specs.Database.{Database}
 use Rattle.scott_types.specs.State.{Fits}
-use Rattle.trans_rows.specs.Names.{message_name, line_name}
-use Rattle.trans_rows.specs.Directives.{data_directives}
-use Rattle.trans_rows.specs.Faithful.{opening_state, opening_position}
-use Rattle.trans_rows.specs.ActionRows.{HasLineRoutine}
-use Rattle.trans_rows.specs.Owed.{Translates}
-use Rattle.trans_rows.proofs.Written.{small_written}
-use Rattle.trans_rows.proofs.Lists.{of_both, each_passes, each_with, of_sources, of_images}
+use Rattle.trans_specs.specs.Names.{message_name, line_name}
+use Rattle.trans_specs.specs.Directives.{data_directives}
+use Rattle.trans_specs.specs.Faithful.{opening_state, opening_position}
+use Rattle.trans_specs.specs.ActionSpecs.{HasLineRoutine}
+use Rattle.trans_specs.specs.Meeting.{Translates}
+use Rattle.trans_specs.proofs.Written.{small_written}
+use Rattle.trans_specs.proofs.Lists.{of_both, each_passes, each_with, of_sources, of_images}
 use Rattle.trans_data.specs.Routines.{routine_names, table_rows}
 use Rattle.trans_data.specs.Texts.{message_directives, text_directives}
 use Rattle.trans_words.specs.Directives.{word_directives}

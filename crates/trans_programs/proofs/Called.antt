@@ -10,10 +10,10 @@ use Rattle.inform_codes.specs.Routines.{row_routine, rows_directives}
 use Rattle.scott_types.specs.declared.states.State.{State}
 use Rattle.scott_types.specs.declared.styles.Style.{Style}
 use Rattle.scott_types.specs.Database.{Database}
-use Rattle.trans_rows.specs.Names.{group_name, line_name}
-use Rattle.trans_rows.specs.Directives.{data_directives}
-use Rattle.trans_rows.specs.Faithful.{opening_position}
-use Rattle.trans_rows.specs.Shaped.{demands_calls, routine_calls, directive_calls, program_calls}
+use Rattle.trans_specs.specs.Names.{group_name, line_name}
+use Rattle.trans_specs.specs.Directives.{data_directives}
+use Rattle.trans_specs.specs.Faithful.{opening_position}
+use Rattle.trans_specs.specs.Shaped.{demands_calls, routine_calls, directive_calls, program_calls}
 use Rattle.trans_data.specs.declared.names.TheConstants.{N, HUNDREDTHS_NAME, SAY_LIGHT, LIGHT_OUT}
 use Rattle.trans_data.specs.declared.scoring.TheConstants.{HUNDREDTHS, LESS_HUNDREDTHS}
 use Rattle.trans_data.specs.Numbers.{numbers}

@@ -11,12 +11,12 @@ use Rattle.scott_types.specs.declared.endings.Position.{Position}
 use Rattle.scott_types.specs.Database.{Database}
 use Rattle.scott_types.specs.Limits.{KeepsLimits}
 use Rattle.scott_rules.specs.Groups.{Group, groups}
-use Rattle.trans_rows.specs.Names.{message_name}
-use Rattle.trans_rows.specs.Lines.{group_routine}
-use Rattle.trans_rows.specs.Faithful.{opening_state, opening_position}
-use Rattle.trans_rows.proofs.Distinct.{are_apart, distinct}
-use Rattle.trans_rows.proofs.Lengths.{few}
-use Rattle.trans_rows.proofs.Lists.{each_passes, each_with, of_both, of_three}
+use Rattle.trans_specs.specs.Names.{message_name}
+use Rattle.trans_specs.specs.Lines.{group_routine}
+use Rattle.trans_specs.specs.Faithful.{opening_state, opening_position}
+use Rattle.trans_specs.proofs.Distinct.{are_apart, distinct}
+use Rattle.trans_specs.proofs.Lengths.{few}
+use Rattle.trans_specs.proofs.Lists.{each_passes, each_with, of_both, of_three}
 use Rattle.trans_data.specs.Routines.{table_rows, routine_names}
 use Rattle.trans_data.specs.Texts.{message_directives}
 use Rattle.trans_words.specs.Directives.{word_directives}

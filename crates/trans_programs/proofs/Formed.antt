@@ -9,8 +9,8 @@ use Rattle.scott_types.specs.declared.styles.Style.{Style}
 use Rattle.scott_types.specs.Phrase.{text_of}
 use Rattle.scott_types.specs.Database.{Database}
 use Rattle.scott_types.specs.Limits.{KeepsLimits}
-use Rattle.trans_rows.specs.Directives.{data_directives}
-use Rattle.trans_rows.specs.Faithful.{opening_state, opening_position}
+use Rattle.trans_specs.specs.Directives.{data_directives}
+use Rattle.trans_specs.specs.Faithful.{opening_state, opening_position}
 use Rattle.trans_data.specs.Laws.{TextsFormed, DataFormed}
 use Rattle.trans_data.specs.Texts.{text_directives}
 use Rattle.trans_words.specs.Laws.{ReaderIsFormed}

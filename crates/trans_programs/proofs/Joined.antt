@@ -7,7 +7,7 @@ use Rattle.scott_types.specs.declared.endings.Position.{Position}
 use Rattle.scott_types.specs.declared.endings.Position.TheVariants.{Fresh, Line}
 use Rattle.scott_types.specs.Database.{Database}
 use Rattle.scott_types.specs.State.{start}
-use Rattle.trans_rows.specs.Directives.{data_directives}
+use Rattle.trans_specs.specs.Directives.{data_directives}
 use Rattle.trans_data.specs.Texts.{text_directives}
 use Rattle.trans_words.specs.Directives.{word_directives}
 use Rattle.trans_actions.specs.Directives.{action_directives}

@@ -6,7 +6,7 @@ use Rattle.std.proofs.lemmas.Bool.{and_parts}
 use Rattle.inform_tree.specs.Words.{is_number}
 use Rattle.scott_types.specs.Database.{Database}
 use Rattle.scott_types.specs.Limits.{KeepsLimits}
-use Rattle.trans_rows.proofs.Lengths.{few}
+use Rattle.trans_specs.proofs.Lengths.{few}
 use Rattle.trans_data.specs.Numbers.{byte_or_more, divisor, goal}
 
 -- a number that isn't too wide at any width

@@ -8,9 +8,9 @@ use Rattle.scott_types.specs.declared.states.State.{State}
 use Rattle.scott_types.specs.declared.styles.Style.{Style}
 use Rattle.scott_types.specs.declared.endings.Position.{Position}
 use Rattle.scott_types.specs.Database.{Database}
-use Rattle.trans_rows.specs.Directives.{data_directives}
-use Rattle.trans_rows.specs.Faithful.{opening_state, opening_position}
-use Rattle.trans_rows.proofs.Lists.{of_both, of_first, of_rest}
+use Rattle.trans_specs.specs.Directives.{data_directives}
+use Rattle.trans_specs.specs.Faithful.{opening_state, opening_position}
+use Rattle.trans_specs.proofs.Lists.{of_both, of_first, of_rest}
 use Rattle.trans_data.specs.declared.names.TheConstants.{N, HUNDREDTHS_NAME, SAY_LIGHT, LIGHT_OUT}
 use Rattle.trans_data.specs.declared.scoring.TheConstants.{HUNDREDTHS, LESS_HUNDREDTHS}
 use Rattle.trans_data.specs.Routines.{light_codes, out_codes, table_rows, fixed_directives}
@@ -126,29 +126,8 @@ module _ (style : Style) (db : Database) (from : Option State) where
           turns = of_rest P groups_on turns_on groups;
         }
 
-    pub of_parts : Each P → AllByRecursion P (game_program style db from)
-    of_parts h = subst (AllByRecursion P) parts_are (of_both P tables_on from_messages h.tables
-        (of_both P messages_on from_words h.messages
-        (of_both P (word_directives db) from_lines h.words
-        (of_both P lines_on from_search h.lines (of_both P (before_groups db) from_turns h.search
-        (of_both P groups_on turns_on h.groups h.turns))))))
-
     pub of_named : Each P
         → AllByRecursion P (named style db (opening_state db from) (opening_position from))
     of_named h = of_both P tables_on (after_messages style db (opening_position from)) h.tables
         (of_both P (word_directives db) (after_lines style db (opening_position from)) h.words
         (of_both P (before_groups db) turns_on h.search h.turns))
-
-    -- and back
-    pub to_named : AllByRecursion P
-        (named style db (opening_state db from) (opening_position from))
-        → (AllByRecursion P tables_on) × (AllByRecursion P (word_directives db))
-        × (AllByRecursion P (before_groups db)) × (AllByRecursion P turns_on)
-    to_named h = let begin = opening_position from in
-        let words = of_rest P tables_on (after_messages style db begin) h in
-        let lines = of_rest P (word_directives db) (after_lines style db begin) words in (
-          of_first P tables_on (after_messages style db begin) h,
-          of_first P (word_directives db) (after_lines style db begin) words,
-          of_first P (before_groups db) turns_on lines,
-          of_rest P (before_groups db) turns_on lines,
-        )

@@ -9,10 +9,10 @@ use Rattle.scott_types.specs.declared.styles.Style.{Style}
 use Rattle.scott_types.specs.Database.{Database}
 use Rattle.scott_types.specs.Action.{is_zero_action}
 use Rattle.scott_rules.specs.Groups.{Group, groups}
-use Rattle.trans_rows.specs.Faithful.{opening_position}
-use Rattle.trans_rows.specs.Lines.{group_routine}
-use Rattle.trans_rows.specs.Shaped.{is_declaration}
-use Rattle.trans_rows.proofs.Lists.{each_passes, of_both}
+use Rattle.trans_specs.specs.Faithful.{opening_position}
+use Rattle.trans_specs.specs.Lines.{group_routine}
+use Rattle.trans_specs.specs.Shaped.{is_declaration}
+use Rattle.trans_specs.proofs.Lists.{each_passes, of_both}
 use Rattle.trans_data.specs.Routines.{table_rows, fixed_directives}
 use Rattle.trans_data.specs.Texts.{message_directives, text_directives}
 use Rattle.trans_words.specs.Directives.{word_directives}

@@ -10,12 +10,12 @@ use Rattle.scott_types.specs.declared.styles.Style.{Style}
 use Rattle.scott_types.specs.Database.{Database}
 use Rattle.scott_types.specs.Limits.{KeepsLimits}
 use Rattle.scott_rules.specs.Groups.{Group, groups}
-use Rattle.trans_rows.specs.Names.{group_name, line_name}
-use Rattle.trans_rows.specs.Lines.{line_routine, group_routine}
-use Rattle.trans_rows.specs.Shaped.{IsIn, IsLine, IsGroup, is_declaration, declarations, routine_calls, directive_calls, program_calls}
-use Rattle.trans_rows.specs.Directives.{data_directives}
-use Rattle.trans_rows.specs.Faithful.{opening_state}
-use Rattle.trans_rows.proofs.Apart.{all_apart, line_opening, group_opening, no_line, no_group}
+use Rattle.trans_specs.specs.Names.{group_name, line_name}
+use Rattle.trans_specs.specs.Lines.{line_routine, group_routine}
+use Rattle.trans_specs.specs.Shaped.{IsIn, IsLine, IsGroup, is_declaration, declarations, routine_calls, directive_calls, program_calls}
+use Rattle.trans_specs.specs.Directives.{data_directives}
+use Rattle.trans_specs.specs.Faithful.{opening_state}
+use Rattle.trans_specs.proofs.Apart.{all_apart, line_opening, group_opening, no_line, no_group}
 use Rattle.trans_data.specs.Routines.{routine_names, table_rows}
 use Rattle.trans_data.specs.Texts.{message_directives}
 use Rattle.trans_words.specs.Directives.{word_directives}
@@ -26,7 +26,7 @@ use Rattle.trans_groups.specs.Parts.{GroupsAreThere, GroupsAlone, GroupsAreCalle
 use Rattle.trans_turn.specs.Routines.{rounds_asking}
 use Rattle.trans_programs.specs.Programs.{game_routines, game_program}
 use Rattle.trans_programs.specs.Laws.{ProgramsAreShaped}
-use Rattle.trans_programs.proofs.Parts.{before_groups, parts_are, tables_on, messages_on, lines_on, turns_on, from_messages, from_words, from_lines, from_search}
+use Rattle.trans_programs.proofs.Parts.{parts_are, tables_on, messages_on, lines_on, turns_on, from_messages, from_words, from_lines, from_search}
 use Rattle.trans_programs.proofs.Routines.{IsRoutine, routines_only}
 use Rattle.trans_programs.proofs.Called.{calls_both, none_in_each, before_call, words_call, messages_call, after_call}
 
@@ -66,9 +66,6 @@ module _ (style : Style) (db : Database) (from : Option State) where
   words_apart : (all_apart line_opening (word_directives db) ≡ true)
       × (all_apart group_opening (word_directives db) ≡ true)
   words_apart = (refl, refl)
-
-  search_apart : all_apart line_opening (before_groups db) ≡ true
-  search_apart = refl
 
   turns_apart : (all_apart line_opening (turns_on style db from) ≡ true)
       × (all_apart group_opening (turns_on style db from) ≡ true)

@@ -25,9 +25,9 @@ use Rattle.scott_types.specs.Limits.{KeepsLimits}
 use Rattle.scott_types.specs.ItemText.{shown}
 use Rattle.scott_rules.specs.Looking.{described}
 use Rattle.scott_rules.specs.Words.{which}
-use Rattle.trans_rows.specs.Tables.{or_zero}
-use Rattle.trans_rows.specs.Faithful.{opening_position}
-use Rattle.trans_rows.proofs.Lengths.{few}
+use Rattle.trans_specs.specs.Tables.{or_zero}
+use Rattle.trans_specs.specs.Faithful.{opening_position}
+use Rattle.trans_specs.proofs.Lengths.{few}
 use Rattle.trans_data.specs.Numbers.{byte_or_more, divisor, goal, numbers}
 use Rattle.trans_data.specs.Routines.{routine_names, table_rows, chosen_rows, fixed_directives}
 use Rattle.trans_data.specs.Texts.{message_directives, text_cases, text_routine, item_texts, room_texts, spoken_directives, text_directives}

@@ -23,15 +23,15 @@ use Rattle.scott_types.specs.Room.{room_beyond}
 use Rattle.scott_types.specs.State.{is_counter, is_place, is_room_of, Fits}
 use Rattle.scott_types.specs.ItemText.{is_treasure, is_starred}
 use Rattle.scott_rules.specs.Words.{is_empty, entries_of, which}
-use Rattle.trans_rows.specs.declared.places.Place.TheVariants.{Carry, Treasures, Light, Home}
-use Rattle.trans_rows.specs.Tables.{bit, or_zero, guarded, exits_of_room, entry_letters, word_letters, bases_from, bases, word_bases, class_of, class_of_noun, classes, item_word, buffer_length}
-use Rattle.trans_rows.specs.Wide.{is_word_of, placed_actions, is_too_wide, wide_at}
-use Rattle.trans_rows.specs.Directives.{written, global, words, bytes, zero_bytes, turn_globals, global_directives, state_arrays, fixed_arrays, buffers, array_directives, data_directives}
-use Rattle.trans_rows.proofs.Bounds.{Below, below_guarded, below_map, below_tested, below_bit, below_bases, below_word_letters}
-use Rattle.trans_rows.proofs.Lengths.{IsThere, there, few, long_guarded, there_map, there_exits, there_words, there_bases, there_classes}
-use Rattle.trans_rows.proofs.Opening.{word_or_wide, none_third, less_light, counter_word, small, below_places, place_small, room_small, rooms_few, items_there, words_few, words_there, below_all_exits, below_class, below_classes, below_which}
+use Rattle.trans_specs.specs.declared.places.Place.TheVariants.{Carry, Treasures, Light, Home}
+use Rattle.trans_specs.specs.Tables.{bit, or_zero, guarded, exits_of_room, entry_letters, word_letters, bases_from, bases, word_bases, class_of, class_of_noun, classes, item_word, buffer_length}
+use Rattle.trans_specs.specs.Wide.{is_word_of, placed_actions, is_too_wide, wide_at}
+use Rattle.trans_specs.specs.Directives.{written, global, words, bytes, zero_bytes, turn_globals, global_directives, state_arrays, fixed_arrays, buffers, array_directives, data_directives}
+use Rattle.trans_specs.proofs.Bounds.{Below, below_guarded, below_map, below_tested, below_bit, below_bases, below_word_letters}
+use Rattle.trans_specs.proofs.Lengths.{IsThere, there, few, long_guarded, there_map, there_exits, there_words, there_bases, there_classes}
+use Rattle.trans_specs.proofs.Opening.{word_or_wide, none_third, less_light, counter_word, small, below_places, place_small, room_small, rooms_few, items_there, words_few, words_there, below_all_exits, below_class, below_classes, below_which}
 use Rattle.trans_words.proofs.Matching.{letters_long}
-use Rattle.trans_rows.proofs.Lists.{of_both}
+use Rattle.trans_specs.proofs.Lists.{of_both}
 
 -- ---- what is asked of a table
 

@@ -10,9 +10,9 @@ use Rattle.scott_types.specs.declared.styles.Style.{Style}
 use Rattle.scott_types.specs.Database.{Database}
 use Rattle.scott_types.specs.Limits.{KeepsLimits}
 use Rattle.scott_types.specs.State.{Fits}
-use Rattle.trans_rows.specs.Owed.{Translates}
-use Rattle.trans_rows.specs.Faithful.{opening_state}
-use Rattle.trans_rows.specs.Shaped.{Shaped}
+use Rattle.trans_specs.specs.Meeting.{Translates}
+use Rattle.trans_specs.specs.Faithful.{opening_state}
+use Rattle.trans_specs.specs.Shaped.{Shaped}
 use Rattle.trans_programs.specs.Programs.{game_program}
 
 -- no two of its directives have one name

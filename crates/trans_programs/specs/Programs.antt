@@ -4,8 +4,8 @@ use Rattle.inform_tree.specs.Programs.{DirectiveTree}
 use Rattle.scott_types.specs.declared.states.State.{State}
 use Rattle.scott_types.specs.declared.styles.Style.{Style}
 use Rattle.scott_types.specs.Database.{Database}
-use Rattle.trans_rows.specs.Faithful.{opening_position}
-use Rattle.trans_rows.specs.Wholes.{game_directives}
+use Rattle.trans_specs.specs.Faithful.{opening_position}
+use Rattle.trans_specs.specs.Wholes.{game_directives}
 use Rattle.trans_data.specs.Texts.{text_directives}
 use Rattle.trans_words.specs.Directives.{word_directives}
 use Rattle.trans_actions.specs.Directives.{action_directives}

@@ -3,9 +3,9 @@
 #![tactic(auto)]
 
 // The program.
-mod games;
+mod emitting;
 
 // Its laws.
 pub mod laws;
 
-pub use games::program;
+pub use emitting::program;

@@ -8,7 +8,7 @@ use std::process::Abort;
 use trans_commands::commands;
 use trans_data::tables;
 use trans_programs::program;
-use trans_rows::laws::none_wide_at_32;
+use trans_specs::laws::none_wide_at_32;
 use trans_turn::turn;
 use trans_words::words;
 use translator::translate;

@@ -24,14 +24,14 @@ use Rattle.scott_types.specs.Database.{Database}
 use Rattle.scott_types.specs.Style.{Game}
 use Rattle.scott_rules.specs.Groups.{AutoOutcome, groups, automatic}
 use Rattle.scott_rules.specs.Rounds.{RoundEnd, look_due, unmarked, prompted, advance}
-use Rattle.trans_rows.specs.Standing.{StandsFor}
-use Rattle.trans_rows.specs.Steps.{text_steps}
-use Rattle.trans_rows.specs.Calls.{CallEndsGame, CallWaits}
-use Rattle.trans_rows.specs.TurnRows.{FairStage}
-use Rattle.trans_rows.specs.CommandRows.{search_steps}
-use Rattle.trans_rows.specs.AutomaticRows.{AutomaticHalts, AutomaticDone}
-use Rattle.trans_turn.specs.Owed.{RoundParts}
-use Rattle.trans_rows.proofs.Room.{one_less}
+use Rattle.trans_specs.specs.Standing.{StandsFor}
+use Rattle.trans_specs.specs.Steps.{text_steps}
+use Rattle.trans_specs.specs.Calls.{CallEndsGame, CallWaits}
+use Rattle.trans_specs.specs.TurnSpecs.{FairStage}
+use Rattle.trans_specs.specs.CommandSpecs.{search_steps}
+use Rattle.trans_specs.specs.AutomaticSpecs.{AutomaticHalts, AutomaticDone}
+use Rattle.trans_turn.specs.RoundSpecs.{RoundParts}
+use Rattle.trans_specs.proofs.Room.{one_less}
 use Rattle.trans_turn.proofs.Holding.{HasRound}
 use Rattle.trans_turn.proofs.Standing.{mark_off, past_aside}
 use Rattle.trans_turn.proofs.Described.{described, describes}

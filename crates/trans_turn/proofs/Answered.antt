@@ -27,16 +27,16 @@ use Rattle.scott_rules.specs.Outcomes.{Outcome}
 use Rattle.scott_rules.specs.Commands.{Span, split, typed_noun, word_at, heard}
 use Rattle.scott_rules.specs.Rounds.{Answered, command_result, turn_ended, unknown_word, by_heard}
 use Rattle.scott_rules.specs.Laws.{WordNamesLeastMatch}
-use Rattle.trans_rows.specs.Standing.{Ready, StandsFor, HasLine}
-use Rattle.trans_rows.specs.Steps.{share, text_steps, reader_steps}
-use Rattle.trans_rows.specs.Calls.{StageLeft, CallEndsGame}
-use Rattle.trans_rows.specs.DataRows.{LightCounted}
-use Rattle.trans_rows.specs.WordRows.{verb_heard, noun_heard, WordSeen, WordsRead, Reads}
-use Rattle.trans_rows.specs.CommandRows.{command_steps, CommandReturns, CommandEnds}
-use Rattle.trans_turn.specs.Owed.{RoundParts}
+use Rattle.trans_specs.specs.Standing.{Ready, StandsFor, HasLine}
+use Rattle.trans_specs.specs.Steps.{share, text_steps, reader_steps}
+use Rattle.trans_specs.specs.Calls.{StageLeft, CallEndsGame}
+use Rattle.trans_specs.specs.DataSpecs.{LightCounted}
+use Rattle.trans_specs.specs.WordSpecs.{verb_heard, noun_heard, WordSeen, WordsRead, Reads}
+use Rattle.trans_specs.specs.CommandSpecs.{command_steps, CommandReturns, CommandEnds}
+use Rattle.trans_turn.specs.RoundSpecs.{RoundParts}
 use Rattle.trans_turn.proofs.Holding.{HasRound}
 use Rattle.trans_turn.proofs.Standing.{past_aside}
-use Rattle.trans_rows.proofs.Room.{one_less}
+use Rattle.trans_specs.proofs.Room.{one_less}
 use Rattle.trans_turn.proofs.Parts.{Went, went_on}
 use Rattle.trans_turn.proofs.Bytes.{word_there}
 use Rattle.trans_turn.proofs.SaidWord.{word_is_said}

@@ -20,9 +20,9 @@ use Rattle.inform_logic.proofs.Stops.{later, handed_up, read_waits, routine_stop
 use Rattle.inform_logic.proofs.Routines.{routine}
 use Rattle.scott_types.specs.declared.states.State.{State}
 use Rattle.scott_types.specs.Database.{Database}
-use Rattle.trans_rows.specs.Tables.{buffer_length}
-use Rattle.trans_rows.specs.Views.{Shows}
-use Rattle.trans_rows.specs.Standing.{Ready, LineSeen, HasLine}
+use Rattle.trans_specs.specs.Tables.{buffer_length}
+use Rattle.trans_specs.specs.Views.{Shows}
+use Rattle.trans_specs.specs.Standing.{Ready, LineSeen, HasLine}
 use Rattle.trans_turn.specs.declared.names.TheConstants.{ASK}
 use Rattle.trans_turn.specs.declared.codes.TheConstants.{ASKING}
 use Rattle.trans_turn.proofs.Holding.{written}

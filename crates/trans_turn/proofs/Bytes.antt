@@ -4,7 +4,7 @@ use Rattle.std.specs.List.{list_all}
 use Rattle.std.proofs.lemmas.Bool.{and_parts}
 use Rattle.std.proofs.lemmas.Option.{slice_get-map}
 use Rattle.adv_io.specs.TypedLine.{is_line_byte, IsTyped}
-use Rattle.trans_rows.specs.Views.{naturals}
+use Rattle.trans_specs.specs.Views.{naturals}
 
 -- ---- elements of a part of a list
 

@@ -15,10 +15,10 @@ use Rattle.scott_types.specs.declared.states.State.{State}
 use Rattle.scott_types.specs.Style.{Game}
 use Rattle.scott_rules.specs.Looking.{looked}
 use Rattle.scott_rules.specs.Rounds.{look_due}
-use Rattle.trans_rows.specs.Tables.{bit}
-use Rattle.trans_rows.specs.Standing.{StandsFor}
-use Rattle.trans_rows.specs.Steps.{text_steps}
-use Rattle.trans_rows.specs.DataRows.{text_room, LookRow}
+use Rattle.trans_specs.specs.Tables.{bit}
+use Rattle.trans_specs.specs.Standing.{StandsFor}
+use Rattle.trans_specs.specs.Steps.{text_steps}
+use Rattle.trans_specs.specs.DataSpecs.{text_room, LookSpec}
 use Rattle.trans_turn.specs.declared.names.TheConstants.{DESCRIBE}
 use Rattle.trans_turn.specs.declared.codes.TheConstants.{DESCRIBING}
 use Rattle.trans_turn.proofs.Holding.{written}
@@ -27,7 +27,7 @@ use Rattle.trans_turn.proofs.Holding.{written}
 abbrev pub described : Game → State → Stage → Stage
 described game s w = with_global (codes "redraw") (pos 0) (said (look_due game s) w)
 
-module _ (game : Game) (p : Program) (asked : ℕ) (looks : LookRow game p (codes "look"))
+module _ (game : Game) (p : Program) (asked : ℕ) (looks : LookSpec game p (codes "look"))
     (has : Has p (written asked DESCRIBE [] DESCRIBING)) where
   pub describes : (s : State) (noun : List ℕ) (w : Stage) (d : ℕ) → text_room ≤ d
       → StandsFor game.db s noun w

@@ -13,7 +13,7 @@ use Rattle.scott_types.specs.Database.{Database}
 use Rattle.scott_rules.specs.Words.{column_of, entries_of, which}
 use Rattle.scott_rules.specs.Commands.{is_space, Span, split, word_at, go_verb, is_direction, by_verb, by_direction, noun_named, first_word, heard_words, heard}
 use Rattle.scott_rules.specs.Laws.{EntryMatches, IsLeastMatch, WordNamesLeastMatch}
-use Rattle.trans_rows.specs.CommandRows.{IsNoun}
+use Rattle.trans_specs.specs.CommandSpecs.{IsNoun}
 
 -- ---- what can be heard, by the first word
 

@@ -8,7 +8,7 @@ use Rattle.inform_meaning.specs.Worlds.{Program}
 use Rattle.inform_logic.specs.Holding.{Has}
 use Rattle.inform_logic.proofs.Holding.{has}
 use Rattle.scott_types.specs.declared.endings.Position.{Position}
-use Rattle.trans_rows.specs.Programs.{Serves}
+use Rattle.trans_specs.specs.Programs.{Serves}
 use Rattle.trans_turn.specs.declared.names.TheConstants.{MAIN, ROUND, ADVANCE, DESCRIBE, ASK, ANSWER, SAY_WORD, ASKED, I}
 use Rattle.trans_turn.specs.declared.codes.TheConstants.{DESCRIBING, ADVANCING, ASKING, SAYING_WORD, ANSWERING, ROUNDING, PLAYING}
 use Rattle.trans_turn.specs.Routines.{turn_names, first_asked, rounds_asking, round_directives}

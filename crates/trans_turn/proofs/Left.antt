@@ -13,7 +13,7 @@ use Rattle.scott_types.specs.Style.{Game}
 use Rattle.scott_rules.specs.Rounds.{RoundEnd, advance, answer}
 use Rattle.scott_rules.specs.Play.{PlayEnd, with_line, go}
 use Rattle.scott_rules.specs.Laws.{PlayStops, PlaySpends}
-use Rattle.trans_rows.specs.Rounds.{round_goes_on, round_done, round}
+use Rattle.trans_specs.specs.Rounds.{round_goes_on, round_done, round}
 
 -- ---- lines
 

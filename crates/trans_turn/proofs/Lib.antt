@@ -10,6 +10,6 @@ pub mod Answered
 pub mod Advanced
 pub mod Left
 pub mod RoundRuns
-pub mod RoundRows
+pub mod RoundSpecs
 pub mod MainRuns
-pub mod TurnRows
+pub mod TurnSpecs

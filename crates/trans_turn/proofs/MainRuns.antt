@@ -37,21 +37,21 @@ use Rattle.scott_types.specs.Database.{Database}
 use Rattle.scott_types.specs.Style.{Game}
 use Rattle.scott_rules.specs.Play.{PlayEnd, go}
 use Rattle.scott_rules.specs.Laws.{WordNamesLeastMatch, PlaySpends, PlayStops}
-use Rattle.trans_rows.specs.Views.{Shows}
-use Rattle.trans_rows.specs.Standing.{StandsFor}
-use Rattle.trans_rows.specs.Steps.{highest, share, turn_share, round_steps, enough}
-use Rattle.trans_rows.specs.Rounds.{round, next_round}
-use Rattle.trans_rows.specs.Same.{EndsAlike}
-use Rattle.trans_rows.specs.TurnRows.{FairStage, RoundRow, RoundOutcome, RoundDone, MainPlays}
-use Rattle.trans_rows.specs.Owed.{TurnRows}
-use Rattle.trans_rows.specs.Laws.{PlaysAreRounds}
+use Rattle.trans_specs.specs.Views.{Shows}
+use Rattle.trans_specs.specs.Standing.{StandsFor}
+use Rattle.trans_specs.specs.Steps.{highest, share, turn_share, round_steps, enough}
+use Rattle.trans_specs.specs.Rounds.{round, next_round}
+use Rattle.trans_specs.specs.Same.{EndsAlike}
+use Rattle.trans_specs.specs.TurnSpecs.{FairStage, RoundSpec, RoundOutcome, RoundDone, MainPlays}
+use Rattle.trans_specs.specs.Meeting.{TurnSpecs}
+use Rattle.trans_specs.specs.Laws.{PlaysAreRounds}
 use Rattle.trans_turn.specs.declared.names.TheConstants.{MAIN}
 use Rattle.trans_turn.specs.declared.codes.TheConstants.{PLAYING}
-use Rattle.trans_turn.specs.Owed.{round_calls, IsOpening, RoundsOwe}
+use Rattle.trans_turn.specs.RoundSpecs.{round_calls, IsOpening, RoundsMeetSpecs}
 use Rattle.trans_turn.specs.Routines.{first_asked}
 use Rattle.trans_turn.proofs.Holding.{written, HasRound, has_round}
 use Rattle.trans_turn.proofs.Left.{LinesLeft, lines_left, line_is_taken, draws_left}
-use Rattle.trans_turn.proofs.RoundRows.{whole_round, rest_of_round_row}
+use Rattle.trans_turn.proofs.RoundSpecs.{whole_round, rest_of_round_spec}
 
 -- ---- steps
 
@@ -105,20 +105,6 @@ pub record PartPlays (p : Program) (part : Part) (scope : Scope) (w : Stage)
   pub shows : Shows t.value.state last
   pub past_is : last.past ≡ w.past ++ t.events
   pub ends : EndsAlike t.value.position stop (last.globals (codes "over"))
-
--- what a part stops with stops another one
-hands_up : {p : Program} {part whole : Part} {scope : Scope} {w : Stage} {t : Traced Step PlayEnd}
-    {n m : ℕ} → ((stop : Stop) (w' : Stage) → Stops p CALL_LIMIT part scope w stop w' n
-    → Stops p CALL_LIMIT whole scope w stop w' m)
-    → PartPlays p part scope w t n → PartPlays p whole scope w t m
-hands_up rule x = record {
-  stop = x.stop;
-  last = x.last;
-  stops = rule x.stop x.last x.stops;
-  shows = x.shows;
-  past_is = x.past_is;
-  ends = x.ends;
-}
 
 -- ---- a round, and then the others
 
@@ -174,7 +160,7 @@ abbrev play_loop : Loop
 play_loop = while_loop always (statements (whole_call ∷ []))
 
 module _ (spends : PlaySpends) (stops : PlayStops) (rounds : PlaysAreRounds) (game : Game)
-    (p : Program) (whole : RoundRow game p (codes "round") round_calls.whole Fresh) (scope : Scope)
+    (p : Program) (whole : RoundSpec game p (codes "round") round_calls.whole Fresh) (scope : Scope)
   where
     abbrev Plays : Part → Stage → State → ℕ → Type 0
     Plays part w s most = PartPlays p part scope w (go game Fresh s w.lines w.draws) most
@@ -336,9 +322,9 @@ abbrev main_routine : ℕ → RoutineTree
 main_routine asked = written asked MAIN [] PLAYING
 
 module _ (spends : PlaySpends) (stops : PlayStops) (rounds : PlaysAreRounds) (game : Game)
-    (p : Program) (whole : RoundRow game p (codes "round") round_calls.whole Fresh) (asked : ℕ)
+    (p : Program) (whole : RoundSpec game p (codes "round") round_calls.whole Fresh) (asked : ℕ)
     (small : asked < 32768) (has : Has p (main_routine asked)) (position : Position)
-    (first : RoundRow game p (codes "round") (pos asked ∷ []) position) where
+    (first : RoundSpec game p (codes "round") (pos asked ∷ []) position) where
   abbrev scope : Scope
   scope = main_scope (Some (routine_at has.at (main_routine asked)))
 
@@ -402,20 +388,20 @@ module _ (spends : PlaySpends) (stops : PlayStops) (rounds : PlaysAreRounds) (ga
       ends = plays.ends;
     }
 
--- where the routines of a round are there, and do what they owe
-pub rounds_owe : WordNamesLeastMatch → PlaySpends → PlayStops → PlaysAreRounds → RoundsOwe
-rounds_owe words spends stops rounds width game begin p opening translates serves parts = by begin
+-- where the routines of a round are there, and meet their specifications
+pub rounds_meet_specs : WordNamesLeastMatch → PlaySpends → PlayStops → PlaysAreRounds → RoundsMeetSpecs
+rounds_meet_specs words spends stops rounds width game begin p opening translates serves parts = by begin
     opening (has_round begin serves) where
       whole : (asked : ℕ) → HasRound p asked
-          → RoundRow game p (codes "round") round_calls.whole Fresh
+          → RoundSpec game p (codes "round") round_calls.whole Fresh
       whole asked has = whole_round words game p asked has parts
 
       rest : (asked : ℕ) → HasRound p asked
-          → RoundRow game p (codes "round") round_calls.rest Line
-      rest asked has = rest_of_round_row words game p asked has parts
+          → RoundSpec game p (codes "round") round_calls.rest Line
+      rest asked has = rest_of_round_spec words game p asked has parts
 
       by : (begin : Position) → IsOpening begin → HasRound p (first_asked begin)
-          → TurnRows game p round_calls begin
+          → TurnSpecs game p round_calls begin
       by Fresh opening has = record {
         whole_round = whole 0 has;
         rest_of_round = rest 0 has;

@@ -17,8 +17,8 @@ use Rattle.scott_types.specs.declared.endings.Position.{Position}
 use Rattle.scott_types.specs.declared.endings.Position.TheVariants.{Fresh, Draw, Line, Over}
 use Rattle.scott_types.specs.Database.{Database}
 use Rattle.scott_rules.specs.Play.{PlayEnd}
-use Rattle.trans_rows.specs.Views.{Shows}
-use Rattle.trans_rows.specs.TurnRows.{RoundLeaves, RoundOutcome}
+use Rattle.trans_specs.specs.Views.{Shows}
+use Rattle.trans_specs.specs.TurnSpecs.{RoundLeaves, RoundOutcome}
 
 -- these steps were done, no line and no draw was taken, and `over` is as it was
 pub record Went (w w' : Stage) (steps : List Step) : Type 0 where

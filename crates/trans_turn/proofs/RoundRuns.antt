@@ -29,11 +29,11 @@ use Rattle.scott_rules.specs.Commands.{heard}
 use Rattle.scott_rules.specs.Rounds.{Answered, by_heard}
 use Rattle.scott_rules.specs.Play.{PlayEnd}
 use Rattle.scott_rules.specs.Laws.{WordNamesLeastMatch}
-use Rattle.trans_rows.specs.Standing.{Ready, HasLine}
-use Rattle.trans_rows.specs.Steps.{share, text_steps, reader_steps}
-use Rattle.trans_rows.specs.Rounds.{round_goes_on, round_done, round}
-use Rattle.trans_rows.specs.CommandRows.{command_steps}
-use Rattle.trans_turn.specs.Owed.{RoundParts}
+use Rattle.trans_specs.specs.Standing.{Ready, HasLine}
+use Rattle.trans_specs.specs.Steps.{share, text_steps, reader_steps}
+use Rattle.trans_specs.specs.Rounds.{round_goes_on, round_done, round}
+use Rattle.trans_specs.specs.CommandSpecs.{command_steps}
+use Rattle.trans_turn.specs.RoundSpecs.{RoundParts}
 use Rattle.trans_turn.proofs.Holding.{HasRound}
 use Rattle.trans_turn.proofs.Parts.{PartOutcome, then_part}
 use Rattle.trans_turn.proofs.Asked.{LineAsked, LineAwaited, asks, awaits}

@@ -6,7 +6,7 @@ use Rattle.scott_types.specs.declared.states.State.{State}
 use Rattle.scott_types.specs.Database.{Database}
 use Rattle.scott_types.specs.State.{Fits}
 use Rattle.scott_rules.specs.Rounds.{unmarked}
-use Rattle.trans_rows.specs.Standing.{StandsFor}
+use Rattle.trans_specs.specs.Standing.{StandsFor}
 
 -- a state without its mark fits where the state does
 pub unmarked_fits : {db : Database} {s : State} → Fits db s → Fits db (unmarked s)

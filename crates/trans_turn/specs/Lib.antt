@@ -1,2 +1,2 @@
 pub mod Routines
-pub mod Owed
+pub mod RoundSpecs

@@ -2,7 +2,7 @@
 ghost use Rattle.std.specs.Prelude.{◌≡◌, [], ◌∷◌, IfOk, None, map};
 ghost use Rattle.inform_tree.specs.Programs.{directive_of};
 ghost use Rattle.inform_codes.specs.Routines.{rows_directives};
-ghost use Rattle.trans_rows.specs.Wide.{wide_at};
+ghost use Rattle.trans_specs.specs.Wide.{wide_at};
 ghost use Rattle.trans_turn.specs.Routines as s;
 ghost use Rattle.trans_turn.specs.Routines.{turn_names, first_asked, round_directives, turn_directives};
 

@@ -7,7 +7,7 @@ pub mod codes;
 mod emitting;
 pub mod names;
 
-// What they owe.
+// That they meet their specifications.
 pub mod laws;
 
 pub use emitting::turn;

@@ -18,7 +18,7 @@ use Rattle.scott_types.specs.Database.{Database}
 use Rattle.scott_types.specs.Limits.{KeepsLimits}
 use Rattle.scott_rules.specs.Words.{which}
 use Rattle.scott_rules.specs.Commands.{is_direction}
-use Rattle.trans_rows.specs.Tables.{or_zero}
+use Rattle.trans_specs.specs.Tables.{or_zero}
 use Rattle.trans_words.proofs.Trees.{name, is_way, word_array, base_array}
 use Rattle.trans_words.proofs.Pairs.{second_of_both, first_of_both}
 use Rattle.trans_words.proofs.Held.{HasReader}

@@ -24,7 +24,7 @@ use Rattle.scott_types.specs.Database.{Database}
 use Rattle.scott_types.specs.Limits.{KeepsLimits}
 use Rattle.scott_types.specs.ItemText.{is_starred}
 use Rattle.scott_rules.specs.Words.{is_typed, spelling, column_of, entries_of, entry_from, which}
-use Rattle.trans_rows.specs.Tables.{bit, or_zero, entry_letters, word_letters, bases_from, word_bases}
+use Rattle.trans_specs.specs.Tables.{bit, or_zero, entry_letters, word_letters, bases_from, word_bases}
 use Rattle.trans_words.proofs.Trees.{name, find_name, word_array, base_array, base_of, has_base, is_same, below_entries, find_loop}
 use Rattle.trans_words.proofs.Pairs.{first_of_both, second_of_either}
 use Rattle.trans_words.proofs.Held.{HasReader}
@@ -95,9 +95,105 @@ module _ (p : Program) (w : Stage) (b : ℕ) (ws : List ℕ) (typed : is_word (b
         some_bytes : nat_eq 0 (length word) ≡ false
         some_bytes = grind arith
 
+  -- ---- one entry, with the letters of it and of those after it
+
+  abbrev letters_of : List (List ℕ) → List ℕ
+  letters_of entries = flat_map (entry_letters size) entries ++ 0 ∷ []
+
+  module _ (k : ℕ) (text : List ℕ) (entries : List (List ℕ)) (less : k < length db.words)
+      (letters_here : drop (size * k) (word_letters db column)
+      ≡ entry_letters size text ++ letters_of entries) where
+    letters_after : drop (size * (k + 1)) (word_letters db column) ≡ letters_of entries
+    letters_after =
+        let next_row : size * (k + 1) ≡ size * k + size = omega arith in
+        ap (λ (n : ℕ). drop n (word_letters db column)) next_row
+        ∙ after_row (word_letters db column) (entry_letters size text) (letters_of entries)
+        (size * k) size letters_here (letters_long size text)
+
+    under : nat_lt k (length db.words) ≡ true
+    under = grind (arith, less)
+
+    counts_up : word_sum p.width (pos k) (pos 1) ≡ pos (k + 1)
+    counts_up = counted_up p.width k (omega (arith, less, small))
+
+    -- the base entry of this one is the nearest, or 0
+    abbrev HasNearest : Option ℕ → Type 0
+    HasNearest nearest = drop k (word_bases db column)
+        ≡ or_zero nearest ∷ (bases_from nearest (k + 1) entries ++ 0 ∷ [])
+
+    base_is : (nearest : Option ℕ) → HasNearest nearest → (i : ℕ)
+        → Evaluates p d (base_of column) (scope k i) w (pos (or_zero nearest)) w 0
+    base_is nearest left i = entry (local refl) tables.bases_are
+        (map_at_rest pos (word_bases db column) k left)
+
+    -- the letters of this entry are those of the word, or not
+    abbrev Comparison : Bool → Type 0
+    Comparison t = Stops p w word a has_word column size k (word_letters db column)
+        (letters_small db limits k less) tables.words_are d (has.find column).at t 0 (size + bit t)
+
+    comparison : ((i : ℕ) → Tests p d (has_base column) (scope k i) w true w 0)
+        → Comparison (is_typed size (spelling text) word)
+    comparison has_one = subst Comparison (agrees_is size some_letters b ws typed text)
+        (letters_stop p w word a has_word column size k (word_letters db column)
+        (letters_small db limits k less) tables.words_are d (has.find column).at has_one
+        (entry_letters size text) (letters_of entries) letters_here (letters_long size text))
+
+    -- from the next entry on, and from this one on
+    abbrev FindsAfter : Option ℕ → Type 0
+    FindsAfter o = Finds o (k + 1) (length entries * entry_steps size + 2)
+
+    abbrev FindsHere : Option ℕ → Type 0
+    FindsHere o = Finds o k (suc (length entries) * entry_steps size + 2)
+
+    -- no entry before it is a base entry, so no letter is compared
+    passed_by : HasNearest None → FindsAfter (entry_from size word None (k + 1) entries)
+        → FindsHere (entry_from size word None (k + 1) entries)
+    passed_by left after i = (
+      (after 0).0,
+      within (omega (arith, some_letters)) (for_once_more (fewer k i under)
+          (next (for (set_variable number refl) (for_ends (first_of_both
+          (compare (base_is None left 0) number refl))))
+          (next (if_false (not_empty k) end) end))
+          (increment refl counts_up) (after 0).1),
+    )
+
+    -- its letters are compared: its base entry is found, or the next entry is looked at
+    compared : (own : ℕ) → HasNearest (Some own) → (t : Bool) → Comparison t
+        → FindsAfter (entry_from size word (Some own) (k + 1) entries)
+        → FindsHere (if t && true then Some own
+        else entry_from size word (Some own) (k + 1) entries)
+    compared own left true ends after i = (
+      scope k ends.0,
+      within (omega arith) (loop_returns (fewer k i under) refl
+          (next (for (set_variable number refl) ends.1.0)
+          (returns (if_true ends.1.1 (returns (return (base_is (Some own) left ends.0))))))),
+    )
+    compared own left false ends after i = (
+      (after ends.0).0,
+      within (omega arith) (for_once_more (fewer k i under)
+          (next (for (set_variable number refl) ends.1.0) (next (if_false ends.1.1 end) end))
+          (increment refl counts_up) (after ends.0).1),
+    )
+
+    looked_at : (nearest : Option ℕ) → HasNearest nearest → IfSome nearest (λ n. 1 ≤ n)
+        → FindsAfter (entry_from size word nearest (k + 1) entries)
+        → FindsHere (if is_typed size (spelling text) word && is_some nearest then nearest
+        else entry_from size word nearest (k + 1) entries)
+    looked_at None left some after = subst
+        (λ (t : Bool). FindsHere (if t then None else entry_from size word None (k + 1) entries))
+        (sym (and-false (is_typed size (spelling text) word))) (passed_by left after)
+    looked_at (Some own) left some after =
+        compared own left (is_typed size (spelling text) word) (comparison has_one) after where
+          not_none : nat_eq own 0 ≡ false
+          not_none = grind (arith, some)
+
+          has_one : (i : ℕ) → Tests p d (has_base column) (scope k i) w true w 0
+          has_one i = compare (base_is (Some own) left i) number (ne_is own 0 ∙ ap not not_none)
+
+  -- ---- the entries that are left
+
   loop : (entries : List (List ℕ)) (base : Option ℕ) (k : ℕ)
-      → drop (size * k) (word_letters db column)
-      ≡ flat_map (entry_letters size) entries ++ 0 ∷ []
+      → drop (size * k) (word_letters db column) ≡ letters_of entries
       → drop k (word_bases db column) ≡ bases_from base k entries ++ 0 ∷ []
       → IfSome base (λ n. 1 ≤ n) → 1 ≤ k → k + length entries ≡ length db.words
       → Finds (entry_from size word base k entries) k (length entries * entry_steps size + 2)
@@ -106,10 +202,13 @@ module _ (p : Program) (w : Stage) (b : ℕ) (ws : List ℕ) (typed : is_word (b
         over : nat_lt k (length db.words) ≡ false
         over = grind (arith, all)
   loop (text ∷ entries) base k letters_left bases_left counted one all =
-      pick (if is_starred text then base else Some k) bases_left (still (is_starred text))
-      (loop entries (if is_starred text then base else Some k) (k + 1) letters_after
+      looked_at k text entries less letters_here nearest bases_left (still (is_starred text))
+      (loop entries nearest (k + 1) (letters_after k text entries less letters_here)
       (after_rest (word_bases db column) k bases_left) (still (is_starred text)) (omega arith)
       (omega (arith, all))) where
+        nearest : Option ℕ
+        nearest = if is_starred text then base else Some k
+
         still : (t : Bool) → IfSome (if t then base else Some k) (λ n. 1 ≤ n)
         still true = counted
         still false = one
@@ -117,93 +216,10 @@ module _ (p : Program) (w : Stage) (b : ℕ) (ws : List ℕ) (typed : is_word (b
         less : k < length db.words
         less = omega (arith, all)
 
-        rest : List ℕ
-        rest = flat_map (entry_letters size) entries ++ 0 ∷ []
-
-        letters_here : drop (size * k) (word_letters db column) ≡ entry_letters size text ++ rest
+        letters_here : drop (size * k) (word_letters db column)
+            ≡ entry_letters size text ++ letters_of entries
         letters_here = letters_left ∙ append_assoc (entry_letters size text)
             (flat_map (entry_letters size) entries) (0 ∷ [])
-
-        letters_after : drop (size * (k + 1)) (word_letters db column) ≡ rest
-        letters_after =
-            let next_row : size * (k + 1) ≡ size * k + size = omega arith in
-            ap (λ (n : ℕ). drop n (word_letters db column)) next_row
-            ∙ after_row (word_letters db column) (entry_letters size text) rest (size * k) size
-            letters_here (letters_long size text)
-
-        under : nat_lt k (length db.words) ≡ true
-        under = grind (arith, less)
-
-        count : ℕ
-        count = length entries
-
-        counts_up : word_sum p.width (pos k) (pos 1) ≡ pos (k + 1)
-        counts_up = counted_up p.width k (omega (arith, less, small))
-
-        Left : Option ℕ → Type 0
-        Left nearest = drop k (word_bases db column)
-            ≡ or_zero nearest ∷ (bases_from nearest (k + 1) entries ++ 0 ∷ [])
-
-        -- the base entry of this one, or 0
-        base_is : (nearest : Option ℕ) → Left nearest → (i : ℕ)
-            → Evaluates p d (base_of column) (scope k i) w (pos (or_zero nearest)) w 0
-        base_is nearest left i = entry (local refl) tables.bases_are
-            (map_at_rest pos (word_bases db column) k left)
-
-        -- the letters of this entry are those of the word, or not
-        Comparison : Bool → Type 0
-        Comparison t = Stops p w word a has_word column size k (word_letters db column)
-            (letters_small db limits k less) tables.words_are d (has.find column).at t 0
-            (size + bit t)
-
-        comparison : ((i : ℕ) → Tests p d (has_base column) (scope k i) w true w 0)
-            → Comparison (is_typed size (spelling text) word)
-        comparison has_one = subst Comparison
-            (agrees_is size some_letters b ws typed text)
-            (letters_stop p w word a has_word column size k (word_letters db column)
-            (letters_small db limits k less) tables.words_are d (has.find column).at has_one
-            (entry_letters size text) rest letters_here (letters_long size text))
-
-        pick : (nearest : Option ℕ) → Left nearest → IfSome nearest (λ n. 1 ≤ n)
-            → Finds (entry_from size word nearest (k + 1) entries) (k + 1)
-            (count * entry_steps size + 2)
-            → Finds (if is_typed size (spelling text) word && is_some nearest then nearest
-            else entry_from size word nearest (k + 1) entries) k (suc count * entry_steps size + 2)
-        pick None left some after = subst
-            (λ (t : Bool). Finds (if t then None else entry_from size word None (k + 1) entries) k
-            (suc count * entry_steps size + 2))
-            (sym (and-false (is_typed size (spelling text) word)))
-            (λ i. (
-              (after 0).0,
-              within (omega (arith, some_letters)) (for_once_more (fewer k i under)
-                  (next (for (set_variable number refl) (for_ends (first_of_both
-                  (compare (base_is None left 0) number refl))))
-                  (next (if_false (not_empty k) end) end))
-                  (increment refl counts_up) (after 0).1),
-            ))
-        pick (Some own) left some after = from (is_typed size (spelling text) word)
-            (comparison (λ i. compare (base_is (Some own) left i) number
-            (ne_is own 0 ∙ ap not not_none))) where
-              not_none : nat_eq own 0 ≡ false
-              not_none = grind (arith, some)
-
-              from : (t : Bool) → Comparison t → Finds (if t && true then Some own
-                  else entry_from size word (Some own) (k + 1) entries) k
-                  (suc count * entry_steps size + 2)
-              from true ends = λ i. (
-                scope k ends.0,
-                within (omega arith) (loop_returns (fewer k i under) refl
-                    (next (for (set_variable number refl) ends.1.0)
-                    (returns (if_true ends.1.1
-                    (returns (return (base_is (Some own) left ends.0))))))),
-              )
-              from false ends = λ i. (
-                (after ends.0).0,
-                within (omega arith) (for_once_more (fewer k i under)
-                    (next (for (set_variable number refl) ends.1.0)
-                    (next (if_false ends.1.1 end) end))
-                    (increment refl counts_up) (after ends.0).1),
-              )
 
   find_some : Does p (suc d) (find_name column) (pos a ∷ pos (length word) ∷ []) w
       (pos (or_zero (which db column word))) w (find_steps size (length db.words))

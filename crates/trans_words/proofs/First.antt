@@ -22,8 +22,8 @@ use Rattle.scott_types.specs.Database.{Database}
 use Rattle.scott_types.specs.Limits.{KeepsLimits}
 use Rattle.scott_rules.specs.Words.{column_of, entries_of, which}
 use Rattle.scott_rules.specs.Commands.{whole_word}
-use Rattle.trans_rows.specs.Tables.{or_zero}
-use Rattle.trans_rows.proofs.Bounds.{below_entry}
+use Rattle.trans_specs.specs.Tables.{or_zero}
+use Rattle.trans_specs.proofs.Bounds.{below_entry}
 use Rattle.trans_words.proofs.Trees.{name, byte, find_name, first_name, word_array, base_array, letter_case, letter_cases, is_letter}
 use Rattle.trans_words.proofs.Pairs.{second_of_both, first_of_both}
 use Rattle.trans_words.proofs.Held.{word_number, HasReader}

@@ -10,7 +10,7 @@ use Rattle.scott_types.specs.declared.commands.Column.TheVariants.{Verbs, Nouns}
 use Rattle.scott_types.specs.Database.{Database}
 use Rattle.scott_types.specs.Limits.{KeepsLimits}
 use Rattle.scott_rules.specs.Words.{which}
-use Rattle.trans_rows.specs.Tables.{or_zero}
+use Rattle.trans_specs.specs.Tables.{or_zero}
 use Rattle.trans_words.specs.Laws.{ReaderIsFormed}
 use Rattle.trans_words.specs.Directives.{line_directives, column_names, column_rows, column_directives}
 use Rattle.trans_words.proofs.Tables.{few_words}

@@ -12,8 +12,8 @@ use Rattle.scott_types.specs.Limits.{KeepsLimits}
 use Rattle.scott_types.specs.ItemText.{is_starred}
 use Rattle.scott_rules.specs.Words.{is_typed, spelling, entries_of, entry_from, which}
 use Rattle.scott_rules.specs.Commands.{Span, span_of, split, is_direction, whole_word, noun_named, first_word, by_verb, by_direction, heard_words, heard}
-use Rattle.trans_rows.specs.Tables.{or_zero}
-use Rattle.trans_rows.specs.WordRows.{verb_heard, noun_heard}
+use Rattle.trans_specs.specs.Tables.{or_zero}
+use Rattle.trans_specs.specs.WordSpecs.{verb_heard, noun_heard}
 use Rattle.trans_words.proofs.Splitting.{start, size, later, later_size, word, noun, first_is, second_is, is_zero}
 use Rattle.trans_words.proofs.Tables.{nothing_named}
 use Rattle.trans_words.proofs.First.{spoken}

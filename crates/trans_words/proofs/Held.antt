@@ -10,8 +10,8 @@ use Rattle.inform_logic.specs.Holding.{Held, Holds, Has}
 use Rattle.scott_types.specs.declared.commands.Column.{Column}
 use Rattle.scott_types.specs.declared.commands.Column.TheVariants.{Verbs, Nouns}
 use Rattle.scott_types.specs.Database.{Database}
-use Rattle.trans_rows.specs.Names.{line_number}
-use Rattle.trans_rows.specs.Programs.{Serves}
+use Rattle.trans_specs.specs.Names.{line_number}
+use Rattle.trans_specs.specs.Programs.{Serves}
 use Rattle.trans_words.specs.Directives.{numbers, column_directives, word_directives}
 use Rattle.trans_words.proofs.Trees.{after_routine, find_routine, first_routine, heard_verb_routine, heard_noun_routine, hear_routine}
 

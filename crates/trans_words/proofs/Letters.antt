@@ -12,8 +12,8 @@ use Rattle.inform_logic.proofs.Changes.{increment}
 use Rattle.inform_logic.proofs.Statements.{end}
 use Rattle.inform_logic.proofs.Loops.{for_once_more, for_ends}
 use Rattle.scott_types.specs.declared.commands.Column.{Column}
-use Rattle.trans_rows.specs.Tables.{bit}
-use Rattle.trans_rows.specs.Views.{naturals}
+use Rattle.trans_specs.specs.Tables.{bit}
+use Rattle.trans_specs.specs.Views.{naturals}
 use Rattle.trans_words.proofs.Trees.{word_array, has_base, entry_letter, below_size, goes_on, letters_loop, at_size, is_same}
 use Rattle.trans_words.proofs.Pairs.{second_of_both, first_of_both, second_of_either, first_of_either}
 use Rattle.trans_words.proofs.Matching.{agree}

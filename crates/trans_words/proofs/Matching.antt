@@ -9,8 +9,8 @@ use Rattle.inform_logic.specs.Stages.{plus}
 use Rattle.inform_logic.proofs.Steps.{plus_is}
 use Rattle.scott_rules.specs.Words.{is_typed, spelling}
 use Rattle.scott_vocab.specs.Keys.{letters}
-use Rattle.trans_rows.specs.Tables.{filled_up, printed_letters, entry_letters}
-use Rattle.trans_rows.specs.Standing.{IsPrintable}
+use Rattle.trans_specs.specs.Tables.{filled_up, printed_letters, entry_letters}
+use Rattle.trans_specs.specs.Standing.{IsPrintable}
 
 -- a printable byte that is no capital letter
 abbrev pub is_word_byte : ℕ → Bool

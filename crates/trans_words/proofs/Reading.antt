@@ -18,10 +18,10 @@ use Rattle.scott_types.specs.Database.{Database}
 use Rattle.scott_types.specs.Limits.{KeepsLimits}
 use Rattle.scott_rules.specs.Words.{which}
 use Rattle.scott_rules.specs.Commands.{Span, is_space, span_of}
-use Rattle.trans_rows.specs.Tables.{or_zero}
-use Rattle.trans_rows.specs.Steps.{highest, reader_steps}
-use Rattle.trans_rows.specs.Standing.{HasTables, StandsFor, Ready, HasLine}
-use Rattle.trans_rows.specs.WordRows.{WordSeen, WordsRead, Reads}
+use Rattle.trans_specs.specs.Tables.{or_zero}
+use Rattle.trans_specs.specs.Steps.{highest, reader_steps}
+use Rattle.trans_specs.specs.Standing.{HasTables, StandsFor, Ready, HasLine}
+use Rattle.trans_specs.specs.WordSpecs.{WordSeen, WordsRead, Reads}
 use Rattle.trans_words.specs.Laws.{LinesAreHeard}
 use Rattle.trans_words.proofs.Trees.{word_array, base_array}
 use Rattle.trans_words.proofs.Held.{HasReader, has_reader}

@@ -2,8 +2,8 @@
 use Rattle.std.proofs.Common.{◌≡◌, ◌∙◌, arith, ℕ, zero, suc, ◌+◌, ◌≤◌, ℤ, pos, List, [], ◌∷◌, ◌++◌, length, take, drop, slice_get, Option, Some, refl, sym, ap, append_assoc, drop-drop, zero-add}
 use Rattle.std.proofs.lemmas.List.{map-append, length-map, take-append-drop}
 use Rattle.std.proofs.Math.Seq.{take-append_seam}
-use Rattle.trans_rows.specs.Views.{naturals}
-use Rattle.trans_rows.specs.Standing.{BytesAt}
+use Rattle.trans_specs.specs.Views.{naturals}
+use Rattle.trans_specs.specs.Standing.{BytesAt}
 
 -- these bytes stand among the entries from this one on, and then there are others
 pub record Stands (bytes : List ℕ) (at : ℕ) (all : List ℤ) : Type 0 where

@@ -8,9 +8,9 @@ use Rattle.scott_types.specs.Database.{Database}
 use Rattle.scott_types.specs.Limits.{KeepsLimits}
 use Rattle.scott_types.specs.ItemText.{is_starred}
 use Rattle.scott_rules.specs.Words.{is_typed, spelling, entries_of, entry_from, which}
-use Rattle.trans_rows.specs.Tables.{guarded, entry_letters, word_letters, bases, bases_from, word_bases}
-use Rattle.trans_rows.specs.Views.{naturals}
-use Rattle.trans_rows.proofs.Lengths.{there, few}
+use Rattle.trans_specs.specs.Tables.{guarded, entry_letters, word_letters, bases, bases_from, word_bases}
+use Rattle.trans_specs.specs.Views.{naturals}
+use Rattle.trans_specs.proofs.Lengths.{there, few}
 use Rattle.trans_words.proofs.Matching.{letters_long}
 
 -- ---- a database that keeps its limits

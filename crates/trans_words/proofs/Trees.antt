@@ -10,7 +10,7 @@ use Rattle.inform_tree.specs.Values.{Expression}
 use Rattle.inform_tree.specs.Conditions as c
 use Rattle.inform_tree.specs.Conditions.{Condition}
 use Rattle.inform_tree.specs.Statements as s
-use Rattle.inform_tree.specs.Statements.{Statement, Statements, Cases, statements}
+use Rattle.inform_tree.specs.Statements.{Statement, Cases, statements}
 use Rattle.inform_tree.specs.Programs.{RoutineTree}
 use Rattle.inform_meaning.specs.Frames.{Loop}
 use Rattle.inform_meaning.specs.Statements.{while_loop, for_loop}

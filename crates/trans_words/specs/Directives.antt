@@ -6,7 +6,7 @@ use Rattle.scott_types.specs.declared.commands.Column.{Column}
 use Rattle.scott_types.specs.declared.commands.Column.TheVariants.{Verbs, Nouns}
 use Rattle.scott_types.specs.Database.{Database}
 use Rattle.scott_rules.specs.Words.{which}
-use Rattle.trans_rows.specs.Tables.{or_zero}
+use Rattle.trans_specs.specs.Tables.{or_zero}
 use Rattle.trans_words.specs.declared.lines.TheConstants.{NAMES, ROUTINES as LINE_ROUTINES}
 use Rattle.trans_words.specs.declared.columns.TheConstants.{VERB_NAMES, NOUN_NAMES, ROUTINES as COLUMN_ROUTINES}
 

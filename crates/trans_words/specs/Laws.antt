@@ -3,15 +3,15 @@ use Rattle.std.specs.Prelude.{◌≡◌, ℕ, true, List, [], ◌∷◌, codes}
 use Rattle.inform_tree.specs.Formed.{is_well_formed}
 use Rattle.scott_types.specs.Database.{Database}
 use Rattle.scott_types.specs.Limits.{KeepsLimits}
-use Rattle.trans_rows.specs.Programs.{IsOther}
-use Rattle.trans_rows.specs.Owed.{WordsOwe}
-use Rattle.trans_rows.specs.Shaped.{program_calls}
+use Rattle.trans_specs.specs.Programs.{IsOther}
+use Rattle.trans_specs.specs.Meeting.{MeetReaderSpec}
+use Rattle.trans_specs.specs.Shaped.{program_calls}
 use Rattle.trans_words.specs.Directives.{word_directives}
 
 -- `hear()` finds in a typed line what the rules hear, in every program that has these directives
 -- and the tables of the database.
 abbrev pub LinesAreHeard : Type 0
-LinesAreHeard = (db : Database) → WordsOwe db (word_directives db) (codes "hear")
+LinesAreHeard = (db : Database) → MeetReaderSpec db (word_directives db) (codes "hear")
 
 -- The directives of a database that keeps its limits have a text.
 abbrev pub ReaderIsFormed : Type 0

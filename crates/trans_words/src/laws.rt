@@ -4,7 +4,7 @@ ghost use Rattle.trans_words.specs.Laws.{LinesAreHeard, ReaderIsFormed, ReaderCa
 ghost use Rattle.trans_words.specs.Worked.{HillNumbers};
 
 /// The reader finds in a typed line what the rules hear.
-pub fn words_owe()
+pub fn words_meet_spec()
     ensures { LinesAreHeard }
 {}
 

@@ -8,9 +8,9 @@ mod lines;
 mod columns;
 
 // The directives.
-mod directives;
+mod emitting;
 
 // Laws.
 pub mod laws;
 
-pub use directives::words;
+pub use emitting::words;

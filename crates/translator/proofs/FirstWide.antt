@@ -6,7 +6,7 @@ use Rattle.std.proofs.lemmas.List.Folds.{find-append}
 use Rattle.inform_tree.specs.declared.widths.Width.{Width}
 use Rattle.scott_types.specs.declared.parts.Action.{Action}
 use Rattle.scott_types.specs.Database.{Database}
-use Rattle.trans_rows.specs.Wide.{is_too_wide, placed_header, placed_action, placed_actions, wide_at}
+use Rattle.trans_specs.specs.Wide.{is_too_wide, placed_header, placed_action, placed_actions, wide_at}
 use Rattle.translator.specs.LineByLine.{wide_in_header, wide_in_line, wide_in_lines, wide_in_game}
 
 lines_are : (width : Width) (k : ℕ) (actions : List Action)

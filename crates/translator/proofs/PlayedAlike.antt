@@ -16,24 +16,24 @@ use Rattle.scott_types.specs.Database.{Database}
 use Rattle.scott_types.specs.State.{Fits}
 use Rattle.scott_types.specs.Style.{in_style}
 use Rattle.scott_rules.specs.Play.{PlayEnd, go}
-use Rattle.trans_rows.specs.Names.{message_name, line_number, line_notes}
-use Rattle.trans_rows.specs.Directives.{data_directives}
-use Rattle.trans_rows.specs.Programs.{HasRoutine, Serves}
-use Rattle.trans_rows.specs.ActionRows.{LineRow}
-use Rattle.trans_rows.specs.TurnRows.{MainRow}
-use Rattle.trans_rows.specs.Owed.{Translates}
-use Rattle.trans_rows.specs.Same.{Same}
-use Rattle.trans_rows.specs.Faithful.{opening_state, opening_position, AlwaysAlike}
-use Rattle.trans_rows.specs.Wholes.{NotedAlike, MainIsEnough}
+use Rattle.trans_specs.specs.Names.{message_name, line_number, line_notes}
+use Rattle.trans_specs.specs.Directives.{data_directives}
+use Rattle.trans_specs.specs.Programs.{HasRoutine, Serves}
+use Rattle.trans_specs.specs.ActionSpecs.{LineSpec}
+use Rattle.trans_specs.specs.TurnSpecs.{MainSpec}
+use Rattle.trans_specs.specs.Meeting.{Translates}
+use Rattle.trans_specs.specs.Same.{Same}
+use Rattle.trans_specs.specs.Faithful.{opening_state, opening_position, AlwaysAlike}
+use Rattle.trans_specs.specs.Wholes.{NotedAlike, MainIsEnough}
 use Rattle.trans_data.specs.Routines.{fixed_directives}
-use Rattle.trans_data.specs.Laws.{HelpersOwe, DataOwes}
+use Rattle.trans_data.specs.Laws.{HelpersMeetSpecs, DataMeetsSpecs}
 use Rattle.trans_data.specs.Texts.{message_directives, spoken_directives, text_directives}
 use Rattle.trans_words.specs.Directives.{word_directives}
 use Rattle.trans_words.specs.Laws.{LinesAreHeard}
 use Rattle.trans_actions.specs.Directives.{action_directives}
-use Rattle.trans_actions.specs.Laws.{HasMessages, LinesOwe}
+use Rattle.trans_actions.specs.Laws.{HasMessages, LinesMeetSpecs}
 use Rattle.trans_turn.specs.Routines.{turn_directives}
-use Rattle.trans_turn.specs.Owed.{IsOpening, TurnOwesAll}
+use Rattle.trans_turn.specs.RoundSpecs.{IsOpening, TurnMeetsSpecs}
 use Rattle.trans_programs.specs.Programs.{playing_routines, game_routines, game_program}
 use Rattle.trans_programs.specs.Laws.{ProgramsAreDistinct, ProgramsAreAccepted, ProgramsAreShaped}
 use Rattle.translator.specs.Laws.{ProgramsAreFaithful}
@@ -85,8 +85,8 @@ without_notes play r r' alike same = subst (Same play) (sym alike.is) (record {
 -- ---- all of it
 
 module _ (holds : ProgramHolds) (notes : NotesCountForNothing) (entries : EnteredAreNoted)
-    (main : MainIsEnough) (texts : DataOwes) (helpers : HelpersOwe) (lines_law : LinesOwe)
-    (turns : TurnOwesAll) (words : LinesAreHeard) (distinct : ProgramsAreDistinct)
+    (main : MainIsEnough) (texts : DataMeetsSpecs) (helpers : HelpersMeetSpecs) (lines_law : LinesMeetSpecs)
+    (turns : TurnMeetsSpecs) (words : LinesAreHeard) (distinct : ProgramsAreDistinct)
     (style : Style) (width : Width) (db : Database) (from : Option State)
     (translates : Translates width db) (fits : Fits db (opening_state db from)) where
   abbrev ds : List DirectiveTree
@@ -134,13 +134,13 @@ module _ (holds : ProgramHolds) (notes : NotesCountForNothing) (entries : Entere
       subst (λ n. HasRoutine p (message_name n)) at (message_held p 0 db.messages
       (holds_rest p (fixed_directives style db) (spoken_directives style db) of_texts).1.1 m less)
 
-  lines_do : LineRow (in_style style db) p
+  lines_do : LineSpec (in_style style db) p
   lines_do = let said = serves (text_directives style db) of_texts in
       lines_law style width db p translates (serves (action_directives style db) of_lines)
       (helpers style width db p translates said) (texts style width db p translates said)
       has_messages
 
-  main_does : MainRow (in_style style db) p (opening_position from)
+  main_does : MainSpec (in_style style db) p (opening_position from)
   main_does = (turns style width db (opening_position from) (opens from) p translates
       (serves (text_directives style db ++ turning)
       (both_hold p (text_directives style db) turning of_texts of_turn)) lines_do
@@ -162,7 +162,7 @@ module _ (holds : ProgramHolds) (notes : NotesCountForNothing) (entries : Entere
       }
 
 pub programs_are_faithful : ProgramHolds → NotesCountForNothing → EnteredAreNoted → MainIsEnough
-    → DataOwes → HelpersOwe → LinesOwe → TurnOwesAll → LinesAreHeard → ProgramsAreDistinct
+    → DataMeetsSpecs → HelpersMeetSpecs → LinesMeetSpecs → TurnMeetsSpecs → LinesAreHeard → ProgramsAreDistinct
     → ProgramsAreAccepted → ProgramsAreShaped → ProgramsAreFaithful
 programs_are_faithful holds notes entries main texts helpers lines turns words distinct accepted
     shaped style width db from translates fits = record {

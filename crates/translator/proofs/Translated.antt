@@ -8,8 +8,8 @@ use Rattle.scott_types.specs.declared.states.State.{State}
 use Rattle.scott_types.specs.declared.styles.Style.{Style}
 use Rattle.scott_types.specs.Database.{Database}
 use Rattle.scott_types.specs.State.{Fits}
-use Rattle.trans_rows.specs.Owed.{Translates}
-use Rattle.trans_rows.specs.Faithful.{opening_state}
+use Rattle.trans_specs.specs.Meeting.{Translates}
+use Rattle.trans_specs.specs.Faithful.{opening_state}
 use Rattle.trans_programs.specs.Programs.{game_program}
 use Rattle.translator.specs.Faithful.{Faithful}
 use Rattle.translator.specs.Laws.{ProgramsAreFaithful}

@@ -1,6 +1,6 @@
 -- What the answer of a translation says was refused.
 use Rattle.std.specs.Prelude.{Option, Some, None, Result, Ok, Err}
-use Rattle.trans_rows.specs.Wide.{Placed}
+use Rattle.trans_specs.specs.Wide.{Placed}
 use Rattle.translator.specs.declared.faults.TransFault.{TransFault}
 use Rattle.translator.specs.declared.faults.TransFault.TheVariants.{Wide, Memory}
 

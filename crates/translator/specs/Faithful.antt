@@ -6,7 +6,7 @@ use Rattle.inform_texts.specs.Texts.{ProgramText}
 use Rattle.scott_types.specs.declared.states.State.{State}
 use Rattle.scott_types.specs.declared.styles.Style.{Style}
 use Rattle.scott_types.specs.Database.{Database}
-use Rattle.trans_rows.specs.Faithful.{FaithfulProgram}
+use Rattle.trans_specs.specs.Faithful.{FaithfulProgram}
 
 -- A text is faithful to a database in a style, at a width, from where it opens, where it is the
 -- text of a program that is. A text has one program at most, so it is the program of the text.

@@ -2,8 +2,8 @@
 -- `line 3 condition 2 is 32768, outside 16 bits`.
 use Rattle.std.specs.Prelude.{ℕ, List, [], ◌∷◌, codes, decimal}
 use Rattle.std.specs.Fmt.{signed_decimal}
-use Rattle.trans_rows.specs.declared.places.Place.{Place}
-use Rattle.trans_rows.specs.declared.places.Place.TheVariants.{Carry, Treasures, Light, Home, Verb, Condition, Opcode}
+use Rattle.trans_specs.specs.declared.places.Place.{Place}
+use Rattle.trans_specs.specs.declared.places.Place.TheVariants.{Carry, Treasures, Light, Home, Verb, Condition, Opcode}
 use Rattle.translator.specs.declared.faults.TransFault.{TransFault}
 use Rattle.translator.specs.declared.faults.TransFault.TheVariants.{Wide, Memory}
 

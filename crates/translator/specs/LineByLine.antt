@@ -5,7 +5,7 @@ use Rattle.inform_tree.specs.declared.widths.Width.{Width}
 use Rattle.scott_types.specs.declared.parts.Action.{Action}
 use Rattle.scott_types.specs.declared.parts.Header.{Header}
 use Rattle.scott_types.specs.Database.{Database}
-use Rattle.trans_rows.specs.Wide.{Placed, placed_header, placed_action, is_too_wide}
+use Rattle.trans_specs.specs.Wide.{Placed, placed_header, placed_action, is_too_wide}
 
 -- of the header, and of line k
 unfoldable pub wide_in_header : Width → Header → Option Placed

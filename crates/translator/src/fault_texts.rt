@@ -4,7 +4,7 @@ ghost use Rattle.translator.specs.FaultTexts.{place_opening, place_line, place_p
 
 use crate::faults::TransFault;
 use itoa::Buffer;
-use trans_rows::Place;
+use trans_specs::Place;
 
 #[tactic(auto, unfolding(crate::specs::FaultTexts::place_opening))]
 fn place_opening<'a>(place: Place) -> &'a [u8]

@@ -1,5 +1,5 @@
 //! Why a database isn't translated.
-use trans_rows::Place;
+use trans_specs::Place;
 
 /// A number that is too wide, or want of memory.
 #[derive(Clone, Copy, Debug, PartialEq, Eq)]

@@ -2,8 +2,8 @@
 ghost use Rattle.std.specs.Prelude.{◌≡◌, None, IfOk, IfSome, option_map};
 ghost use Rattle.scott_types.specs.Limits.{KeepsLimits};
 ghost use Rattle.scott_types.specs.State.{Fits};
-ghost use Rattle.trans_rows.specs.Faithful.{opening_state};
-ghost use Rattle.trans_rows.specs.Wide as w;
+ghost use Rattle.trans_specs.specs.Faithful.{opening_state};
+ghost use Rattle.trans_specs.specs.Wide as w;
 ghost use Rattle.translator.specs.Answers.{refused};
 ghost use Rattle.translator.specs.Faithful.{Faithful};
 

@@ -1,12 +1,12 @@
 //! Numbers that are too wide for the words of a translated game.
 ghost use Rattle.std.specs.Prelude.{◌≡◌, ◌+◌, ◌<◌, length, find};
-ghost use Rattle.trans_rows.specs.Wide.{is_word_of, is_too_wide, wide_at};
+ghost use Rattle.trans_specs.specs.Wide.{is_word_of, is_too_wide, wide_at};
 ghost use Rattle.translator.specs.LineByLine as l;
 
 use inform_tree::Width;
 use scott_types::Db;
 use scott_types::parts::{Action, Header};
-use trans_rows::Place;
+use trans_specs::Place;
 
 // Whether a number is a word of this width.
 fn is_word(width: Width, value: i64) -> bool

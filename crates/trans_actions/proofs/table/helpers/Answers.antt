@@ -1,7 +1,7 @@
-use Rattle.std.proofs.Common.{◌≡◌, ◌∙◌, IfOk, map, List, subst, ap}
+use Rattle.std.proofs.Common.{◌≡◌, ◌∙◌, IfOk, map, subst, ap}
 use Rattle.inform_tree.specs.Programs.{directive_of}
 use Rattle.inform_codes.specs.Routines.{Row, rows_directives}
-use Rattle.trans_actions.specs.Names.{action_names, numbers}
+use Rattle.trans_actions.specs.Names.{numbers}
 use Rattle.trans_actions.specs.Helpers.{helper_rows}
 use Rattle.trans_actions.proofs.table.helpers.Goals as goal
 

@@ -1,7 +1,7 @@
 use Rattle.std.proofs.Common.{◌≡◌, ◌++◌, drop, map}
 use Rattle.scott_types.specs.declared.commands.Column.TheVariants.{Nouns}
 use Rattle.scott_rules.specs.Words.{column_of}
-use Rattle.trans_rows.specs.Tables.{class_of_noun}
+use Rattle.trans_specs.specs.Tables.{class_of_noun}
 use Rattle.trans_data.proofs.classes.with_classes.Given as goal
 
 -- the classes of the nouns before, and of those to come, are all

@@ -1,5 +1,5 @@
 use Rattle.std.proofs.Common.{◌≡◌, ◌++◌, drop, map}
-use Rattle.trans_rows.specs.Directives.{written}
+use Rattle.trans_specs.specs.Directives.{written}
 use Rattle.trans_data.proofs.entries.written_entries.Given as goal
 
 -- what was made of those before, and what is to be made of those to come, are all

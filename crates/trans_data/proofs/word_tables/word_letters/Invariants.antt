@@ -1,6 +1,6 @@
 use Rattle.std.proofs.Common.{◌≡◌, ◌++◌, drop, map, flat_map}
 use Rattle.scott_rules.specs.Words.{column_of, entries_of}
-use Rattle.trans_rows.specs.Tables.{entry_letters}
+use Rattle.trans_specs.specs.Tables.{entry_letters}
 use Rattle.trans_data.proofs.word_tables.word_letters.Given as goal
 
 -- the letters of the entries before, and of those to come, are all

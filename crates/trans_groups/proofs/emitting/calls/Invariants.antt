@@ -1,7 +1,7 @@
 use Rattle.std.proofs.Common.{◌≡◌, [], ◌++◌, drop, map}
 use Rattle.inform_tree.specs.Statements.{statement_of}
-use Rattle.trans_rows.specs.Names.{line_name}
-use Rattle.trans_rows.specs.Lines.{call_statement}
+use Rattle.trans_specs.specs.Names.{line_name}
+use Rattle.trans_specs.specs.Lines.{call_statement}
 use Rattle.trans_groups.proofs.emitting.calls.Given as goal
 
 -- the calls so far, and those of the lines to come, are all of them

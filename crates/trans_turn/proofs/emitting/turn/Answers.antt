@@ -2,7 +2,7 @@ use Rattle.inform_tree.specs.Programs.{directive_of}
 use Rattle.trans_commands.specs.Directives.{command_directives}
 use Rattle.trans_groups.specs.Trying.{trying_directives}
 use Rattle.trans_turn.specs.Routines.{round_directives}
-use Rattle.trans_turn.proofs.TurnRows.{turn_then}
+use Rattle.trans_turn.proofs.TurnSpecs.{turn_then}
 use Rattle.trans_turn.proofs.emitting.turn.Goals as goal
 
 -- src/emitting.rt

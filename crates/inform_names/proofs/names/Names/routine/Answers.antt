@@ -1,7 +1,7 @@
 use Rattle.std.proofs.Common.{◌≡◌, Some, rules}
 use Rattle.std.specs.Prelude.{slice_get}
 use Rattle.inform_tree.specs.Programs as d
-use Rattle.inform_tree.specs.Programs.{directive_of, routine_of}
+use Rattle.inform_tree.specs.Programs.{routine_of}
 use Rattle.inform_names.specs.Views.{directives_of}
 use Rattle.inform_names.proofs.Faultless.{bodies_are_fine}
 use Rattle.inform_names.proofs.names.Names.routine.Goals as goal

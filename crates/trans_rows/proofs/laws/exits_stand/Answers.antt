@@ -1,5 +1,0 @@
-use Rattle.trans_rows.proofs.Flat.{exits_stand as law}
-use Rattle.trans_rows.proofs.laws.exits_stand.Goals as goal
-
-pub returns : goal.returns
-returns c = law

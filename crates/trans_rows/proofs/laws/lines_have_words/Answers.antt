@@ -1,5 +1,0 @@
-use Rattle.trans_rows.proofs.LineWords.{lines_have_words as law}
-use Rattle.trans_rows.proofs.laws.lines_have_words.Goals as goal
-
-pub returns : goal.returns
-returns c = law

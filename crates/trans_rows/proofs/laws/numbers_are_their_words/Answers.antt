@@ -1,5 +1,0 @@
-use Rattle.trans_rows.proofs.Written.{numbers_are_their_words as law}
-use Rattle.trans_rows.proofs.laws.numbers_are_their_words.Goals as goal
-
-pub returns : goal.returns
-returns c = law

@@ -1,5 +1,0 @@
-use Rattle.trans_rows.proofs.Opening.{opening_stands as law}
-use Rattle.trans_rows.proofs.laws.opening_stands.Goals as goal
-
-pub returns : goal.returns
-returns c = law c.opening_opens.ensures

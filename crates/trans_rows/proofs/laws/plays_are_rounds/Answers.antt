@@ -1,5 +1,0 @@
-use Rattle.trans_rows.proofs.Rounds.{plays_are_rounds as law}
-use Rattle.trans_rows.proofs.laws.plays_are_rounds.Goals as goal
-
-pub returns : goal.returns
-returns c = law c.play_stops.ensures

@@ -1,5 +1,0 @@
-use Rattle.trans_rows.proofs.Hill.{hill_is_shaped as law}
-use Rattle.trans_rows.proofs.worked.hill_is_shaped.Goals as goal
-
-pub returns : goal.returns
-returns c = law

@@ -1,7 +1,0 @@
-use Rattle.std.proofs.Common.{refl}
-use Rattle.std.specs.Fmt.{digits}
-use Rattle.trans_rows.proofs.worked.not_carried_line.Goals as goal
-
-pub returns : goal.returns
-unfolding digits
-returns c = refl

@@ -1,7 +1,0 @@
-use Rattle.trans_turn.proofs.MainRuns.{rounds_owe}
-use Rattle.trans_turn.proofs.laws.rounds_owe.Goals as goal
-
--- src/laws.rt:9:1
-pub returns : goal.returns
-returns c = rounds_owe c.word_names_least_match.ensures c.play_spends.ensures c.play_stops.ensures
-    c.plays_are_rounds.ensures
