@@ -8,6 +8,7 @@ use Rattle.adv_check.specs.Sites.{Site, each_from, warning_at, warnings_of}
 
 -- the places of one element more
 module _ {X : Type 0} (of : ℕ → X → List Site) where
+  -- the first elements have the places of those before the last of them, and then its own
   each_from-next : (xs : List X) (first i : ℕ) (x : X) → i < length xs
       → each_from first of (take (suc i) xs) ≡ each_from first of (take i xs) ++ of (first + i) (get_or xs i x)
   each_from-next [] first i x h = absurd (omega arith)

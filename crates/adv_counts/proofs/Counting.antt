@@ -35,6 +35,7 @@ still_there : (counts : List ℕ) (next number : ℕ) → number < length counts
 still_there counts next number there =
     rw (length-set counts next (min (count_of counts next + 1) GREATEST)) there
 
+-- each count rises by how often its number was counted, and stops at the greatest count
 pub counts_rise : CountsRise
 counts_rise [] counts number there few = omega (arith, few)
 counts_rise (next ∷ numbers) counts number there few = by

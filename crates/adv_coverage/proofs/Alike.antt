@@ -37,6 +37,7 @@ use Rattle.adv_coverage.proofs.LineByLine.{no_line, one_line}
 abbrev SameCounts : List ℕ → List ℕ → Type 0
 SameCounts xs ys = (k : ℕ) → count_of xs k ≡ count_of ys k
 
+-- lists of the same counts have the same lines in their reports
 same_lines : (line : ℕ) (xs ys : List ℕ) → SameCounts xs ys
     → lines_text line xs ≡ lines_text line ys
 same_lines line [] [] h = refl
@@ -97,6 +98,7 @@ zeros (suc n) (suc k) = zeros n k
 -- ---- the counts of the routines of lines
 
 module _ (known : Known) (counts : List ℕ) where
+  -- there are as many counts as lines were asked for
   so_many : (n : ℕ) → length (counts_of_lines known counts n) ≡ n
   so_many zero = ap length (no_line known counts)
   so_many (suc n) =
@@ -110,6 +112,7 @@ module _ (known : Known) (counts : List ℕ) where
       let so = so_many n in
       ap (λ m. length (counts_of_lines known counts m)) next ∙ one ∙ omega (arith, so)
 
+  -- the count of a line is that of the routine with its name
   pub of_line : (n k : ℕ) → k < n
       → count_of (counts_of_lines known counts n) k ≡ routine_count counts (known (line_name k))
   of_line zero k near = absurd (omega (arith, near))
@@ -148,6 +151,7 @@ module _ (known : Known) (counts : List ℕ) where
 -- ---- how often a number is among those that others have
 
 module _ (f : ℕ → Option ℕ) (k : ℕ) where
+  -- a number that no element has occurs nowhere among those that elements have
   none : ((e : ℕ) → f e ≡ Some k → ⊥) → (es : List ℕ) → times k (filter_map f es) ≡ 0
   none never [] = refl
   none never (e ∷ es) = by (f e) refl (none never es)
@@ -232,6 +236,7 @@ is_other directive = not (starts_with nat_eq (name_of directive) (codes "line_")
 others : (db : Database) (s : State) → list_all is_other (data_directives db s) ≡ true
 others db s = refl
 
+-- where no declaration of a program has the name of a line, none at any place has
 one_of : (xs : List DirectiveTree) (at : ℕ) (x : DirectiveTree)
     → list_all is_other (declarations xs) ≡ true → slice_get xs at ≡ Some x
     → is_declaration x ≡ true → is_other x ≡ true
@@ -383,6 +388,7 @@ module _ (of_directives : MeaningsAreOfDirectives) (themselves : NamesMeanTheirD
           (sym (ap (λ (x : RoutineTree). x.name) line.2) ∙ r.2) in
           absurd (omega (arith, near, same, far))
 
+  -- each line's routine is counted as often as the line is among those that were entered
   same_counts : SameCounts (line_counts known of_directive) tried
   same_counts k = by (nat_lt k (length db.actions)) refl (nat_lt k LINE_LIMIT) refl
     where

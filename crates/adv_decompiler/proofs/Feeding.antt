@@ -129,6 +129,7 @@ ends_here t (c ∷ chunks) h =
     ]
 
 module _ (laws : WrittenLaws) where
+  -- the bytes that are written of a token spell it, where it ends after them
   spells : (t : Token) (bytes : List ℕ) → is_written t ≡ true → EndsHere t bytes → Spells t (token_text t ++ bytes) bytes
   spells (token.Number z) bytes w h =
       let ends = no_mark (token.Number z) bytes refl h in
@@ -179,6 +180,7 @@ module _ (laws : WrittenLaws) where
       let last = read_end P (more (at + 1) token.End) (spot (at + 1) []) (h (at + 1)) in
       (last.0, last.1, (token.End, spot (at + 1) [], ((refl, refl), refl), last.2), last.3)
 
+  -- a text whose tokens stand apart is read to its end by a plan that they feed
   pub read_fed : {X : Type 0} (P : X → Type 0) (p : Plan X) (chunks : List Chunk) (free : Bool) (at : ℕ)
       → Fed p (chunks ++ chunk below token.End ∷ []) P → laid free chunks ≡ true → Read p P (spot at (ended chunks))
   read_fed P p [] free at h l = read_last P p at h

@@ -76,6 +76,7 @@ module _ {E : Type 0} (piece : ℕ → Token → Plan E) where
 
 module _ {X Y E : Type 0} (one : ℕ → At E → Result Y Fault) (view : X → Y) (Q : X → Type 0) (R : ℕ → X → At E → Type 0) (highest bound : ℕ)
     (means : (k : ℕ) (x : X) (e : At E) → k < bound → Q x → R k x e → one k e ≡ Ok (view x)) where
+  -- entries that each mean what they were written of give just that, after what was given before
   each_means : (xs : List X) (entries : List (At E)) (before : List Y) (k : ℕ) → length before ≡ k → k + length xs ≤ highest + 1 → k + length xs ≤ bound
       → AllByRecursion Q xs → Each R k xs entries → each one highest before entries ≡ Ok (before ++ map view xs)
   each_means [] [] before k e few there all h = ap (λ (ys : List Y). Ok ys) (sym (append-nil before))

@@ -58,6 +58,7 @@ pub record IsOpcodeWord (n : ℕ) : Type 0 where
   pub no_say : bytes_eq (opcode_word n) (codes "say") ≡ false
   pub no_op : bytes_eq (opcode_word n) (codes "op") ≡ false
 
+-- the word of an opcode from 52 to 89 is read as its number, and is neither `say` nor `op`
 opcode_word-from_52 : (k : ℕ) → k < 38 → IsOpcodeWord (k + 52)
 unfolding is_opcode_word
 opcode_word-from_52 k h =

@@ -48,6 +48,7 @@ pairs_of first second count = record { first = first; second = second; count = c
 same_pairs : (a b c d count : ℕ) → a ≡ b → c ≡ d → pairs_of a c count ≡ pairs_of b d count
 same_pairs a b c d count e h = λ i. record { first = e i; second = h i; count = count }
 
+-- an opcode after fewer than four is packed in the place after them
 one_more : (at : ℕ) (written : ℤ) (ns : List ℕ) (n : ℕ) (rest : List ℕ) → length ns < 4 → FitPairs (ns ++ n ∷ rest)
     → with_opcode at written (packed ns) n ≡ Ok (packed (ns ++ n ∷ []))
 one_more at written [] n rest room fit =
@@ -77,6 +78,7 @@ abbrev kept : List ℕ → Pairs → Result (List ℕ × Pairs) Fault
 kept conds pairs = Ok (conds, pairs)
 
 module _ (sizes : Sizes) (known : Known) (finds : Finds sizes known) where
+  -- parameters that were read become conditions of code 0 after the conditions before them
   parameters_mean : (few : AreFew sizes) (ps : List ℕ) (refs : List (At Ref)) (before : List ℕ) → length before + length ps ≤ 5 → AllByRecursion IsParameter ps
       → ThingsMean sizes few ps refs → parameters known before refs ≡ Ok (before ++ map as_condition ps)
   parameters_mean few [] [] before room small h = ap (λ (cs : List ℕ). Ok cs) (sym (append-nil before))
@@ -102,6 +104,7 @@ module _ (sizes : Sizes) (known : Known) (finds : Finds sizes known) where
   same_after : (conds : List ℕ) (q : Pairs) → kept conds q ≡ kept (conds ++ []) q
   same_after conds q = ap (λ (cs : List ℕ). kept cs q) (sym (append-nil conds))
 
+  -- an opcode that was read adds its number to the opcodes and its parameters to the conditions
   added_means : (few : AreFew sizes) (p : Piece) (at : ℕ) (o : Op) (conds ns rest : List ℕ) → IsPiece p → PieceMeans sizes few p o
       → length ns < 4 → FitPairs (ns ++ number_of p ∷ rest) → length conds + length (parameters_of p) ≤ 5 → added known conds (packed ns) at o ≡ After conds ns p
   added_means few (says message) at (op.Say r) conds ns rest is h room fit enough =
@@ -137,6 +140,7 @@ module _ (sizes : Sizes) (known : Known) (finds : Finds sizes known) where
   abbrev all_parameters : List Piece → List ℕ
   all_parameters ps = flat_map parameters_of ps
 
+  -- further opcodes add their numbers and their parameters in order, after what was there before
   opcodes_from : (few : AreFew sizes) (ps : List Piece) (entries : List (At Op)) (k : ℕ) (conds ns : List ℕ) → AllByRecursion IsPiece ps
       → length ns + length ps ≤ 4 → FitPairs (ns ++ map number_of ps) → length conds + length (all_parameters ps) ≤ 5 → Each (OpcodeMeans sizes few) k ps entries
       → opcodes known conds (packed ns) entries ≡ kept (conds ++ map as_condition (all_parameters ps)) (packed (ns ++ map number_of ps))

@@ -57,6 +57,7 @@ condition_again : (c : ℕ) → 20 * argument_of c + condition_code c ≡ c
 condition_again c = omega arith
 
 module _ (sizes : Sizes) (few : AreFew sizes) where
+  -- what is written of a condition is read as its code and what its argument names
   condition_fed : (k c : ℕ) → k < 5 → IsSmall c → EntryFed condition_piece (condition_chunks sizes c) (ConditionMeans sizes k c)
   unfolding symbol any_token
   condition_fed k c low small =
@@ -89,6 +90,7 @@ module _ (sizes : Sizes) (few : AreFew sizes) where
       (sym (flat-lines (condition_chunks sizes) conds 0))
       (fed_many condition_piece IsSmall (λ k. condition_chunks sizes) (ConditionMeans sizes) 5 condition_fed spaced conds low (omega arith) small)
 
+  -- conditions that were read are, after those before them, the ones that were written
   conditions_from : (known : Known) → Finds sizes known → (conds : List ℕ) (entries : List (At Cond)) (k : ℕ) (before : List ℕ) → length before + length conds ≤ 5
       → AllByRecursion IsSmall conds → Each (ConditionMeans sizes) k conds entries → conditions known before entries ≡ Ok (before ++ conds)
   conditions_from known finds [] [] k before room small h = ap (λ (cs : List ℕ). Ok cs) (sym (append-nil before))

@@ -114,6 +114,7 @@ module _ (sizes : Sizes) (few : AreFew sizes) where
   abbrev Way : ℤ → At Ref → Type 0
   Way z r = Means sizes (λ known. known.rooms) z r
 
+  -- what is written of six exits is read as references that mean just these exits
   fed_exits : (a b c d e f : ℤ)
       → Fed exits_plan (listed spaced (map (exit_token sizes) (a ∷ b ∷ c ∷ d ∷ e ∷ f ∷ [])) ++ semicolon ∷ []) (ExitsMean (a ∷ b ∷ c ∷ d ∷ e ∷ f ∷ []))
   unfolding exits_plan symbol any_token
@@ -147,6 +148,7 @@ module _ (sizes : Sizes) (few : AreFew sizes) where
   abbrev pub RoomMeans : ℕ → Room → At RoomPart → Type 0
   RoomMeans k r e = Titled (room_name k) r.text e.what.name e.what.text × ExitsMean r.exits e.what.exits
 
+  -- the line of a room is read as an entry with its name, its text and its six exits
   pub room_fed : (k : ℕ) (r : Room) → k < sizes.rooms → is_room r ≡ true → EntryFed room_part (room_line sizes k r) (RoomMeans k r)
   unfolding room_rest symbol any_token
   room_fed k r there ok =
@@ -183,6 +185,7 @@ module _ (sizes : Sizes) (few : AreFew sizes) where
   PlaceFed : ℕ → Token → Type 0
   PlaceFed p t = Fed item_place (chunk spaced t ∷ []) (PlaceMeans p)
 
+  -- what is written of an item's place is read as it: `carried`, `nowhere`, or a room
   place_fed : (p : ℕ) → p ≤ 255 → PlaceFed p (place_token sizes p)
   unfolding PlaceFed item_place any_token
   place_fed p low =
@@ -199,6 +202,7 @@ module _ (sizes : Sizes) (few : AreFew sizes) where
   abbrev pub ItemMeans : ℕ → Item → At ItemPart → Type 0
   ItemMeans k i e = Titled (item_name k) i.text e.what.name e.what.text × PlaceMeans i.place e.what.place
 
+  -- the line of an item is read as an entry with its name, its text and its place
   pub item_fed : (k : ℕ) (i : Item) → k < sizes.items → is_item i ≡ true → EntryFed item_part (item_line sizes k i) (ItemMeans k i)
   unfolding item_rest symbol any_token PlaceFed
   item_fed k i there ok =

@@ -65,6 +65,7 @@ module _ (sizes : Sizes) (few : AreFew sizes) where
   unfolding setting key number symbol any_token
   light_fed z = λ a b c. refl
 
+  -- what is written of a header is read as settings that mean its seven values
   pub settings_fed : (h : Header) → Fed settings (section joined (codes "header") (header_lines sizes h)) (SettingsMean sizes h)
   unfolding settings symbol any_token
   settings_fed h =

@@ -59,6 +59,7 @@ light-most h ok =
     let treasures = and_parts (is_number h.treasures) _ carry.1 in
     let light = and_parts (is_number h.light) _ treasures.1 in (and_parts (int_le (negsuc 2147483647) h.light) (int_le h.light (pos 2147483647)) light.0).1
 
+-- a database that keeps the limits has lists that are neither empty nor too long, of right entries
 pub limited : (db : Database) → KeepsLimits db → Limited db
 limited db limits =
     let texts = and_parts (list_all is_file_text db.messages) (list_all is_file_text db.comments) limits.entries.texts in

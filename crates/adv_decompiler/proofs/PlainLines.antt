@@ -93,6 +93,8 @@ module _ (sizes : Sizes) (few : AreFew sizes) where
       braced_chunks (flat_map (condition_chunks sizes) (written a).conds)
       ++ (braced_chunks (flat_map (opcode_chunks sizes) (written a).ops) ++ quoted spaced text ∷ semicolon ∷ [])
 
+  -- after a head that is read as that of the action, the rest of its line is read as its
+  -- conditions, its opcodes and its comment
   rest_fed : (a : Action) (text : List ℕ) → IsGood a → (at : ℕ) (t : Token) (chunks : List Chunk) → Fed (line_head at t) chunks (HeadMeans a.vocab)
       → Fed (line_part at t) (chunks ++ rest_of a text) (λ v. LineMeans a text (here at v))
   rest_fed a text good at t chunks fed =
@@ -106,6 +108,7 @@ module _ (sizes : Sizes) (few : AreFew sizes) where
       fed_done (λ read. read ≡ text) P comment (λ read. record { head = h; conds = cs.entries; ops = os.entries; comment = read }) (quoted spaced text ∷ semicolon ∷ [])
       (comment_fed text) (λ read hr. record { head = hh; conds = hc; ops = ho; comment = hr }))))
 
+  -- the line of an action is read as an entry that means its four parts
   pub action_fed : (k : ℕ) (a : Action) (text : List ℕ) → IsGood a → EntryFed line_part (action_line sizes k (a, text)) (LineMeans a text)
   action_fed k a text good =
       let rest = rest_of a text in
@@ -125,6 +128,7 @@ module _ (sizes : Sizes) (few : AreFew sizes) where
             (line_fed at a.vocab good.vocab),
       )))
 
+  -- an entry that means the parts of an action is compiled to that action
   pub action_means : (known : Known) → Finds sizes known → (k : ℕ) (a : Action) (text : List ℕ) (e : At LinePart) → IsGood a → LineMeans a text e → line known k e ≡ Ok a
   action_means known finds k a text e good h =
       let w = written_is a good in

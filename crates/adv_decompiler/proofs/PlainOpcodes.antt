@@ -68,6 +68,7 @@ module _ (sizes : Sizes) (few : AreFew sizes) where
   ThingsMean (p ∷ ps) [] = ⊥
   ThingsMean (p ∷ ps) (r ∷ refs) = Means sizes thing (pos p) r × ThingsMean ps refs
 
+  -- the opcode that was read is this piece: the same message, number or name, and parameters
   abbrev pub PieceMeans : Piece → Op → Type 0
   PieceMeans (says message) (op.Say r) = Means sizes (λ known. known.messages) (pos message) r
   PieceMeans (says message) (op.Number a) = ⊥
@@ -110,6 +111,7 @@ module _ (sizes : Sizes) (few : AreFew sizes) where
       fed_then (Means sizes thing (pos q)) P next_reference _ (mark joined 44 ∷ chunk spaced (thing_token sizes other q) ∷ []) (mark joined 41 ∷ semicolon ∷ [])
       (fed_next other q) (λ s m at at_end. (refl, (h, (m, tt)))))
 
+  -- one or two parameters in brackets are read as references that mean just these
   brackets_fed : (n at : ℕ) (kinds : List Parameter) (ps : List ℕ) → length ps ≡ length kinds → 1 ≤ length ps → length ps ≤ 2
       → Fed (cond (eqb (length kinds) 1) (one_parameter n) (cond (eqb (length kinds) 2) (two_parameters n) (refuse at)))
       (listed joined (parameter_tokens sizes kinds ps) ++ mark joined 41 ∷ semicolon ∷ []) (PieceMeans (bracketed n ps))
@@ -140,6 +142,7 @@ module _ (sizes : Sizes) (few : AreFew sizes) where
   unfolding named_opcode any_token
   bracketed_fed n ps is = λ at. brackets_fed n at (kinds_of (opcode_of n)) ps is.enough is.some is.few
 
+  -- what is written of an opcode is read as that opcode, with what its parameters name
   opcode_fed : (k : ℕ) (p : Piece) → k < 4 → IsPiece p → EntryFed opcode_piece (opcode_chunks sizes p) (OpcodeMeans k p)
   unfolding message_said opcode_numbered number symbol any_token
   opcode_fed k (says message) low is = (
@@ -167,6 +170,7 @@ module _ (sizes : Sizes) (few : AreFew sizes) where
 
   -- ---- they stand apart
 
+  -- the tokens of parameters, up to the closing bracket and the semicolon, stand apart
   tokens_laid : (kinds : List Parameter) (ps : List ℕ) → AllByRecursion IsParameter ps → length ps ≤ 2
       → laid true (listed joined (parameter_tokens sizes kinds ps) ++ mark joined 41 ∷ semicolon ∷ []) ≡ true
   tokens_laid [] ps small most = refl

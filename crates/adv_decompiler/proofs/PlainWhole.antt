@@ -227,6 +227,8 @@ module _ (db : Database) (limits : KeepsLimits db) (within_limits : Limited db) 
   abbrev section_of : List ℕ → List Chunk → List Chunk
   section_of name lines = section below name lines
 
+  -- after the settings of the header, the lists and the trailer that are written are read as a
+  -- source that means the database
   lists_fed : (first : Settings) → SettingsMean sizes db.header first
       → Fed (lists first)
       (section_of (codes "words") (lines_of (word_line sizes) db.words)
@@ -273,6 +275,7 @@ module _ (db : Database) (limits : KeepsLimits db) (within_limits : Limited db) 
       (fed_then (SettingsMean sizes db.header) Means settings lists (section joined (codes "header") (header_lines sizes db.header)) _
       (settings_fed sizes few db.header) lists_fed)
 
+  -- all tokens of the text can be written, and they stand apart
   text_laid : laid true (chunks sizes db) ≡ true
   text_laid =
       let start : db.header.start ≤ 255 = omega (arith, limits.header.start_there, within_limits.rooms_few.1) in

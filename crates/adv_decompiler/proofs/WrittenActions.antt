@@ -47,6 +47,7 @@ five-all (a ∷ b ∷ c ∷ d ∷ e ∷ f ∷ xs) h = absurd (omega arith)
 
 -- ---- zeros that are left out
 
+-- without the zeros at its end a list still has the same number at each place
 pub without_zeros-same : (xs : List ℕ) → Same (without_zeros xs) xs
 without_zeros-same [] i = refl
 without_zeros-same (x ∷ xs) i =
@@ -130,6 +131,7 @@ module _ (vocab : ℕ) (conds pairs : List ℕ) (five_there : length conds ≡ 5
       ap two_pairs (numbers-pieces parameters (without_zeros numbers)) ∙ pairs-same (without_zeros numbers) numbers (without_zeros-same numbers)
       ∙ pairs-again vocab conds pairs two_there
 
+  -- conditions, followed by the parameters in brackets, are the five conditions of the action
   bracketed_meant : has_brackets conds numbers ≡ true
       → five (take first conds ++ map as_condition (flat_map parameters_of (pieces (drop first (map argument_of conds)) (without_zeros numbers)))) ≡ conds
   bracketed_meant e =

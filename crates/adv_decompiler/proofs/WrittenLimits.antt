@@ -57,6 +57,7 @@ parameters-drop (suc k) (n ∷ ns) all = parameters-drop k ns all.1
 
 -- ---- packed pairs
 
+-- numbers that are at each place those of others can be packed where the others can
 fit-same : (ns ms : List ℕ) → Same ns ms → FitPairs ms → FitPairs ns
 fit-same ns ms same fit =
     let zeroth = same 0 in
@@ -121,6 +122,7 @@ module _ (vocab : ℕ) (conds pairs : List ℕ) (five : length conds ≡ 5) (two
   abbrev parameters : List ℕ
   parameters = drop before (map argument_of conds)
 
+  -- an action that is written with brackets keeps the limits of a line
   bracketed_is : has_brackets conds numbers ≡ true → IsWritten (record { conds = take before conds; ops = pieces parameters ops })
   bracketed_is e =
       let both = and_parts (list_all is_parameter (drop before conds)) _ e in
@@ -140,6 +142,7 @@ module _ (vocab : ℕ) (conds pairs : List ℕ) (five : length conds ≡ 5) (two
         enough = omega (arith, length-take before conds);
       }
 
+  -- an action that is written without brackets keeps them too
   plain_is : IsWritten (record { conds = without_zeros conds; ops = pieces [] ops })
   plain_is =
       let used : length (flat_map parameters_of (pieces [] ops)) ≤ 0 =
@@ -165,6 +168,7 @@ pub record IsGood (a : Action) : Type 0 where
   pub two : length a.pairs ≡ 2
   pub pairs : AllByRecursion IsSmall a.pairs
 
+-- an action that passes the test has five conditions, two pairs, and no number above the limit
 pub good : (a : Action) → is_action a ≡ true → IsGood a
 good a h =
     let one = and_parts (is_natural a.vocab) _ h in

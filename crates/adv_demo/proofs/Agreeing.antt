@@ -46,6 +46,7 @@ same_end (Over number) stop over is = λ i. end_of_run (is.0 i) (unwrap_or (is.1
 same_end NeedsLine stop over is = λ i. end_of_run (is.0 i) (unwrap_or (is.1 i) (pos 0))
 same_end NeedsDraw stop over is = λ i. end_of_run (is.0 i) (unwrap_or (is.1 i) (pos 0))
 
+-- a run that does what a play does has the summary of that play
 same_summary : (t : Traced Step PlayEnd) (run : Outcome × Config) → Same t run
     → run_summary run ≡ play_summary t
 same_summary t run is =
@@ -74,6 +75,7 @@ module _ (law : ProgramIn) (db : Database) (lines : List (List ℕ)) (draws out 
   summaries_are_one = same_summary (play (plain db) lines draws)
       (run_with_enough db lines draws faithful.program) alike.same
 
+  -- the line of the run says what the line of the play says, and then the steps that were used
   tells : TellsThePlay db lines draws out
   unfolding played
   tells =

@@ -42,6 +42,7 @@ pub play_is : (game : Game) (position : Position) (s : State) (db : Database)
 play_is game position s db given lines draws of_game of_position of_state of_lines =
     λ i. go (of_game i) (of_position i) (of_state i) (of_lines i) draws
 
+-- the lines and draws that are gone, and where a play stands, make up the summary of that play
 pub played : (t : Traced Step PlayEnd) (lines left : List (List ℕ)) (draws : List ℕ)
     (used drawn : ℕ) (ending : Ending) (s : State)
     → Spends lines draws t.events t.value.lines t.value.draws
@@ -84,6 +85,7 @@ run_is r a steps given lines draws program begun world of_lines =
       world = world i;
     })
 
+-- the lines and draws that are gone, a run's stop and its globals make up the summary of that run
 pub ran : (t : Outcome × Config) (lines left : List (List ℕ)) (draws : List ℕ) (steps : ℕ)
     (start : World) (used before drawn : ℕ) (stop : Stop) (w : World)
     → Goes (record { steps = steps; lines = lines; draws = draws; past = []; world = start }) t.1

@@ -91,6 +91,7 @@ last_opcode-small Tail = omega arith
 
 -- ---- actions
 
+-- no number of an action that is made is too wide for words of 16 bits
 action_fits : (k : ℕ) (kind : Kind) (size : ℕ) (g : Lcg) → size ≤ 120
     → NoneWide (placed_action k (action_of kind size g))
 action_fits k kind size g few =

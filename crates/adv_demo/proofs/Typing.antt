@@ -42,6 +42,7 @@ wider most more text few h =
     let short = p.0 in
     and_from _ _ (le-leb (length text) more (omega (arith, short, few))) p.1
 
+-- two texts that can be typed can be typed one after the other, and their lengths add up
 joined : (most more : ℕ) (text rest : List ℕ) → can_be_typed most text ≡ true
     → can_be_typed more rest ≡ true → can_be_typed (most + more) (text ++ rest) ≡ true
 joined most more text rest h k =
@@ -111,6 +112,7 @@ verb-typed k low =
 
 -- ---- lines
 
+-- a line of a made game, whichever its form, can be typed
 command-typed : (form : Form) (size : ℕ) (g : Lcg) → 8 ≤ size → size ≤ 120
     → can_be_typed 120 (command form size g) ≡ true
 command-typed Direction size g some few =

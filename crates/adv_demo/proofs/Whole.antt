@@ -37,6 +37,7 @@ module _ (n : ℕ) (db : Database) (lines : List (List ℕ)) (draws out : List �
       (two ∙ ap (λ (t : List ℕ). t ++ play_line of_play) one)
       ∙ append_assoc (size_line n db) (play_line of_play) (run_line of_run used)
 
+  -- the size, the end of the play and that of the run, line by line, are what is said of a game
   pub whole : (text : List ℕ) (of_play of_run : Summary) (used steps : ℕ) (width : Width)
       (ds : List DirectiveTree) (in_play in_run : List ℕ)
       → text ≡ size_line n db ++ (play_line of_play ++ run_line of_run used)

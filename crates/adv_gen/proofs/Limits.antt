@@ -167,6 +167,7 @@ second_room size some =
     length-map-range_with_len _ 0 (size + 1) in
     omega (arith, rooms_there)
 
+-- every number, entry and list of a game from size 8 to size 120 is within the limits
 pub database_fits : MadeKeepsLimits
 database_fits size some few =
     let treasures = treasures_few (items size (at_items size)) (2 * size)

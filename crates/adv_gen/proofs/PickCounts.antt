@@ -39,6 +39,7 @@ items_take (suc k) =
 action_takes : (k r : ℕ) → k % 5 ≡ r → action_picks k ≡ vocabulary_picks (get_or kinds r Tail) + 10
 action_takes k r e = ap (λ (r : ℕ). vocabulary_picks (get_or kinds r Tail) + 10) e
 
+-- every five actions take 54 picks
 actions_take : (m : ℕ) → picks_before action_picks (5 * m) ≡ 54 * m
 actions_take zero = refl
 actions_take (suc m) =
@@ -98,6 +99,7 @@ whole_or_half n = elim (cases_lt (10 * n % 4) 1) [
       (omega arith)
 ]
 
+-- a game takes 72 picks for each unit of its size, and 59 more
 pub picks_counted : PicksAreCounted
 picks_counted size some =
     let rooms = rooms_take (size + 1) in

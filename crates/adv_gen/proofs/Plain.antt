@@ -159,6 +159,7 @@ message-plain k small =
     is_plain-append 36 1 (codes "This is message " ++ decimal k) (codes ".")
     (is_plain-append 16 20 (codes "This is message ") (decimal k) refl (decimal-plain k small)) refl
 
+-- the text of an item has at most 34 bytes, and all are plain
 pub item_text-plain : (size k : ℕ) → size ≤ 120 → k < 2 ^ 64 → is_plain 34 (item_text size k) ≡ true
 unfolding item_text
 item_text-plain size k few small =
@@ -174,6 +175,7 @@ item_text-plain size k few small =
 
 -- ---- lines
 
+-- a line that is made has at most 16 bytes, and all are plain
 command-plain : (form : Form) (size : ℕ) (g : Lcg) → 8 ≤ size → size ≤ 120
     → is_plain 16 (command form size g) ≡ true
 command-plain Direction size g some few =

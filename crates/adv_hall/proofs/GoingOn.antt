@@ -17,6 +17,7 @@ use Rattle.adv_hall.specs.Laws.{seat_alone, seats_alone, EachHearsAlone, GoesOnA
 
 -- ---- the number of a session
 
+-- a word that is the number of a session is one from 1 to as many as there are
 pub number-range : (count : ℕ) (word : List ℕ) (k : ℕ) → number_among count word ≡ Some k → (1 ≤ k)
     × (k ≤ count)
 number-range zero word k is = absurd (cc)
@@ -130,6 +131,7 @@ module _ (db : Database) (count : ℕ) (lines : List (List ℕ)) (line : List �
 
 -- ---- the address of a line is one of the sessions
 
+-- a line that is addressed goes to one of the sessions that there are
 addressed-range : (count : ℕ) (line : List ℕ) (span : Span) (o : Option ℕ) (a : Address)
     → number_among count (word_at line span) ≡ o
     → addressed line span o ≡ Some a → (1 ≤ a.session) × (a.session ≤ count)

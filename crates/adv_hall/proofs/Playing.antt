@@ -144,6 +144,7 @@ module _ (splits : PlaySplits) (game : Game) (position : Position) (s : State) w
         (go game position s (lines ++ x ∷ []) draws).value.draws
         ≡ (go game t.value.position t.value.state (x ∷ []) t.value.draws).value.draws
 
+  -- one more line adds to a play just what is played on it from where the play had stopped
   adds_line : (lines : List (List ℕ)) (x draws : List ℕ) → AddsLine lines x draws
   adds_line lines x draws =
       let t = go game position s lines draws in
@@ -202,6 +203,7 @@ tallied-append : (es fs : List Step) (counts : List ℕ)
 tallied-append es fs counts = ap (λ ns. counted ns counts) (filter_map-append noted_of es fs)
     ∙ counts_add (noted es) (noted fs) counts
 
+-- a session that stands as it would alone says on a line what it would alone, and stands so again
 pub each_hears_alone : PlaySplits → EachHearsAlone
 each_hears_alone splits db k [] line =
     let t = play (plain db) (line ∷ []) (seeded_draws k) in

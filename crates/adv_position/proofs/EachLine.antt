@@ -67,6 +67,7 @@ pub record AreParts (db : Database) (now : RoomLine) (rooms : List ℕ) (counter
   pub places_are : IsTrue (list_all is_place places)
   pub place_count : length places ≡ length db.items
 
+-- a state of such parts fits the database
 pub parts-fit : (db : Database) (now : RoomLine) (rooms : List ℕ) (counters : List ℤ)
     (flags : List Bool) (places : List ℕ) → AreParts db now rooms counters flags places
     → Fits db (state_of now rooms counters flags places)
@@ -87,6 +88,7 @@ parts-fit db now rooms counters flags places parts = record {
   places = record { count = parts.place_count; places = parts.places_are };
 }
 
+-- a state that fits the database has such parts
 pub fits-parts : (db : Database) (s : State) → Fits db s → AreParts db (now_of s) s.rooms s.counters
     s.flags s.places.items
 fits-parts db s fits = record {
@@ -147,6 +149,7 @@ module _ (db : Database) (spelled : SpelledNumberIsRead) (written : WrittenNumbe
       ∙ sym (append_assoc (labelled (codes "at draw") (pos read.0)) (newline ∷ []) rest) in
       (subst (Waits db) last.1 last.0, text ∙ ap (λ p. at_line p ++ rest) last.1)
 
+  -- bytes that are read as where a play waits begin with the line that says so
   at-sound : (o : Option (List ℕ)) (bytes : List ℕ) (position : Position) (rest : List ℕ)
       → after_text (codes "at line\n") bytes ≡ o → at_line_or (head_in db bytes) o
       ≡ Some (position, rest)
@@ -159,6 +162,7 @@ module _ (db : Database) (spelled : SpelledNumberIsRead) (written : WrittenNumbe
             ∙ same-text at_line Line position after rest last.0 last.1,
       )
 
+  -- the line that says where a play waits is read as that
   at-complete : (position : Position) (rest : List ℕ) → Waits db position
       → at_in db (at_line position ++ rest) ≡ Some (position, rest)
   at-complete Line rest waits = refl
@@ -185,6 +189,7 @@ module _ (db : Database) (spelled : SpelledNumberIsRead) (written : WrittenNumbe
 
   -- ---- how many draws were taken
 
+  -- the line of how many draws were taken is read where it stands, and nowhere else
   pub taken-reads : ReadsLine db (λ saved. number_line (codes "taken") (pos saved.taken)) taken_in
       (λ saved. saved.taken) (λ n. record (waiting s) { taken = n })
   taken-reads =
@@ -239,6 +244,8 @@ module _ (db : Database) (spelled : SpelledNumberIsRead) (written : WrittenNumbe
   at_room room bytes = onto (field_in amount (codes " saved") (pos 0) (highest_room db) bytes)
       (at_saved room)
 
+  -- the line of the room, the saved room, the light, the counter and the redraw is read where it
+  -- stands, and nowhere else
   pub room-reads : ReadsLine db (λ saved. room_line saved.state) (room_line_in db)
       (λ saved. now_of saved.state)
       (λ now. waiting (state_of now s.rooms s.counters s.flags s.places.items))
@@ -328,6 +335,7 @@ module _ (db : Database) (spelled : SpelledNumberIsRead) (written : WrittenNumbe
 
   -- ---- numbers
 
+  -- the line of the sixteen rooms is read where it stands, and nowhere else
   pub rooms-reads : ReadsLine db (λ saved. numbers_line (codes "rooms") (map pos saved.state.rooms))
       (numbers_in amount (codes "rooms") (pos 0) (highest_room db) 16) (λ saved. saved.state.rooms)
       (λ rooms. waiting (state_of (now_of s) rooms s.counters s.flags s.places.items))
@@ -360,6 +368,7 @@ module _ (db : Database) (spelled : SpelledNumberIsRead) (written : WrittenNumbe
             (room-within db) saved.state.rooms good.fits.rooms.rooms);
       }
 
+  -- the line of the sixteen counters is read where it stands, and nowhere else
   pub counters-read : ReadsLine db (λ saved. numbers_line (codes "counters") saved.state.counters)
       (numbers_in (λ z. z) (codes "counters") (negsuc 0) (pos 32767) 16)
       (λ saved. saved.state.counters)
@@ -395,6 +404,7 @@ module _ (db : Database) (spelled : SpelledNumberIsRead) (written : WrittenNumbe
             good.fits.counters.counters);
       }
 
+  -- the line of the thirty-two flags is read where it stands, and nowhere else
   pub flags-read : ReadsLine db (λ saved. numbers_line (codes "flags") (map bit saved.state.flags))
       (numbers_in is_one (codes "flags") (pos 0) (pos 1) 32) (λ saved. saved.state.flags)
       (λ flags. waiting (state_of (now_of s) s.rooms s.counters flags s.places.items))
@@ -421,6 +431,7 @@ module _ (db : Database) (spelled : SpelledNumberIsRead) (written : WrittenNumbe
         saved.state.flags rest good.fits.flags (bits-within saved.state.flags);
   }
 
+  -- the line of the items' places is read where it stands, and nowhere else
   pub places-read : ReadsLine db
       (λ saved. numbers_line (codes "places") (map pos saved.state.places.items))
       (numbers_in amount (codes "places") (pos 0) (pos 255) (length db.items))

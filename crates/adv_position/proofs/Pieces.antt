@@ -88,6 +88,7 @@ ended-some x y bytes rest e =
 -- ---- numbers
 
 module _ (spelled : SpelledNumberIsRead) (written : WrittenNumberIsSpelled) (least most : ℤ) where
+  -- a number that is accepted is within its limits, and stands there in its one spelling
   exact-some : (digits : List ℕ) (found : Result (ℤ × Spot) Fault) (z : ℤ) (rest : List ℕ)
       → exact least most digits found ≡ Some (z, rest)
       → IsTrue (is_within least most z) × (digits ≡ number_text z ++ rest)
@@ -137,6 +138,7 @@ are_within num least most xs = list_all (λ x. is_within least most (num x)) xs
 
 module _ (spelled : SpelledNumberIsRead) (written : WrittenNumberIsSpelled) {X : Type 0}
     (of : ℤ → X) (num : X → ℤ) (least most : ℤ) (stands : Stands of num least most) where
+  -- a value that is read after a label is within its limits, and both stand there so
   pub field-sound : (label bytes : List ℕ) (x : X) (rest : List ℕ)
       → field_in of label least most bytes ≡ Some (x, rest)
       → IsTrue (is_within least most (num x)) × (bytes ≡ labelled label (num x) ++ rest)
@@ -186,6 +188,7 @@ module _ (spelled : SpelledNumberIsRead) (written : WrittenNumberIsSpelled) {X :
             there no_digit,
       ) refl
 
+  -- the values that are read are as many as are due, within their limits, and stand there so
   fields-sound : (n : ℕ) (bytes : List ℕ) (xs : List X) (rest : List ℕ)
       → fields_in of least most n bytes ≡ Some (xs, rest)
       → (length xs ≡ n) × IsTrue (are_within num least most xs)
@@ -218,6 +221,7 @@ module _ (spelled : SpelledNumberIsRead) (written : WrittenNumberIsSpelled) {X :
   no_digit_first [] rest h = h
   no_digit_first (x ∷ xs) rest h = refl
 
+  -- values within their limits are read of what is written of them, where no digit follows
   fields-complete : (xs : List X) (rest : List ℕ) → IsTrue (are_within num least most xs)
       → NoDigit rest
       → fields_in of least most (length xs) (spaced (map num xs) ++ rest) ≡ Some (xs, rest)
@@ -233,6 +237,7 @@ module _ (spelled : SpelledNumberIsRead) (written : WrittenNumberIsSpelled) {X :
       )
       refl
 
+  -- a line that is read as so many values is the line of just these, within their limits
   pub numbers-sound : (label : List ℕ) (n : ℕ) (bytes : List ℕ) (xs : List X) (rest : List ℕ)
       → numbers_in of label least most n bytes ≡ Some (xs, rest)
       → (length xs ≡ n) × IsTrue (are_within num least most xs)
@@ -252,6 +257,7 @@ module _ (spelled : SpelledNumberIsRead) (written : WrittenNumberIsSpelled) {X :
             ∙ sym (append_assoc label (spaced (map num xs) ++ newline ∷ []) rest),
       )
 
+  -- the line of so many values within their limits is read as these values
   pub numbers-complete : (label : List ℕ) (n : ℕ) (xs : List X) (rest : List ℕ) → length xs ≡ n
       → IsTrue (are_within num least most xs)
       → numbers_in of label least most n (numbers_line label (map num xs) ++ rest) ≡ Some (xs, rest)

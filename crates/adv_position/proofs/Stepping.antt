@@ -79,6 +79,7 @@ module _ {X : Type 0} (of : ℤ → X) (least most : ℤ) where
   one-more xs x None = refl
   one-more xs x (Some read) = ap (λ ys. Some (ys, read.1)) (sym (append_assoc xs (x ∷ []) read.0))
 
+  -- a value that is read is set after those before it, and one less is due after it
   pub fields-more : (values : List X) (n i : ℕ) (bytes : List ℕ) (x : X) (after : List ℕ) → i < n
       → length values ≡ n → field_in of [] least most bytes ≡ Some (x, after)
       → ahead (take i values) (fields_in of least most (n - i) bytes)

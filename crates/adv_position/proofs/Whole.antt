@@ -60,6 +60,7 @@ module _ (db : Database) {X : Type 0} (line : Saved → List ℕ) (read : List �
       let good = reads.sound bytes found.0 found.1 is in
       inr (with_part found.0, found.1, good.0, good.1, later found.0 found.1 n e)
 
+  -- where this line, or one after it, is the first bad one, reading gives its number
   bad-to : ((x : X) (rest : List ℕ) (n : ℕ) → FirstBad db (k + 1) more rest n → next x rest ≡ Err n)
       → (bytes : List ℕ) (n : ℕ) (o : Read X) → read bytes ≡ o → FirstBad db k (line ∷ more) bytes n
       → onward k o next ≡ Err n
@@ -140,6 +141,7 @@ module _ (db : Database) (spelled : SpelledNumberIsRead) (written : WrittenNumbe
   abbrev from_at : List ℕ → Result Saved ℕ
   from_at bytes = onward 2 (at_in db bytes) from_taken
 
+  -- reading gives the number of a line exactly where that line is the first bad one
   pub bad_line-found : (bytes : List ℕ) (n : ℕ) → (position_in db bytes ≡ Err n)
       ↔ BadLine db bytes n
   unfolding position_in
@@ -174,6 +176,7 @@ module _ (db : Database) (spelled : SpelledNumberIsRead) (written : WrittenNumbe
   abbrev position_rest : ℕ → Saved → List ℕ
   position_rest k saved = flat_map (λ line. line saved) (drop k lines)
 
+  -- the text of a stopped play is read as that play
   pub text-complete : (saved : Saved) → IsSaved db saved → position_in db (position_text saved)
       ≡ Ok saved
   unfolding position_in
@@ -209,6 +212,7 @@ module _ (db : Database) (spelled : SpelledNumberIsRead) (written : WrittenNumbe
       (λ places rest. at_end rest (made p saved.taken now st.rooms st.counters st.flags places))
       st.places.items [] ((places-read db spelled written limits s fits).complete saved [] good)
 
+  -- bytes that are read as a stopped play are the text of it
   pub text-sound : (bytes : List ℕ) (saved : Saved) → position_in db bytes ≡ Ok saved
       → IsSaved db saved × (bytes ≡ position_text saved)
   unfolding position_in
@@ -331,6 +335,7 @@ fault-same : (fault : PositionFault) (n : ℕ) → fault.0 ≡ n → ◌≡◌ {
 fault-same fault n e = ap (λ m. Err (record { 0 = m })) e
 
 module _ (db : Database) (bytes : List ℕ) (limits : KeepsLimits db) where
+  -- such a reader gives a stopped play exactly where the bytes are its text
   pub as_text : TextIsRead → (result : Result Saved PositionFault)
       → MatchResult result (λ saved. position_in db bytes ≡ Ok saved) (λ fault. position_in db bytes
       ≡ Err fault.0)
@@ -344,6 +349,7 @@ module _ (db : Database) (bytes : List ℕ) (limits : KeepsLimits db) where
     λ good. absurd (never-both saved fault.0 (sym ((law db bytes saved limits).1 good) ∙ is)),
   )
 
+  -- such a reader gives the number of a line exactly where it is the first bad one
   pub as_bad : BadLineIsFound → (result : Result Saved PositionFault)
       → MatchResult result (λ saved. position_in db bytes ≡ Ok saved) (λ fault. position_in db bytes
       ≡ Err fault.0)

@@ -108,6 +108,7 @@ module _ (s after : Spot) where
   string_ends_there (Ok text) e = string_ends s after text.items e
   string_ends_there (Err fault) e = tt
 
+  -- the text of a string that is spelled is given, and its rest is left, unless memory ran out
   pub string_only : (r : Result (Vec ℕ) TextFault) → IfOk r (λ text. quoted_at s ≡ Ok (text.items, after)) → IfErr r (λ fault. Stands fault (quoted_at s))
       → (text rest : List ℕ) → Quoted text s.rest rest → IsText r text × OnOk r (after.rest ≡ rest)
   string_only (Ok v) e f text rest h =
@@ -121,6 +122,7 @@ module _ (s after : Spot) where
         | inr g ↦ absurd (both (text, read.0) g.0 read.2 g.2)
       ]
 
+  -- a fault that is given stands where the string was to be read
   pub string_exact : (r : Result (Vec ℕ) TextFault) → IfErr r (λ fault. Stands fault (quoted_at s)) → (fault : Fault) → r ≡ Err (fault_answer fault) → StringFault s fault
   string_exact (Ok v) f fault h = absurd (cc)
   string_exact (Err given) f fault h =

@@ -97,6 +97,7 @@ tell_signed negative start whole bytes (Err fault) spelled missing (inr h) =
 abbrev from_sign : ℕ → Bool × Spot → Result (ℤ × Spot) Fault
 from_sign start sign = amount_at sign.0 start sign.1.at sign.1.rest
 
+-- after a sign or without one, a number that is read is spelled so, or its fault stands
 sign_tells : (start at b : ℕ) (bytes : List ℕ) → is_whitespace b ≡ false → (m p : Bool) → eqb b 45 ≡ m → eqb b 43 ≡ p
     → BytesTell start (b ∷ bytes) (from_sign start (cond m (true, spot (at + 1) bytes) (cond p (false, spot (at + 1) bytes) (false, spot at (b ∷ bytes)))))
 sign_tells start at b bytes first true p e f =
@@ -163,6 +164,7 @@ module _ (negative : Bool) (start : ℕ) where
       let t : leb (n * 10 + (b - 48)) (greatest negative) ≡ true = le-leb _ _ (omega (arith, Digits-le h)) in
       (more.0, more.1, rw (e, t) more.2)
 
+  -- digits of an amount that 32 bits can't hold are answered as a number that is too big
   digits_exceed : {n m : ℕ} {bytes rest : List ℕ} → Digits n m bytes rest → n ≤ greatest negative → greatest negative < m → (at : ℕ)
       → digits_at negative start n at bytes ≡ Err (big_number start)
   digits_exceed (last h) fits big at = absurd (omega arith)
@@ -257,6 +259,7 @@ spelled_number_is_read s z rest h =
     let there : Reads z rest (from_whitespace (spot (s.at + h.0) f.0)) = subst (λ (y : ℤ). Reads y rest (from_whitespace (spot (s.at + h.0) f.0))) (sym f.1.value) read in
     subst (λ (start : Spot). Reads z rest (from_whitespace start)) (sym f.2) there
 
+-- a fault that stands where a number is to be read is answered
 exact : (s : Spot) (fault : Fault) → NumberFault s fault → number_at s ≡ Err fault
 unfolding number_at
 exact s (no_number place) h =

@@ -63,6 +63,7 @@ keep_count : (opened : ℕ) (kept : List ℕ) (b at : ℕ) (bytes : List ℕ) (g
 keep_count opened kept b at bytes go_on h =
     cond_both (ltb (length kept) 4096) (go_on (kept ++ b ∷ [])) (Err (long_string opened)) (λ r. Counts at bytes r) (λ t. h (kept ++ b ∷ [])) (λ t. tt)
 
+-- inside a string the place moves by as many bytes as are taken
 inside_count : (opened : ℕ) (held : Bool) (kept : List ℕ) (at : ℕ) (bytes : List ℕ) → Counts at bytes (inside_at opened held kept at bytes)
 inside_count opened true kept at [] = refl
 inside_count opened false kept at [] = tt

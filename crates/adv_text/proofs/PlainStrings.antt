@@ -31,6 +31,7 @@ opens_inside : (b q at : ℕ) (bytes : List ℕ) → is_whitespace b ≡ true �
 unfolding quoted_at
 opens_inside b q at bytes space opens = rw (space, opens) refl
 
+-- after one byte of whitespace, up to 4,096 plain bytes between quotes are the text of a string
 read_after : (bytes : List ℕ) (n : ℕ) → 2 ≤ length bytes → is_whitespace (get_or bytes 0 0) ≡ true → get_or bytes 1 0 ≡ 34
     → n ≡ prefix_len is_plain (drop 2 bytes) → n + 2 ≤ length (drop 2 bytes) → get_or (drop 2 bytes) n 0 ≡ 34 → (get_or (drop 2 bytes) (n + 1) 0 ≡ 34 → ⊥) → n ≤ 4096
     → (at : ℕ) → quoted_at (spot at bytes) ≡ Ok (take n (drop 2 bytes), spot (at + (n + 3)) (drop (n + 3) bytes))

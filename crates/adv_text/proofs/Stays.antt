@@ -52,6 +52,7 @@ module _ (more : List ℕ) where
   number_from at end (b ∷ bytes) is =
       choose_from more end from_start (is_whitespace b) _ _ _ _ (number_from (at + 1) end bytes (omega (arith, is))) (signed_stays at end (b ∷ bytes) is)
 
+  -- what is read inside a string stays when more bytes follow, where it doesn't hang on the end
   inside_stays : (opened : ℕ) (held : Bool) (kept : List ℕ) (at end : ℕ) (bytes : List ℕ)
       → Stays more end (inside_at opened held kept at bytes) (inside_at opened held kept at (bytes ++ more))
   inside_stays opened true kept at end [] = λ followed. absurd (omega arith)

@@ -62,6 +62,7 @@ module _ (opened at : ℕ) (kept bytes : List ℕ) (short : length kept ≤ 4096
       tell_keep opened held kept (b ∷ bytes) bytes kept_byte (λ k. inside_at opened false k (at + 1) bytes) (ltb (length kept) 4096) refl short step
       (λ k less. more false k less)
 
+  -- whatever byte comes next inside a string, what is read is spelled so, or its fault stands
   byte_tells : (b : ℕ) (held q r g : Bool) → eqb b 34 ≡ q → eqb b 13 ≡ r → eqb b 96 ≡ g
       → InsideTells opened held kept (b ∷ bytes)
       (cond q (cond held (keep opened kept 34 (λ k. inside_at opened false k (at + 1) bytes)) (inside_at opened true kept (at + 1) bytes))
@@ -169,6 +170,7 @@ module _ (opened : ℕ) where
             ∙ ap (λ (k : List ℕ). inside_at opened false k h.0 rest) (append_assoc kept (b ∷ []) text),
       )
 
+  -- bytes that spell a text inside a string are kept as that text, while it has at most 4,096 bytes
   goes_on : {text bytes rest : List ℕ} → Inside text bytes rest → (kept : List ℕ) (at : ℕ) → length (kept ++ text) ≤ 4096 → GoesOn opened kept at bytes text rest
   goes_on (here {rest = rest}) kept at fits = (at, ap (λ (k : List ℕ). inside_at opened false k at rest) (sym (append-nil kept)))
   goes_on (plain {b = b} {text = text} {bytes = bytes} {rest = rest} e h) kept at fits =
@@ -188,6 +190,7 @@ module _ (opened : ℕ) where
   too_many kept b go_on true e more = keeps_byte opened kept b go_on (ltb-true _ _ e) ∙ more (omega (arith, ltb-true _ _ e, length_push kept b))
   too_many kept b go_on false e more = rw e refl
 
+  -- bytes that spell more than 4,096 bytes inside a string are answered as one that is too long
   grows_long : {text bytes rest : List ℕ} → Inside text bytes rest → (kept : List ℕ) (at : ℕ) → length kept ≤ 4096 → 4096 < length (kept ++ text)
       → inside_at opened false kept at bytes ≡ Err (long_string opened)
   grows_long here kept at short long = let e = ap length (append-nil kept) in absurd (omega (arith, e))
@@ -232,6 +235,7 @@ spelled_string_is_read s text rest h =
     let end = closes place text through.0 rest o.1.closed in
     subst (λ (start : Spot). Reads text rest (from_whitespace start)) (sym f.2) (end.0, end.1, o.2 ∙ through.1 ∙ end.2)
 
+-- a fault that stands where a string is to be read is answered
 exact : (s : Spot) (fault : Fault) → StringFault s fault → quoted_at s ≡ Err fault
 unfolding quoted_at
 exact s (no_number place) h = absurd h

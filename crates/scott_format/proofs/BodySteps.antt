@@ -70,6 +70,7 @@ list_new piece n s =
     let count : n ≡ n - 0 = omega arith in
     ap (λ (j : ℕ). run (many piece 0 j) s) count ∙ sym (begins (run (many piece 0 (n - 0)) s)) ∙ sym (list_run piece n [] s)
 
+-- the rest of a file after its header, where these entries of its lists are read already
 abbrev lists_from : Head → List Action → List Word → List Room → List (List ℕ) → List Item → List (List ℕ) → Plan Database
 lists_from h actions words rooms messages items comments =
     list_from action (h.sizes.actions + 1) actions >>= λ actions.
@@ -99,6 +100,7 @@ is_new h b new =
 abbrev pub body_of : Head → Plan Database
 body_of h = body h.sizes h.numbers h.closing
 
+-- the trailer, after which a file with these lists is read whole
 abbrev to_end : Head → List Action → List Word → List Room → List (List ℕ) → List Item → List (List ℕ) → Plan Database
 to_end h actions words rooms messages items comments =
     trailer >>= λ last. done (record {
@@ -279,6 +281,7 @@ memory_stops s after (Err why) h = subst (λ (w : Stop). StopsAt file s w after)
 
 -- ---- the trailer
 
+-- the database of a file whose lists were read, with this trailer
 abbrev closed : Body → Trailer → Database
 closed b last = record {
   header = header_of b.head.sizes b.head.numbers b.head.closing;

@@ -30,6 +30,7 @@ Spelled-then (perhaps p) f x y bytes remaining rest (inr h) next = inr (h.0, Spe
 abbrev pub EntrySpelled : {X : Type 0} → Plan X → (X → List Token) → X → Type 0
 EntrySpelled p line x = (rest : List ℕ) → Spelled p x (10 ∷ (line_text (line x) ++ rest)) (10 ∷ rest)
 
+-- the lines of entries that pass the test spell the list of these entries
 pub many_spelled : {X : Type 0} (piece : ℕ → Plan X) (line : X → List Token) (ok : X → Bool)
     → ((k : ℕ) (x : X) → ok x ≡ true → EntrySpelled (piece k) line x)
     → (xs : List X) (k : ℕ) → list_all ok xs ≡ true → (rest : List ℕ) → Spelled (many piece k (length xs)) xs (10 ∷ (lines_text line xs ++ rest)) (10 ∷ rest)

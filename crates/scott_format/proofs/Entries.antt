@@ -41,6 +41,7 @@ action_fits : (n : ℕ) → is_natural n ≡ true → n ≤ 2147483647
 action_fits n e = leb-true n 2147483647 e
 
 module _ (k : ℕ) where
+  -- eight natural numbers are read as an action: its vocabulary, five conditions and two pairs
   action_fed : (v a b c d e first second : ℕ) → list_all is_natural (v ∷ a ∷ b ∷ c ∷ d ∷ e ∷ first ∷ second ∷ []) ≡ true
       → Feeds Action (action k) (map (λ n. num (pos n)) (v ∷ a ∷ b ∷ c ∷ d ∷ e ∷ first ∷ second ∷ []))
       (done (record { vocab = v; conds = a ∷ b ∷ c ∷ d ∷ e ∷ []; pairs = first ∷ second ∷ [] }))
@@ -78,6 +79,7 @@ module _ (laws : TextLaws) where
       → (rest : List ℕ) → Spelled p x (10 ∷ (line_text (t ∷ ts) ++ rest)) (10 ∷ rest)
   entry p t ts x f rest = line_spelled laws p (done x) t ts x (10 ∷ []) rest (10 ∷ rest) f (one refl) (refl, refl)
 
+  -- the line that is written of an action within the limits spells it
   pub action_spelled : (k : ℕ) (a : Action) → is_action a ≡ true → EntrySpelled (action k) action_line a
   action_spelled k a ok =
       let vocab = and_parts (is_natural a.vocab) _ ok in
@@ -104,6 +106,7 @@ module _ (laws : TextLaws) where
   pub string_spelled : (t : List ℕ) → is_file_text t ≡ true → EntrySpelled string string_line t
   string_spelled t ok = entry string (str t) [] t (a_string (kept t ok) fed)
 
+  -- the line that is written of a room within the limits spells it
   pub room_spelled : (r : Room) → is_room r ≡ true → EntrySpelled room room_line r
   unfolding room
   room_spelled r ok =

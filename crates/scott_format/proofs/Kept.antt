@@ -140,6 +140,7 @@ list_fits : {X : Type 0} (test : X → Bool) (xs : List X) (highest most : ℕ) 
     → (leb 1 (length xs) && leb (length xs) most) ≡ true
 list_fits test xs highest most h le = and_from _ _ (le-leb 1 (length xs) (omega (arith, h.1))) (le-leb (length xs) most (omega (arith, h.1)))
 
+-- a database whose header, lists and trailer were tested one by one keeps all limits
 keeps : (counts : Sizes) (numbers : PlayNumbers) (end : Closing) (db : Database) → PartsKeep counts numbers end db → KeepsLimits db
 keeps counts numbers end db h = record {
   header = rw h.header (record {
@@ -171,6 +172,7 @@ keeps counts numbers end db h = record {
 then : {X : Type 0} (Q : X → Type 0) (f : X → Plan Database) (p : Plan X) → Always p Q → ((x : X) → Q x → Always (f x) KeepsLimits) → Always (p >>= f) KeepsLimits
 then Q f p h next = Always-then Q KeepsLimits f p h next
 
+-- whatever database a file reads as keeps the limits
 pub file_keeps : Always file KeepsLimits
 unfolding file body
 file_keeps =

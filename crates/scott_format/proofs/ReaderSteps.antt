@@ -40,6 +40,7 @@ are_bytes (c ∷ a) b h k =
 file_due : IsDue Number file
 file_due = subst (λ (p : Plan Database). IsDue Number p) file_head (due_first Number head body_of head_due)
 
+-- a reader that was fed nothing yet has read nothing, and the whole file is to be read
 pub nothing_read : (r : DbReader) → r.at ≡ 0 → r.kept.items ≡ [] → AllInOrder r.body → file_from r.body ≡ file → r.so_far ≡ Err (stop.Cut (answer.NoNumber 0)) → HasRead r []
 nothing_read r at kept order body so_far = record {
   all = omega (arith, at, ap (λ (xs : List ℕ). length xs) kept);
@@ -198,6 +199,7 @@ module _ (bytes : List ℕ) where
   once_value (Ok db) h = value_back (run file (spot 0 bytes)) db h
   once_value (Err fault) h = tt
 
+  -- a fault that is given of all bytes at once is that of the file, unless memory ran out
   pub once_fault : (r : Result Database FormatFault) → MatchResult r (λ db. database_in bytes ≡ Ok db) (λ fault. Stands fault (database_in bytes))
       → IfErr r (λ fault. Stands fault (run file (spot 0 bytes)))
   unfolding database_in

@@ -96,6 +96,7 @@ module _ (laws : TextLaws) where
       lines_text action_line db.actions ++ (lines_text word_line db.words ++ (lines_text room_line db.rooms ++ (lines_text string_line db.messages
       ++ (lines_text item_line db.items ++ (lines_text string_line db.comments ++ (line_text (trailer_line db.trailer) ++ rest))))))
 
+  -- what is written of the lists and the trailer of a database within the limits spells them
   body_spelled : (db : Database) → KeepsLimits db → (rest : List ℕ) → Spelled (body (counts_of db) (numbers_of db) (end_of db)) db (10 ∷ body_text db rest) (10 ∷ rest)
   unfolding body
   body_spelled db h rest =

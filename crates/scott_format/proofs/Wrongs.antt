@@ -21,6 +21,8 @@ pub onward-err : {A X : Type 0} (r : Result (A × Spot) TextFault) (go_on : A �
 onward-err (Ok y) go_on fault e = inr (y.0, y.1, refl, e)
 onward-err {X = X} (Err own) go_on fault e = inl (own, refl, sym (one_fault {A = X × Spot} (text own) fault refl e))
 
+-- where a number may be missing, a fault is that of a number that is too big, of what follows the
+-- number, or of what is read on without one
 perhaps-err : {X : Type 0} (r : Result (ℤ × Spot) TextFault) (s : Spot) (go_on : Option ℤ → Spot → Result (X × Spot) Fault) (fault : Fault)
     → ((own : TextFault) → r ≡ Err own → NumberFault s own) → onward_perhaps r s go_on ≡ Err fault
     → ((place : ℕ) × (r ≡ Err (big_number place)) × (fault ≡ text (big_number place)))

@@ -18,6 +18,7 @@ module _ {A B : Type 0} (passes : B → Bool) (text : A → List ℕ) where
   chosen-cons : (x : A) (xs : List A) (y : B) (ys : List B) → chosen passes text (x ∷ xs) (y ∷ ys) ≡ here (passes y) x ++ chosen passes text xs ys
   chosen-cons x xs y ys = first_pair (passes y) (x, y) (filter (λ pair. passes pair.1) (zip xs ys))
 
+  -- one entry more adds its text where its partner passes, and nothing where it doesn't
   chosen-next : (xs : List A) (ys : List B) (i : ℕ) (x : A) (y : B) → i < length xs → i < length ys
       → chosen passes text (take (suc i) xs) (take (suc i) ys) ≡ chosen passes text (take i xs) (take i ys) ++ here (passes (get_or ys i y)) (get_or xs i x)
   chosen-next [] ys i x y h k = absurd (omega arith)

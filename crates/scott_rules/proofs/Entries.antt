@@ -80,6 +80,8 @@ module _ (size : ℕ) (all : List (List ℕ)) (word : List ℕ) where
       let starred = near p.0 (omega (arith, p.1.before)) p.1.counted in
       let base = p.1.is_base in cc))
 
+  -- from an entry on, before which none matches, the search gives the base entry of the least match
+  -- of all, or nothing where none matches
   answered : (base : Option ℕ) (k : ℕ) (entries : List (List ℕ)) → drop k all ≡ entries → 1 ≤ k → NearestBefore k base → NoneBefore k
       → Answers (entry_from size word base k entries)
   answered base k [] e h near none = λ j m. none j (omega (arith, at_end all k e, m.there)) m

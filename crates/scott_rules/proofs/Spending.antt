@@ -80,6 +80,7 @@ module _ (ls : List (List ℕ)) where
       let p = prompted t.value.halt game t.value.state t.value.draws in
       Spends-append ls draws t.events p.events ls t.value.draws ls p.value.draws h (prompted-spends t.value.halt game t.value.state t.value.draws)
 
+  -- up to the prompt no line is taken, and what is drawn, with the draws left, is what there was
   advance-spends : (game : Game) (position : Position) (s : State) (draws : List ℕ) → RoundEndSpends draws (advance game position s draws)
   advance-spends game Fresh s draws =
       let t = automatic game (groups game.db) (unmarked s) draws in
@@ -102,6 +103,7 @@ answer-spends game line lines s draws =
 abbrev PlayEndSpends : List (List ℕ) → List ℕ → Traced Step PlayEnd → Type 0
 PlayEndSpends lines draws t = Spends lines draws t.events t.value.lines t.value.draws
 
+-- with a line left, the lines and draws of a play add up, where they do before and after that line
 with_line-spends : (position : Position) (game : Game) (line : List ℕ) (lines : List (List ℕ)) (draws : List ℕ) (t : Traced Step RoundEnd)
     (next : Position → State → List ℕ → Traced Step PlayEnd)
     → Spends (line ∷ lines) draws t.events (line ∷ lines) t.value.draws

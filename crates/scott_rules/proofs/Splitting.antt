@@ -35,6 +35,7 @@ StandFromHeads db (g ∷ gs) = (groups_from db g.head ≡ g ∷ gs) × StandFrom
 drop-next : {X : Type 0} → (k : ℕ) (xs : List X) (x : X) (rest : List X) → drop k xs ≡ x ∷ rest → drop (k + 1) xs ≡ rest
 drop-next k xs x rest e = sym (drop-drop 1 k xs) ∙ ap (drop 1) e
 
+-- each group of the lines from any line on, with those after it, is what stands from its head on
 pub StandFromHeads-groups_of : (db : Database) (k : ℕ) (xs : List Action) → drop k db.actions ≡ xs → StandFromHeads db (groups_of k xs)
 StandFromHeads-groups_of db k [] e = tt
 StandFromHeads-groups_of db k (a ∷ xs) e = by_head (eqb a.vocab 0) (StandFromHeads-groups_of db (k + 1) xs (drop-next k db.actions a xs e)) (ap (groups_of k) e)
@@ -177,6 +178,8 @@ abbrev GoesOnFromLine : Game → List (List ℕ) → List (List ℕ) → List �
 GoesOnFromLine game lines more further = (position : Position) (s : State) (draws : List ℕ)
     → go game position s (lines ++ more) (draws ++ further) ≡ go_on game more further (go game position s lines draws)
 
+-- a play that has a line left, with more lines and draws after what it has, goes on with them from
+-- where it would have stopped
 at_line : (position : Position) (game : Game) (line : List ℕ) (lines more : List (List ℕ)) (further : List ℕ) (es : List Step) (s : State) (draws : List ℕ)
     → GoesOnFromLine game lines more further
     → after es (go game position s (line ∷ (lines ++ more)) (draws ++ further))

@@ -8,6 +8,7 @@ use Rattle.scott_types.specs.Database.{Database}
 use Rattle.scott_tool.specs.Check.{database_or_unfit}
 use Rattle.scott_tool.specs.Obeying.{Declines, database_refusal}
 
+-- a fault of a database is refused as the one that its bytes have, unless memory ran out
 pub database-declined : (name : List ℕ) (read : Result Database Fault) (answer : FormatFault)
     → Stands answer read → Declines (database_or_unfit name read) (database_refusal name answer)
 database-declined name read (NoNumber at) stands = ap (database_or_unfit name) stands

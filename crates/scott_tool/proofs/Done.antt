@@ -78,6 +78,7 @@ module _ (shelf shelf' : ShelfView) (console console' : ConsoleView) (asked : Op
   stored files name out bytes known exact is =
       is ∙ ap (λ f. with_file f name out) known ∙ ap (with_file (Some files) name) exact
 
+  -- `compile` with status 0 has stored the database that the source means
   pub compiled : status ≡ 0 → HasCompiled shelf shelf' asked
   compiled zero source game is = done_for (compile source game) is _
       (λ files known (bytes, tree, db, there, text, means, d). let kept = d.files.stored zero in
@@ -101,6 +102,7 @@ module _ (shelf shelf' : ShelfView) (console console' : ConsoleView) (asked : Op
         stored = stored files source kept.0 _ known kept.1 kept.2;
       })
 
+  -- `play` that was done has shown the play, and kept its position where that was asked for
   pub played : HasPlayed shelf shelf' console console' asked
   played p is = done_for (play p) is _ (λ files known (bytes, db, there, text, (draws, are, d)).
       let opens = opened_at files db p.opened_from _ _ d in
@@ -119,6 +121,7 @@ module _ (shelf shelf' : ShelfView) (console console' : ConsoleView) (asked : Op
             (λ ls. stopped_text draws (play_from p.style db opens.0 draws ls).value) lines known;
       }) opens.2.seen)
 
+  -- `translate` with status 0 has stored a program that is faithful to the database
   pub translated : status ≡ 0 → HasTranslated shelf shelf' asked
   translated zero t is = done_for (translate t) is _
       (λ files known (bytes, db, there, text, (no_wide, d)).
@@ -132,6 +135,7 @@ module _ (shelf shelf' : ShelfView) (console console' : ConsoleView) (asked : Op
         stored = stored files t.program kept.0 kept.0 known refl kept.2;
       })
 
+  -- `transfer` with status 0 has stored a program faithful to the database from the position on
   pub transferred : status ≡ 0 → HasTransferred shelf shelf' asked
   transferred zero t is = done_for (transfer t) is _
       (λ files known (
@@ -162,6 +166,7 @@ module _ (shelf shelf' : ShelfView) (console console' : ConsoleView) (asked : Op
         stored = stored files t.translation.program kept.0 kept.0 known refl kept.2;
       })
 
+  -- `simplify` with status 0 has stored a program that is simpler than that of the file
   pub simplified : status ≡ 0 → HasSimplified shelf shelf' asked
   simplified zero s is = done_for (simplify s) is _ (λ files known (bytes, p, there, text, d).
       let kept = d.files.stored zero in record {
@@ -174,6 +179,7 @@ module _ (shelf shelf' : ShelfView) (console console' : ConsoleView) (asked : Op
         stored = stored files s.simpler kept.0 kept.0 known refl kept.2;
       })
 
+  -- `run` that was done has shown the run of the program, and ends with the status of its stop
   pub ran : HasRun shelf console console' asked status
   ran r is = done_for (run r) is _ (λ files known (bytes, p, there, text, (draws, are, d)).
       from_lines console.left _ _ (λ lines (o, does, ends, grew, kept). record {
@@ -187,6 +193,7 @@ module _ (shelf shelf' : ShelfView) (console console' : ConsoleView) (asked : Op
         seen = grew ∙ ap (λ x. grown console.history x.events) does;
       }) d.seen)
 
+  -- `step` that was done has shown the run of the program, with a line at each pause
   pub stepped : Laws → HasStepped shelf console console' asked status
   stepped laws s is = done_for (step s) is _
       (λ files known (bytes, p, there, text, (pausing, found, (draws, are, d))).
@@ -204,6 +211,8 @@ module _ (shelf shelf' : ShelfView) (console console' : ConsoleView) (asked : Op
         runs = without_lines laws.steps s.run.width p s.run.steps draws lines;
       }) d.seen)
 
+  -- `calls` that was done has shown the run of the program, and then how often it entered the
+  -- routine of each line, or the line of a run that ends otherwise
   pub called : HasCalled shelf console console' asked status
   called r is = done_for (calls r) is _ (λ files known (bytes, p, there, text, (draws, are, d)).
       from_lines console.left _ _ (λ lines (o, does, ends, grew, kept). record {
@@ -236,6 +245,7 @@ module _ (shelf shelf' : ShelfView) (console console' : ConsoleView) (asked : Op
         seen = grew ∙ ap (λ x. grown console.history x.events) does;
       }) d.seen)
 
+  -- `cover` that was done has shown the play, and then how often each line was tried
   pub covered : HasCovered shelf console console' asked
   covered c is = done_for (cover c) is _ (λ files known (bytes, db, there, text, (draws, are, d)).
       from_lines console.left _ _ (λ lines (o, does, ends, grew, kept). record {
@@ -267,6 +277,7 @@ pub record Meanings (shelf shelf' : ShelfView) (console console' : ConsoleView)
   pub recounted_is : HasRecounted shelf console console' asked status
   pub demonstrated_is : status ≡ 0 → HasDemonstrated shelf console console' asked
 
+-- what is promised of every request gives for each command what its statuses mean
 pub meanings : (laws : Laws) (shelf shelf' : ShelfView) (console console' : ConsoleView)
     (asked : Option Request) (status : ℕ)
     → Promises shelf shelf' console console' asked status

@@ -99,6 +99,7 @@ pub record AreLoaded (files : Files) (request : Request) (texts : Texts) : Type 
   pub draws : loaded files (draws_of request) ≡ Ok texts.draws
   pub position : loaded files (position_of request) ≡ Ok texts.position
 
+-- where all that a request loads was loaded, so was each of its files
 pub texts-loaded : (files : Files) (request : Request) (texts : Texts) → texts_of files request
     ≡ Ok texts → AreLoaded files request texts
 texts-loaded files request texts e =
@@ -126,6 +127,7 @@ long_file files (Some load) name limit e = by (loading load (get files load.name
     by (long bytes has more g) = (load, refl, (bytes, has, more))
     by (there bytes has g) = absurd (ok_or_err (loaded files (Some load)) bytes _ g e)
 
+-- where the draws or the position are refused as too long, a file of the request is too long
 long_later : (files : Files) (request : Request) (name : List ℕ) (limit : ℕ)
     → later_texts_of files request ≡ Err (too_long name limit)
     → (load : Load) × IsLoad request load × IsTooLong files load
@@ -143,6 +145,7 @@ long_later files request name limit e =
           ]
     ]
 
+-- where a request is refused for a file that is too long, one of its files is
 pub long_one : (files : Files) (request : Request) (name : List ℕ) (limit : ℕ)
     → texts_of files request ≡ Err (too_long name limit)
     → (load : Load) × IsLoad request load × IsTooLong files load

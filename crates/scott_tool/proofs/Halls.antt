@@ -215,6 +215,7 @@ pub record Heard (old now : ConsoleView) (db : Database) (count : ℕ) (seats : 
     pub alone : seats ≡ all_alone db count before
     pub ahead : IfSome old.left (Ahead old now db count before)
 
+-- before the first line each session stands where it would alone, and nothing was seen
 pub none-heard : (old : ConsoleView) (db : Database) (count : ℕ) (seats : List Seat)
     → seats ≡ all_alone db count [] → Heard old old db count seats
 none-heard old db count seats alone =

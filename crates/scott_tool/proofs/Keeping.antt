@@ -164,6 +164,8 @@ module _ (shelf shelf' : ShelfView) (old mid new : ConsoleView) (status : ℕ) (
       ];
     }
 
+  -- a play that was shown, and whose position wasn't stored, for want of memory or by a fault of
+  -- the shelf, does what is expected
   by_refusal : (kept : File) (refusal : Option Refusal) → kept_as save.name text ≡ Some kept
       → FailsToStore shelf shelf' kept.name refusal → shelf.faults ≤ shelf'.faults
       → mid.faults ≡ old.faults → Refuses mid new refusal status → IfSome old.left Went

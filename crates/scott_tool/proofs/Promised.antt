@@ -110,6 +110,7 @@ module _ (shelf shelf' : ShelfView) (console console' : ConsoleView) (status : �
   seen_with asked files lines left is h = subst (λ (o : Option (List (List ℕ))). IfSome o
       (Seen asked files)) is h
 
+  -- a task that is to end with 0 does so, unless memory ran out or the shelf or the console failed
   stand_0 : (request : Request) (files : Files) (task : Task) → expected files (Some request)
       ≡ Ok task → EndsWith0 task console.left
       → Stand (task_statuses task) → IfSome console.left (Seen (Some request) files) → Stand
@@ -126,6 +127,8 @@ module _ (shelf shelf' : ShelfView) (console console' : ConsoleView) (status : �
         | inr h ↦ unread_stands (Some request) h
       ]
 
+  -- where all files are there and accepted, the status is 0, unless memory ran out or the shelf or
+  -- the console failed
   pub complete_from : (laws : Laws) (asked : Option Request) → IfSome shelf.files
       (λ files. Stand (statuses_of (expected files asked))) → IfKnown shelf console (Seen asked)
       → IfSome shelf.files (λ files. IsAccepted files console.left asked → Stand (0 ∷ []))

@@ -9,6 +9,7 @@ use Rattle.scott_tool.proofs.Promised.{Promises}
 use Rattle.scott_tool.proofs.Refusing.{not_asked_promised, not_loaded_promised}
 use Rattle.scott_tool.proofs.Working.{worked_promised}
 
+-- whether words were refused, files not loaded or a task worked on, all promises are kept
 pub promised : Laws → (shelf shelf' : ShelfView) (console console' : ConsoleView)
     (asked : Option Request) (status : ℕ)
     → Handled shelf shelf' console console' asked status

@@ -305,6 +305,7 @@ module _ (laws : Laws) (files : Files) (texts : Texts) (loads : Loads)
 
   -- ---- the task of a plan that was followed
 
+  -- where a plan was followed to a task, each content is what it should be
   pub reached : (P : Task → Type 0) (p : Plan) → Made p → (task : Task)
       → followed p texts ≡ Ok task → P task → Reaches files p P
   reached P (of_game file next) (m, more) task w h =
@@ -374,6 +375,7 @@ module _ (laws : Laws) (files : Files) (texts : Texts) (loads : Loads)
 
   -- ---- the first content that is refused
 
+  -- draws are refused with status 5, where a run of bytes in their file is no draw
   no_draws : (source : DrawSource) → loads.draws ≡ draws_load source → (u : Unfit)
       → draws_from source texts.draws ≡ Err u
       → (flaw_status u.flaw ≡ 5) × AreNoDraws files source
@@ -386,6 +388,7 @@ module _ (laws : Laws) (files : Files) (texts : Texts) (loads : Loads)
       by (Ok ds) f g = absurd cc
       by (Err at) f g = (sym (ap status_in g), (texts.draws, at, draws_there _ m, f))
 
+  -- a plan is refused with the status of the first content that isn't what it should be
   pub refused_first : (p : Plan) → Made p → (u : Unfit) → followed p texts ≡ Err u
       → IsRefused files p (flaw_status u.flaw)
   refused_first (of_game file next) (m, more) u w = (
@@ -494,6 +497,7 @@ module _ (laws : Laws) (files : Files) (texts : Texts) (loads : Loads)
       ap (draws_or_unfit file)
       (ap listed_draws (same_file files file (draws_there _ m) there) ∙ lists)
 
+  -- a plan whose contents are all what they should be is followed to its task
   pub comes : (P : Task → Type 0) (p : Plan) → Made p → Reaches files p P
       → (task : Task) × (followed p texts ≡ Ok task) × P task
   comes P (of_game file next) (m, more) (bytes, db, there, text, h) =
@@ -589,6 +593,7 @@ module _ (laws : Laws) (files : Files) (request : Request) where
       → texts_of files request ≡ Ok (record { main = main; draws = draws; position = position })
   all_texts main draws position m d p = rw (m, d, p) refl
 
+  -- a request that is accepted has a task, and that ends with 0
   pub accepted : (left : Option (List (List ℕ))) → IsAccepted files left (Some request)
       → (task : Task) × (expected files (Some request) ≡ Ok task) × EndsWith0 task left
   accepted left (all, reaches) =

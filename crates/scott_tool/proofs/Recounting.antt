@@ -116,6 +116,7 @@ module _ (laws : Laws) (files : Files) (lines : List (List ℕ)) (r : RunRequest
 
 module _ (laws : Laws) (r : RunRequest) (style : Style) (db : Database)
     (few : length db.actions ≤ LINE_LIMIT) (old new : ConsoleView) (status : ℕ) where
+  -- `calls` of a faithful program ends as a play does, and shows what `cover` shows of its database
   recounted : (known : Option Files) (left : Option (List (List ℕ)))
       → (IsEnd status → IfSome known (λ files. IfSome left
       (λ lines. Called files lines r old new status)))

@@ -70,6 +70,7 @@ module _ (shelf shelf' : ShelfView) (console console' : ConsoleView) (status : �
 
   -- ---- no request
 
+  -- words that are no request are refused, and all promises are kept
   pub not_asked_promised : (laws : Laws) → shelf'.files ≡ shelf.files → shelf'.faults ≡ shelf.faults
       → Refuses console console' (Some no_request) status
       → Promises shelf shelf' console console' None status

@@ -146,6 +146,7 @@ module _ (laws : Laws) (files : Files) (lines : List (List ℕ)) (name : List �
 
 module _ (laws : Laws) (r : RunRequest) (style : Style) (db : Database) (old new : ConsoleView)
     (status : ℕ) where
+  -- `run` of a faithful program ends as a play does, and shows the play of its database
   replayed : (known : Option Files) (left : Option (List (List ℕ)))
       → (IsEnd status → IfSome known (λ files. IfSome left
       (λ lines. Ran files lines r.program r.source r.steps r.width old new status)))

@@ -94,6 +94,7 @@ module _ (shelf shelf' : ShelfView) (console console' : ConsoleView) (status : �
     | inr other ↦ inr other
   ]
 
+  -- a task leaves all files as they were but that of the name under which it stores
   keeps_name : (name : Option (List ℕ)) (task : Task) → stored_by task ≡ name
       → Leaves shelf shelf' (Ok task) status → NameKeeps shelf shelf' name status
   keeps_name name task is h =

@@ -272,6 +272,7 @@ module _ (game : Game) (position : Position) (s : State) (draws line : List ℕ)
   abbrev fed : Bool → Traced Step RoundEnd
   fed at = after_line at game line up.value.position up.value.state up.value.draws
 
+  -- a line that is fed tries just the action lines that the play on it alone tries
   by_prompt : (at : Bool) → is_prompt up.value.position ≡ at
       → noted (up.events ++ (fed at).events) ≡ noted (go game position s (line ∷ []) draws).events
   by_prompt true is =

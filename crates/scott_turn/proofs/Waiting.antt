@@ -127,6 +127,7 @@ module _ (db : Database) where
   prompted-waits (Waits head) game s draws waits = waits
   prompted-waits (AtEnd ending) game s draws waits = tt
 
+-- what is done up to the prompt waits for a draw only at a head of verb 0
 advance-waits : (game : Game) (position : Position) (s : State) (draws : List ℕ)
     → WaitsAtHead game.db (advance game position s draws).value.position
 advance-waits game Fresh s draws =

@@ -8,6 +8,7 @@ use Rattle.scott_types.specs.Database.{Database}
 use Rattle.scott_rules.specs.Words.{which}
 use Rattle.scott_rules.specs.Commands.{Span, split, first_word, by_direction, by_verb, noun_named, heard, heard_words}
 
+-- a first word that is neither a direction nor a verb is heard as a word that isn't known
 pub unknown_heard : (db : Database) (line word : List ℕ) (words : Words) (span : Span) (noun : Option ℕ) → words ≡ split line → words.first ≡ Some span
     → word ≡ first_word line span words.second → noun ≡ which db Nouns word → ((other : Heard) → by_direction noun other ≡ other) → None ≡ which db Verbs word
     → Unknown span.0 span.1 ≡ heard db line

@@ -239,6 +239,7 @@ action_fits at t fits =
 ends : (tree : Source) → WellFormed tree → Always (end_of_text >> done tree) WellFormed
 ends tree h = Always-after WellFormed (λ u. done tree) end_of_text (λ u. h)
 
+-- whatever is read as a source is well formed
 pub source_fits : Always source WellFormed
 unfolding source lists
 source_fits =

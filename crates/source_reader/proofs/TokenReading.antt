@@ -111,6 +111,7 @@ module _ (laws : TextLaws) where
 
   -- ---- what is spelled is read
 
+  -- a token that is spelled up to a spot is read up to it
   spelled_read : (s after : Spot) (t : Token) → TokenTo s t after → token_at s ≡ read t after
   unfolding token_at
   spelled_read s after (token.Number z) h =
@@ -172,6 +173,7 @@ module _ (laws : TextLaws) where
 
   -- ---- a fault that stands is answered
 
+  -- a fault of a token that stands at a spot is answered there
   stands_refused : (s : Spot) (fault : Fault) → TokenFault s fault → token_at s ≡ refused fault
   unfolding token_at
   stands_refused s (unexpected place) h = absurd h
