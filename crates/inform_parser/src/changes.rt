@@ -1,5 +1,4 @@
 //! Changes, and the statements that begin with a name.
-ghost use Rattle.std.specs.Prelude.{◌≡◌, ◌≤◌, ◌<◌, List, [], ◌∷◌, OnOk, length};
 ghost use Rattle.inform_tree.specs.Statements.{assignment_of, assignment_if_any, statement_of};
 ghost use Rattle.inform_grammar.specs.Rules as r;
 ghost use Rattle.inform_grammar.specs.StatementRules.{change_after, statement_after};

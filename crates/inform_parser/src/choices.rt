@@ -1,5 +1,5 @@
 //! The heads of the cases of a `switch`.
-ghost use Rattle.std.specs.Prelude.{◌≡◌, ◌≤◌, ◌<◌, List, [], ◌∷◌, OnOk, IfOk, IfErr, length};
+ghost use Rattle.std.specs.Prelude.{[], ◌∷◌};
 ghost use Rattle.inform_grammar.specs.Rules as r;
 ghost use Rattle.inform_grammar.specs.StatementRules.{range_after, choices_after, head_after};
 ghost use Rattle.inform_grammar.specs.Plan.{done, one, many};

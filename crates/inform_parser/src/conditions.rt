@@ -1,5 +1,5 @@
 //! Conditions.
-ghost use Rattle.std.specs.Prelude.{◌≡◌, ◌≤◌, ◌<◌, List, [], ◌∷◌, OnOk, length};
+ghost use Rattle.std.specs.Prelude.{◌≡◌, [], ◌∷◌};
 ghost use Rattle.inform_tree.specs.Values.{expression_of};
 ghost use Rattle.inform_tree.specs.Conditions.{condition_of};
 ghost use Rattle.inform_grammar.specs.Rules as r;

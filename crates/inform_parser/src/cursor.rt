@@ -1,5 +1,5 @@
 //! The tokens that are left, and how many brackets and statements are open.
-ghost use Rattle.std.specs.Prelude.{◌≡◌, ◌≤◌, ◌<◌, OnOk, Ok, IfOk, MatchOption, length, drop, true, false};
+ghost use Rattle.std.specs.Prelude.{◌≡◌, ◌≤◌, IfOk, MatchOption, length, drop, true, false};
 ghost use Rattle.inform_lexemes.specs.Lexemes.{Word, Name as NameLexeme, Number, Character, Quoted, Sign, is_sign, is_word, is_name, is_number, is_character, is_quoted};
 ghost use Rattle.inform_lexer.specs.Spans.{lexemes};
 ghost use Rattle.inform_grammar.specs.Lexemes.{heads, is_arrow, is_factor_sign, is_term_sign, is_relation, relation_in, is_opener, is_closer};

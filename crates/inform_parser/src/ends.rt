@@ -1,5 +1,4 @@
 //! What was made, once the symbol is read that ends it.
-ghost use Rattle.std.specs.Prelude.{◌≡◌, ◌≤◌, ◌<◌, OnOk, length};
 ghost use Rattle.inform_tree.specs.Values.{expression_of};
 ghost use Rattle.inform_tree.specs.Statements.{statement_of};
 ghost use Rattle.inform_tree.specs.Programs.{directive_of};

@@ -1,5 +1,4 @@
 //! Parts of statements with bodies that hold no statement with a body.
-ghost use Rattle.std.specs.Prelude.{◌≡◌, ◌≤◌, ◌<◌, List, [], ◌∷◌, option_map, OnOk, length};
 ghost use Rattle.inform_grammar.specs.StatementRules.{part_after};
 ghost use Rattle.inform_parser.specs.Reading.{ReadsSome};
 ghost use Rattle.inform_parser.specs.Guards.{guard_of, guard_if_any};

@@ -1,5 +1,4 @@
 //! Statements without a body that begin with a word.
-ghost use Rattle.std.specs.Prelude.{◌≡◌, ◌≤◌, ◌<◌, OnOk, length};
 ghost use Rattle.inform_tree.specs.Statements.{statement_of};
 ghost use Rattle.inform_grammar.specs.StatementRules.{return_after, read_after};
 ghost use Rattle.inform_parser.specs.Reading.{ReadsSome};

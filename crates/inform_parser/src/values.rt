@@ -1,5 +1,5 @@
 //! Constants and expressions.
-ghost use Rattle.std.specs.Prelude.{◌≡◌, ◌≤◌, ◌<◌, List, [], ◌∷◌, map, OnOk, IfOk, IfErr, length};
+ghost use Rattle.std.specs.Prelude.{◌≡◌, [], ◌∷◌, IfOk, IfErr};
 ghost use Rattle.inform_tree.specs.Values.{expression_of};
 ghost use Rattle.inform_lexemes.specs.declared.symbols.Symbol.TheVariants.{Minus};
 ghost use Rattle.inform_lexemes.specs.Lexemes.{is_sign};

@@ -46,6 +46,6 @@ parts-returns-in_err-part t c =
     let l = c.loop-alloc in
     rw (p.1, p.2) (record {
       gives = stops (map part_of l.parts.items) l.self c.part.new.self c.in_err-part.field-0.0 _
-    (part_more (map part_of l.parts.items) l.self (sym c.at_part.ensures ∙ c.loop-alloc-test.true)) c.in_err-part.ensures.gives l.invariant.0;
+          (part_more (map part_of l.parts.items) l.self (sym c.at_part.ensures ∙ c.loop-alloc-test.true)) c.in_err-part.ensures.gives l.invariant.0;
       ahead = omega arith;
     })

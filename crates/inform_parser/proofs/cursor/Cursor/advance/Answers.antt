@@ -8,19 +8,19 @@ use Rattle.inform_parser.proofs.cursor.Cursor.advance.Goals as goal
 
 pub returns-in_default : goal.returns-in_default
 returns-in_default c = record {
-      gives = ended c.args.self.now (ap (λ (s : Spot). first_glance s.rest) (sym c.self.view_is) ∙ sym c.self.invariant ∙ c.in_default.is);
-      ahead = omega (arith, ap (λ (s : Spot). length s.rest) c.self.view_is);
-      taken = tt;
-    }
+  gives = ended c.args.self.now (ap (λ (s : Spot). first_glance s.rest) (sym c.self.view_is) ∙ sym c.self.invariant ∙ c.in_default.is);
+  ahead = omega (arith, ap (λ (s : Spot). length s.rest) c.self.view_is);
+  taken = tt;
+}
 
 pub returns-in_default-opened_after : goal.returns-in_default-opened_after
 returns-in_default-opened_after c = record {
-      gives = no_room c.args.self.now c.in-Some.seen
-        (ap (λ (s : Spot). first_glance s.rest) (sym c.self.view_is) ∙ sym c.self.invariant ∙ c.in-Some.is)
-        (ap (λ (s : Spot). opened_within c.in-Some.seen s.opened) (sym c.self.view_is) ∙ sym c.opened_after.ensures ∙ c.in_default-opened_after.is);
-      ahead = omega (arith, ap (λ (s : Spot). length s.rest) c.self.view_is);
-      taken = tt;
-    }
+  gives = no_room c.args.self.now c.in-Some.seen
+      (ap (λ (s : Spot). first_glance s.rest) (sym c.self.view_is) ∙ sym c.self.invariant ∙ c.in-Some.is)
+      (ap (λ (s : Spot). opened_within c.in-Some.seen s.opened) (sym c.self.view_is) ∙ sym c.opened_after.ensures ∙ c.in_default-opened_after.is);
+  ahead = omega (arith, ap (λ (s : Spot). length s.rest) c.self.view_is);
+  taken = tt;
+}
 
 pub returns : goal.returns
 returns c =
@@ -29,8 +29,8 @@ returns c =
     let whole = ap (λ (s : Spot). length s.rest) c.self.view_is in
     record {
       gives = ap (λ (s : Spot). read any_next s) (sym c.self.view_is)
-        ∙ one_taken c.self.inside.bytes.now c.self.inside.rest.now c.self.inside.opened c.in-Some-opened_after.opened c.in-Some.seen
-        seen (sym c.opened_after.ensures ∙ c.in-Some-opened_after.is);
+          ∙ one_taken c.self.inside.bytes.now c.self.inside.rest.now c.self.inside.opened c.in-Some-opened_after.opened c.in-Some.seen
+          seen (sym c.opened_after.ensures ∙ c.in-Some-opened_after.is);
       ahead = omega (arith, fewer, whole);
       taken = omega (arith, fewer, whole);
     }

@@ -17,7 +17,7 @@ returns-in_err-advance c =
 
 pub returns : goal.returns
 returns c = record {
-      gives = sign_taken c.args.self.now c.advance.new.self c.args.symbol (sym c.at.ensures ∙ c.if-not-at.false) c.in_ok-advance.ensures.gives;
-      ahead = c.advance.ensures.ahead;
-      taken = c.in_ok-advance.ensures.taken;
-    }
+  gives = sign_taken c.args.self.now c.advance.new.self c.args.symbol (sym c.at.ensures ∙ c.if-not-at.false) c.in_ok-advance.ensures.gives;
+  ahead = c.advance.ensures.ahead;
+  taken = c.in_ok-advance.ensures.taken;
+}

@@ -17,7 +17,7 @@ returns-in_err-advance c =
 
 pub returns : goal.returns
 returns c = record {
-      gives = word_taken c.args.self.now c.advance.new.self c.args.keyword (sym c.at_word.ensures ∙ c.if-not-at_word.false) c.in_ok-advance.ensures.gives;
-      ahead = c.advance.ensures.ahead;
-      taken = c.in_ok-advance.ensures.taken;
-    }
+  gives = word_taken c.args.self.now c.advance.new.self c.args.keyword (sym c.at_word.ensures ∙ c.if-not-at_word.false) c.in_ok-advance.ensures.gives;
+  ahead = c.advance.ensures.ahead;
+  taken = c.in_ok-advance.ensures.taken;
+}

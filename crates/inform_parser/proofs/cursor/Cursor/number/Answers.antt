@@ -17,7 +17,7 @@ returns-in_err-advance c =
 
 pub returns : goal.returns
 returns c = record {
-      gives = first_taken c.args.self.now is_number (Number c.in-Some.number) c.in-Some.ensures refl c.advance.new.self c.in_ok-advance.ensures.gives;
-      ahead = c.advance.ensures.ahead;
-      taken = c.in_ok-advance.ensures.taken;
-    }
+  gives = first_taken c.args.self.now is_number (Number c.in-Some.number) c.in-Some.ensures refl c.advance.new.self c.in_ok-advance.ensures.gives;
+  ahead = c.advance.ensures.ahead;
+  taken = c.in_ok-advance.ensures.taken;
+}

@@ -18,7 +18,7 @@ returns-in_err-advance c =
 
 pub returns : goal.returns
 returns c = record {
-      gives = relation_taken c.args.self.now c.in-Some.relation c.in-Some.ensures c.advance.new.self c.in_ok-advance.ensures.gives;
-      ahead = c.advance.ensures.ahead;
-      taken = c.in_ok-advance.ensures.taken;
-    }
+  gives = relation_taken c.args.self.now c.in-Some.relation c.in-Some.ensures c.advance.new.self c.in_ok-advance.ensures.gives;
+  ahead = c.advance.ensures.ahead;
+  taken = c.in_ok-advance.ensures.taken;
+}

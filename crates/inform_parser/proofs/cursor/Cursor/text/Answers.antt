@@ -17,7 +17,7 @@ returns-in_err-advance c =
 
 pub returns : goal.returns
 returns c = record {
-      gives = first_taken c.args.self.now is_quoted (Quoted c.in-Some.text) (rw c.in-Some.is at c.in_ok-text.ensures) refl c.advance.new.self c.in_ok-advance.ensures.gives;
-      ahead = c.advance.ensures.ahead;
-      taken = c.in_ok-advance.ensures.taken;
-    }
+  gives = first_taken c.args.self.now is_quoted (Quoted c.in-Some.text) (rw c.in-Some.is at c.in_ok-text.ensures) refl c.advance.new.self c.in_ok-advance.ensures.gives;
+  ahead = c.advance.ensures.ahead;
+  taken = c.in_ok-advance.ensures.taken;
+}
