@@ -14,14 +14,14 @@ use Rattle.inform_grammar.specs.Lexemes.{heads, name_in, continues_choice}
 use Rattle.inform_grammar.specs.Trees.{Guard, condition, cases_tree}
 use Rattle.inform_grammar.specs.ValueRules.{minus_number, constant, primary, unary, product, value}
 use Rattle.inform_grammar.specs.ConditionRules.{test, guarded}
-use Rattle.inform_grammar.specs.StatementRules.{change, statement_after, choice, choices_after, head_after, part_after, default_after, cases_after, cases_of, switch, body_of, else_after, if_after, while_after, do_after, for_body, for_last, for_test, for_after, statement, body, part_of, part}
+use Rattle.inform_grammar.specs.StatementRules.{change, statement_after, choice, choices_after, head_after, part_after, default_after, cases_after, cases_of, switch, body_of, else_after, if_after, while_after, do_after, for_body, for_last, for_test, for_after, statements_to_brace, statement, body, part_of, part}
 use Rattle.inform_grammar.specs.Plan.{Plan, done, refuse, next, ◌>>=◌, take, one, many, shut}
 use Rattle.inform_grammar.specs.Rule.{rule}
 use Rattle.inform_grammar.specs.Reading.{Spot, spot, step, reads, within_limit}
 use Rattle.inform_grammar.proofs.Steps.{starts, one-as-here, many-no, many-yes, look-yes, look-no, done-here}
 use Rattle.inform_parser.specs.Reading.{read}
 use Rattle.inform_parser.specs.Begins.{begins_statement, begins_bare}
-use Rattle.inform_parser.specs.Plans.{change_if_any, plain_statement, simple_statement, guard_in_brackets, until_test, first_change, last_change, test_to_colon, switched_value, first_choices, named_part, bare_part, default_read}
+use Rattle.inform_parser.specs.Plans.{change_if_any, plain_statement, simple_statement, value_in_brackets, guard_in_brackets, guard_after, statements_in_braces, block, if_statement, while_statement, do_statement, for_statement, until_test, first_change, last_change, test_to_colon, switched_value, first_choices, named_part, bare_part, default_read}
 use Rattle.inform_parser.proofs.TreesMade.{no_cases}
 
 -- ---- heads
@@ -56,7 +56,7 @@ pub ruleset parts_after = (part_after_head, part_after_said)
 abbrev pub statement_plan : Plan Statement
 statement_plan =
     next (is_sign Semicolon) (λ _. done s.Empty)
-    (next (is_sign LeftBrace) (λ _. many r.Statement [] (λ xs. take (is_sign RightBrace) (done (s.Block (s.statements xs)))))
+    (next (is_sign LeftBrace) (λ _. statements_to_brace (λ xs. done (s.Block (s.statements xs))))
     (next is_name (λ x. statement_after (name_in x) >>= done)
     (next (is_word w.If) (λ _. if_after >>= done)
     (next (is_word w.While) (λ _. while_after >>= done)
@@ -75,9 +75,13 @@ statement_by (x ∷ xs) n = refl
 pub statement_as : (s : Spot) → read (one r.Statement done) s ≡ read statement_plan s
 statement_as s = statement_by s.rest s.opened
 
+pub block_as : (z : Spot) → read block z ≡ read (statements_in_braces >>= λ xs. done (s.Block (s.statements xs))) z
+unfolding statements_in_braces
+block_as z = refl
+
 abbrev pub body_plan : Plan (List Statement)
 body_plan =
-    next (is_sign LeftBrace) (λ _. many r.Statement [] (λ xs. take (is_sign RightBrace) (done xs)))
+    next (is_sign LeftBrace) (λ _. statements_to_brace done)
     (one r.Statement (λ x. done (x ∷ [])))
 
 body_by : (xs : List Lexeme) (n : ℕ) → read (one r.Body done) (spot n xs) ≡ read body_plan (spot n xs)
@@ -107,21 +111,21 @@ statement_last front s e = many-no within_limit s.rest r.Statement (rw (statemen
 
 pub ruleset statement_loop = (statement_more, statement_last)
 
-pub if_after_as : (s : Spot) → read if_after s ≡ read (guard_in_brackets >>= λ x. one r.Body (λ xs. else_after x xs)) s
-unfolding if_after guard_in_brackets
-if_after_as s = refl
+pub if_statement_as : (s : Spot) → read if_statement s ≡ read (guard_after w.If >>= λ x. one r.Body (λ xs. else_after x xs >>= done)) s
+unfolding if_after guard_after guard_in_brackets
+if_statement_as s = refl
 
-pub while_after_as : (z : Spot) → read while_after z ≡ read (guard_in_brackets >>= λ x. one r.Body (λ xs. shut (done (s.While (condition x) (s.statements xs))))) z
-unfolding while_after guard_in_brackets
-while_after_as z = refl
+pub while_statement_as : (z : Spot) → read while_statement z ≡ read (guard_after w.While >>= λ x. one r.Body (λ xs. shut (done (s.While (condition x) (s.statements xs))))) z
+unfolding while_after guard_after guard_in_brackets
+while_statement_as z = refl
 
-pub do_after_as : (z : Spot) → read do_after z ≡ read (one r.Body (λ xs. until_test >>= λ x. shut (done (s.Do (s.statements xs) (condition x))))) z
-unfolding do_after guard_in_brackets until_test
-do_after_as z = refl
+pub do_statement_as : (z : Spot) → read do_statement z ≡ read (take (is_word w.Do) (one r.Body (λ xs. until_test >>= λ x. shut (done (s.Do (s.statements xs) (condition x)))))) z
+unfolding do_after guard_after guard_in_brackets until_test
+do_statement_as z = refl
 
-pub for_after_as : (s : Spot) → read for_after s ≡ read (first_change >>= λ first. for_test first) s
+pub for_statement_as : (s : Spot) → read for_statement s ≡ read (first_change >>= λ first. for_test first >>= done) s
 unfolding for_after change_if_any first_change
-for_after_as s = refl
+for_statement_as s = refl
 
 pub for_test_as : (first : Option Assignment) (s : Spot) → read (for_test first) s ≡ read (test_to_colon >>= λ x. for_last first x) s
 unfolding for_test test_to_colon
@@ -134,7 +138,7 @@ for_last_as first x s = refl
 -- ---- `switch`
 
 pub switch_as : (s : Spot) → read switch s ≡ read (switched_value >>= λ x. cases_after x) s
-unfolding switch switched_value
+unfolding switch switched_value value_in_brackets
 switch_as s = refl
 
 pub default_after_as : (x : Expression) (cases : List (List Choice × List Statement)) (s : Spot) → read (default_after x cases) s ≡ read (default_read x (cases_tree cases)) s

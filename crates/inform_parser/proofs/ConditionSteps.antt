@@ -18,7 +18,7 @@ use Rattle.inform_grammar.specs.Reading.{Spot, spot, step, reads, within_limit}
 use Rattle.inform_grammar.proofs.Steps.{one-as, one-as-here, done-here}
 use Rattle.inform_parser.specs.Reading.{read}
 use Rattle.inform_parser.specs.Nexts.{relation_next}
-use Rattle.inform_parser.specs.Plans.{at_connective, at_other, connective_next, members_from}
+use Rattle.inform_parser.specs.Plans.{at_connective, at_other, connective_next, members_from, guard_in_brackets, not_after, compared_test}
 use Rattle.inform_parser.specs.declared.guards.Join.{Join as Joint}
 use Rattle.inform_parser.specs.declared.guards.Join.TheVariants as joint
 use Rattle.inform_parser.specs.Guards.{join_of}
@@ -61,12 +61,12 @@ pub ruleset relations = (compared, plain)
 
 abbrev pub test_plan : Plan Guard
 test_plan =
-    next (is_sign Not) (λ _. take (is_sign LeftRound) (one r.Condition (λ x. take (is_sign RightRound) (done (Tested (c.Not (condition x)))))))
+    next (is_sign Not) (λ _. not_after)
     (next (is_sign LeftRound) (λ _. one r.Condition (λ x. take (is_sign RightRound) (bracket_after x >>= done)))
-    (one r.Value (λ x. relation_after x >>= done)))
+    compared_test)
 
 test_by : (xs : List Lexeme) (n : ℕ) → read (one r.Test done) (spot n xs) ≡ read test_plan (spot n xs)
-unfolding read reads step rule test
+unfolding read reads step rule test guard_in_brackets
 test_by [] n = refl
 test_by (Sign Not ∷ xs) n = refl
 test_by (Sign LeftRound ∷ xs) n = refl

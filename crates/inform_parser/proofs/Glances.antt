@@ -1,7 +1,7 @@
 -- What a glance tells of a lexeme.
 use denote.Enum.Declared.{tag_of}
 use denote.Enum.Bare.{sameb}
-use Rattle.std.proofs.Common.{◌≡◌, ℕ, suc, Bool, true, false, List, [], ◌∷◌, drop, Option, Some, None, Ok, Err, refl, sym, ap, ap₂, ◌∙◌, cond, eqb, take, length, ◌-◌, arith}
+use Rattle.std.proofs.Common.{◌≡◌, ℕ, suc, ◌<◌, Bool, true, false, List, [], ◌∷◌, drop, Option, Some, None, Ok, Err, refl, sym, ap, ap₂, ◌∙◌, cond, eqb, take, length, ◌-◌, arith}
 use Rattle.std.proofs.lemmas.Grind.{common_steps}
 use Rattle.inform_lexemes.specs.declared.symbols.Symbol.{Symbol}
 use Rattle.inform_lexemes.specs.declared.symbols.Symbol.TheVariants.{Semicolon, LeftRound, RightRound, LeftBrace, RightBrace}
@@ -96,6 +96,12 @@ seen_taken : (xs : List Lexeme) (n : ℕ) (x : Glance) → first_glance xs ≡ S
 seen_taken [] n x e = absurd (cc)
 seen_taken (y ∷ ys) n x e =
     let same : glance_of y ≡ x = cc in taken_by y ys n ∙ ap (λ g. taken_as (y ∷ ys) n (opened_within g n)) same
+
+-- fewer are left
+pub fewer_left : (bytes : List ℕ) (ts : List Token) (x : Glance) → first_glance (lexemes bytes ts) ≡ Some x
+    → length (lexemes bytes (take (length ts - 1) (drop 1 ts))) < length (lexemes bytes ts)
+fewer_left bytes [] x e = absurd (cc)
+fewer_left bytes (t ∷ ts) x e = omega (arith, ap length (rest_lexemes bytes t ts))
 
 pub no_room : (s : Spot) (x : Glance) → first_glance s.rest ≡ Some x → opened_within x s.opened ≡ None → read any_next s ≡ Err (fault TooDeep s.rest)
 no_room s x e h = seen_taken s.rest s.opened x e ∙ ap (taken_as s.rest s.opened) h

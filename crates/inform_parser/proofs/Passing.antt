@@ -1,5 +1,5 @@
 -- A symbol or a word that stands next, and opens nothing and closes nothing.
-use Rattle.std.proofs.Common.{◌≡◌, ℕ, ◌≤◌, Bool, true, false, List, [], ◌∷◌, length, drop, Some, Ok, refl, sym, ap, subst, ◌∙◌, arith}
+use Rattle.std.proofs.Common.{◌≡◌, ℕ, ◌≤◌, ◌<◌, Bool, true, false, List, [], ◌∷◌, length, drop, Some, Ok, refl, sym, ap, subst, ◌∙◌, arith}
 use Rattle.inform_lexemes.specs.declared.symbols.Symbol.{Symbol}
 use Rattle.inform_lexemes.specs.declared.keywords.Keyword.{Keyword}
 use Rattle.inform_lexemes.specs.Lexemes.{Lexeme, Word, Number, Character, Sign, is_sign, is_word, is_number, is_character}
@@ -10,7 +10,7 @@ use Rattle.inform_grammar.specs.Reading.{Spot, spot, step, reads, within_limit}
 use Rattle.inform_grammar.proofs.Steps.{done-here}
 use Rattle.inform_lexer.specs.declared.glances.Glance.TheVariants as g
 use Rattle.inform_parser.specs.Glances.{first_glance}
-use Rattle.inform_parser.specs.Reading.{read}
+use Rattle.inform_parser.specs.Reading.{read, Passes}
 use Rattle.inform_parser.specs.Nexts.{next_of}
 
 passed_as : (xs : List Lexeme) (n : ℕ) (x : Lexeme) (test : Lexeme → Bool) → test x ≡ true → is_opener x ≡ false → is_closer x ≡ false
@@ -26,11 +26,11 @@ passed_next (y ∷ ys) n x test told e opens closes =
     subst (λ (z : Lexeme). read (next_of test) (spot n (z ∷ ys)) ≡ Ok (x, spot n ys)) (sym same)
     (passed_as ys n x test (subst (λ (z : Lexeme). test z ≡ true) same e) opens closes)
 
-pub sign_passed : (s : Spot) (a : Symbol) → heads (is_sign a) s.rest ≡ true → is_opener (Sign a) ≡ false → is_closer (Sign a) ≡ false
+sign_passed : (s : Spot) (a : Symbol) → heads (is_sign a) s.rest ≡ true → is_opener (Sign a) ≡ false → is_closer (Sign a) ≡ false
     → read (next_of (is_sign a)) s ≡ Ok (Sign a, spot s.opened (drop 1 s.rest))
 sign_passed s a e opens closes = passed_next s.rest s.opened (Sign a) (is_sign a) (symbols_told a) e opens closes
 
-pub word_passed : (s : Spot) (a : Keyword) → heads (is_word a) s.rest ≡ true → is_opener (Word a) ≡ false
+word_passed : (s : Spot) (a : Keyword) → heads (is_word a) s.rest ≡ true → is_opener (Word a) ≡ false
     → read (next_of (is_word a)) s ≡ Ok (Word a, spot s.opened (drop 1 s.rest))
 word_passed s a e opens = passed_next s.rest s.opened (Word a) (is_word a) (keywords_told a) e opens refl
 
@@ -45,7 +45,23 @@ sign_there xs a e = some_next (is_sign a) xs e
 pub word_there : (xs : List Lexeme) (a : Keyword) → heads (is_word a) xs ≡ true → 1 ≤ length xs
 word_there xs a e = some_next (is_word a) xs e
 
-pub ruleset passed = (sign_passed, word_passed, sign_there, word_there)
+fewer_left : (xs : List Lexeme) → 1 ≤ length xs → length (drop 1 xs) < length xs
+fewer_left [] some = absurd (omega arith)
+fewer_left (x ∷ xs) some = omega arith
+
+pub sign_passes : (s after : Spot) (a : Symbol) → heads (is_sign a) s.rest ≡ true → is_opener (Sign a) ≡ false → is_closer (Sign a) ≡ false
+    → after ≡ spot s.opened (drop 1 s.rest) → Passes (is_sign a) (Sign a) s after
+sign_passes s after a e opens closes same =
+    subst (λ (after : Spot). Passes (is_sign a) (Sign a) s after) (sym same)
+    (record { gives = sign_passed s a e opens closes; taken = fewer_left s.rest (sign_there s.rest a e) })
+
+pub word_passes : (s after : Spot) (a : Keyword) → heads (is_word a) s.rest ≡ true → is_opener (Word a) ≡ false
+    → after ≡ spot s.opened (drop 1 s.rest) → Passes (is_word a) (Word a) s after
+word_passes s after a e opens same =
+    subst (λ (after : Spot). Passes (is_word a) (Word a) s after) (sym same)
+    (record { gives = word_passed s a e opens; taken = fewer_left s.rest (word_there s.rest a e) })
+
+pub ruleset passed = (sign_there, word_there)
 
 -- ---- numbers and characters
 

@@ -73,23 +73,6 @@ text_none (_ ∷ xs) e = refl
 
 pub ruleset texts = (text_seen, text_none)
 
-name_said : (x : Lexeme) (found : List ℕ) → is_name x ≡ true → ((name : List ℕ) → x ≡ Name name → found ≡ name) → x ≡ Name found
-name_said (Name y) found e told = ap Name (sym (told y refl))
-name_said _ found e told = absurd (cc)
-
-text_said : (x : Lexeme) (found : List ℕ) → is_quoted x ≡ true → ((text : List ℕ) → x ≡ Quoted text → found ≡ text) → x ≡ Quoted found
-text_said (Quoted y) found e told = ap Quoted (sym (told y refl))
-text_said _ found e told = absurd (cc)
-
-module _ (bytes : List ℕ) (found : List ℕ) where
-  pub name_first : (t : Token) (ts : List Token) (s : Spot) → s.rest ≡ lexemes bytes (t ∷ ts) → heads is_name s.rest ≡ true
-      → ((name : List ℕ) → lexeme_at bytes t ≡ Name name → found ≡ name) → StandsNext (Name found) s
-  name_first t ts s e h told = rw e (ap (λ x. x ∷ lexemes bytes ts) (name_said (lexeme_at bytes t) found (rw e at h) told))
-
-  pub text_first : (t : Token) (ts : List Token) (s : Spot) → s.rest ≡ lexemes bytes (t ∷ ts) → heads is_quoted s.rest ≡ true
-      → ((text : List ℕ) → lexeme_at bytes t ≡ Quoted text → found ≡ text) → StandsNext (Quoted found) s
-  text_first t ts s e h told = rw e (ap (λ x. x ∷ lexemes bytes ts) (text_said (lexeme_at bytes t) found (rw e at h) told))
-
 -- ---- symbols
 
 pub relation_kind : (op : Relation) → is_relation (relation_lexeme op) ≡ true

@@ -16,16 +16,13 @@ use Rattle.inform_grammar.specs.Reading.{Spot, spot, step, reads, within_limit}
 use Rattle.inform_grammar.proofs.Steps.{starts, one-as-here, many-no, many-yes, done-here}
 use Rattle.inform_parser.specs.Reading.{read}
 use Rattle.inform_parser.specs.Nexts.{text_in, arrow_next}
-use Rattle.inform_parser.specs.Plans.{change_if_any, item_inside, plain_statement, simple_statement}
+use Rattle.inform_parser.specs.Plans.{set_after, entry_change, change_if_any, char_after, value_inside, item_inside, value_item, plain_statement, simple_statement}
 
 -- ---- changes
 
 module _ (name : List ℕ) where
   abbrev pub set_plan : Plan Assignment
-  set_plan = take (is_sign Assign) (one r.Value (λ x. done (s.Set name x)))
-
-  abbrev pub set_entry_plan : Plan Assignment
-  set_entry_plan = arrow_next >>= λ words. one r.Primary (λ i. take (is_sign Assign) (one r.Value (λ x. done (s.SetEntry name words i x))))
+  set_plan = take (is_sign Assign) (set_after name)
 
   abbrev pub by_one_plan : Plan Assignment
   by_one_plan = next (is_sign Increment) (λ _. done (s.Inc name)) (next (is_sign Decrement) (λ _. done (s.Dec name)) refuse)
@@ -35,7 +32,7 @@ module _ (name : List ℕ) where
   set_by (Sign Assign ∷ xs) n e = refl
   set_by _ n e = absurd (cc)
 
-  set_entry_by : (xs : List Lexeme) (n : ℕ) → heads is_arrow xs ≡ true → read (change_after name) (spot n xs) ≡ read set_entry_plan (spot n xs)
+  set_entry_by : (xs : List Lexeme) (n : ℕ) → heads is_arrow xs ≡ true → read (change_after name) (spot n xs) ≡ read (entry_change name) (spot n xs)
   unfolding read reads step change_after arrow_next
   set_entry_by (Sign ByteArrow ∷ xs) n e = refl
   set_entry_by (Sign WordArrow ∷ xs) n e = refl
@@ -53,7 +50,7 @@ module _ (name : List ℕ) where
 pub set_as : (name : List ℕ) (s : Spot) → heads (is_sign Assign) s.rest ≡ true → read (change_after name) s ≡ read (set_plan name) s
 set_as name s e = set_by name s.rest s.opened e
 
-pub set_entry_as : (name : List ℕ) (s : Spot) → heads is_arrow s.rest ≡ true → read (change_after name) s ≡ read (set_entry_plan name) s
+pub set_entry_as : (name : List ℕ) (s : Spot) → heads is_arrow s.rest ≡ true → read (change_after name) s ≡ read (entry_change name) s
 set_entry_as name s e = set_entry_by name s.rest s.opened e
 
 pub by_one_as : (name : List ℕ) (s : Spot) → heads (is_sign Assign) s.rest ≡ false → heads is_arrow s.rest ≡ false → read (change_after name) s ≡ read (by_one_plan name) s
@@ -93,8 +90,7 @@ pub ruleset change_if = (no_change, some_change)
 
 abbrev pub item_inside_plan : Plan PrintItem
 item_inside_plan =
-    next (is_word w.Char) (λ _. take (is_sign RightRound) (one r.Value (λ x. done (s.Char x))))
-    (one r.Value (λ x. take (is_sign RightRound) (value_after x >>= λ y. done (s.Value y))))
+    next (is_word w.Char) (λ _. char_after) value_inside
 
 item_inside_by : (xs : List Lexeme) (n : ℕ) → read item_inside (spot n xs) ≡ read item_inside_plan (spot n xs)
 unfolding read reads step rule item_inside value product unary primary
@@ -111,7 +107,7 @@ abbrev pub item_plan : Plan PrintItem
 item_plan =
     next is_quoted (λ x. done (s.Text (text_in x)))
     (next (is_sign LeftRound) (λ _. item_inside >>= done)
-    (one r.Value (λ x. done (s.Value x))))
+    value_item)
 
 item_by : (xs : List Lexeme) (n : ℕ) → read (one r.Item done) (spot n xs) ≡ read item_plan (spot n xs)
 unfolding read reads step rule item item_inside

@@ -20,7 +20,7 @@ use Rattle.inform_grammar.specs.Reading.{Spot, spot, step, reads, within_limit}
 use Rattle.inform_grammar.proofs.Steps.{starts, one-as, many-no, many-yes, done-here}
 use Rattle.inform_parser.specs.Reading.{read}
 use Rattle.inform_parser.specs.Nexts.{character_in, arrow_next, factor_next, term_next}
-use Rattle.inform_parser.specs.Plans.{random_plan}
+use Rattle.inform_parser.specs.Plans.{named_constant, negative_entry, some_arguments, value_in_brackets, negation}
 use Rattle.inform_parser.proofs.Loops.{map_push}
 
 -- ---- constants
@@ -30,7 +30,7 @@ constant_plan =
     next is_number (λ x. done (k.Number (number_in x)))
     (next is_character (λ x. done (k.Char (character_in x)))
     (next is_name (λ x. done (k.Name (name_in x)))
-    (next (is_sign Minus) (λ _. minus_number) refuse)))
+    (take (is_sign Minus) minus_number)))
 
 constant_by : (xs : List Lexeme) (n : ℕ) → read (one r.Constant done) (spot n xs) ≡ read constant_plan (spot n xs)
 unfolding read reads step rule constant minus_number
@@ -46,7 +46,7 @@ entry_plan =
     next is_number (λ x. done (k.Number (number_in x)))
     (next is_character (λ x. done (k.Char (character_in x)))
     (next is_name (λ x. done (k.Name (name_in x)))
-    (next (is_sign LeftRound) (λ _. take (is_sign Minus) (minus_number >>= λ x. take (is_sign RightRound) (done x))) refuse)))
+    negative_entry))
 
 entry_by : (xs : List Lexeme) (n : ℕ) → read (one r.Entry done) (spot n xs) ≡ read entry_plan (spot n xs)
 unfolding read reads step rule entry minus_number
@@ -57,14 +57,12 @@ entry_by (_ ∷ xs) n = refl
 pub entry_as : (s : Spot) → read (one r.Entry done) s ≡ read entry_plan s
 entry_as s = entry_by s.rest s.opened
 
-pub ruleset constants = (constant_as, entry_as)
-
 -- ---- operands
 
 abbrev pub arguments_plan : Plan (List Expression)
 arguments_plan =
     next (is_sign RightRound) (λ _. done [])
-    (one r.Value (λ x. many r.Argument (x ∷ []) (λ xs. take (is_sign RightRound) (done xs))))
+    some_arguments
 
 arguments_by : (xs : List Lexeme) (n : ℕ) → read arguments (spot n xs) ≡ read arguments_plan (spot n xs)
 unfolding read reads step rule arguments value product unary primary
@@ -119,11 +117,11 @@ primary_plan =
     next is_number (λ x. done (v.Number (number_in x)))
     (next is_character (λ x. done (v.Char (character_in x)))
     (next is_name (λ x. name_after (name_in x) >>= done)
-    (next (is_word w.Random) (λ _. take (is_sign LeftRound) (one r.Value (λ x. take (is_sign RightRound) (done (v.Random x)))))
-    (next (is_sign LeftRound) (λ _. one r.Value (λ x. take (is_sign RightRound) (done x))) refuse))))
+    (next (is_word w.Random) (λ _. value_in_brackets >>= λ x. done (v.Random x))
+    value_in_brackets)))
 
 primary_by : (xs : List Lexeme) (n : ℕ) → read (one r.Primary done) (spot n xs) ≡ read primary_plan (spot n xs)
-unfolding read reads step rule primary
+unfolding read reads step rule primary value_in_brackets
 primary_by [] n = refl
 primary_by (Word w.Random ∷ xs) n = refl
 primary_by (Sign LeftRound ∷ xs) n = refl
@@ -135,7 +133,7 @@ primary_as s = primary_by s.rest s.opened
 abbrev pub unary_plan : Plan Expression
 unary_plan =
     next is_name (λ x. entry_after (name_in x) >>= done)
-    (next (is_sign Minus) (λ _. one r.Primary (λ x. done (v.Neg x)))
+    (next (is_sign Minus) (λ _. negation)
     (one r.Primary done))
 
 unary_by : (xs : List Lexeme) (n : ℕ) → read (one r.Unary done) (spot n xs) ≡ read unary_plan (spot n xs)

@@ -1,27 +1,83 @@
 -- Plans that have a method of their own.
-use Rattle.std.specs.Prelude.{Bool, List, Option, Some, None}
+use Rattle.std.specs.Prelude.{ℕ, Bool, List, [], ◌∷◌, Option, Some, None}
+use Rattle.inform_tree.specs.declared.values.Const.{Const}
+use Rattle.inform_tree.specs.declared.values.Const.TheVariants as k
+use Rattle.inform_tree.specs.Conditions as c
 use Rattle.inform_tree.specs.Conditions.{Condition}
 use Rattle.inform_tree.specs.Statements as s
 use Rattle.inform_tree.specs.Statements.{Statement, Assignment, PrintItem, Cases}
 use Rattle.inform_tree.specs.Values as v
 use Rattle.inform_tree.specs.Values.{Expression}
-use Rattle.inform_lexemes.specs.declared.symbols.Symbol.TheVariants.{Semicolon, Colon, LeftRound, RightRound, LeftBrace, RightBrace}
+use Rattle.inform_lexemes.specs.declared.symbols.Symbol.TheVariants.{Semicolon, Colon, LeftRound, RightRound, LeftBrace, RightBrace, Assign, Minus}
+use Rattle.inform_lexemes.specs.declared.keywords.Keyword.{Keyword}
 use Rattle.inform_lexemes.specs.declared.keywords.Keyword.TheVariants as w
-use Rattle.inform_lexemes.specs.Lexemes.{Lexeme, is_sign, is_word, is_name}
+use Rattle.inform_lexemes.specs.Lexemes.{Lexeme, is_sign, is_word, is_name, is_quoted}
 use Rattle.inform_grammar.specs.Rules as r
 use Rattle.inform_grammar.specs.Lexemes.{heads, name_in, connective, other_connective}
-use Rattle.inform_grammar.specs.Trees.{Guard, Join}
-use Rattle.inform_grammar.specs.ConditionRules.{value_after}
+use Rattle.inform_grammar.specs.Trees.{Guard, Tested, Join, condition}
+use Rattle.inform_grammar.specs.ValueRules.{minus_number, arguments, name_after, entry_after}
+use Rattle.inform_grammar.specs.ConditionRules.{value_after, relation_after, bracket_after}
 use Rattle.inform_grammar.specs.Rules.{SwitchPart}
-use Rattle.inform_grammar.specs.StatementRules.{statement_after, choices_after, head_after, part_after, statements_to_brace, in_brackets, return_after, print_after, read_after}
-use Rattle.inform_grammar.specs.Plan.{Plan, done, refuse, next, maybe, chain, ◌>>=◌, take, one, optional}
+use Rattle.inform_grammar.specs.StatementRules.{change_after, if_after, while_after, do_after, for_after, statement_after, choices_after, head_after, part_after, statements_to_brace, in_brackets, return_after, print_after, read_after}
+use Rattle.inform_grammar.specs.Plan.{Plan, done, refuse, next, maybe, chain, many, ◌>>=◌, take, one, optional}
+use Rattle.inform_parser.specs.Nexts.{arrow_next, text_in}
+
+-- ---- constants
+
+abbrev pub named_constant : Plan Const
+named_constant = next is_name (λ x. done (k.Name (name_in x))) refuse
+
+-- a number with its minus sign, between brackets
+abbrev pub negative_entry : Plan Const
+negative_entry =
+    take (is_sign LeftRound)
+    (take (is_sign Minus) (minus_number >>= λ x. take (is_sign RightRound) (done x)))
+
+-- ---- values
+
+-- arguments, of which there is one at least, and a closing bracket
+abbrev pub some_arguments : Plan (List Expression)
+some_arguments =
+    one r.Value (λ x. many r.Argument (x ∷ []) (λ xs. take (is_sign RightRound) (done xs)))
+
+-- a value between brackets
+unfoldable pub value_in_brackets : Plan Expression
+value_in_brackets =
+    take (is_sign LeftRound) (one r.Value (λ x. take (is_sign RightRound) (done x)))
 
 -- a draw, with its word
 abbrev pub random_plan : Plan Expression
-random_plan =
-    take (is_word w.Random)
-    (take (is_sign LeftRound)
-    (one r.Value (λ x. take (is_sign RightRound) (done (v.Random x)))))
+random_plan = take (is_word w.Random) (value_in_brackets >>= λ x. done (v.Random x))
+
+-- a name, and what follows it
+abbrev pub named_primary : Plan Expression
+named_primary = next is_name (λ x. name_after (name_in x) >>= done) refuse
+
+-- the same where an entry of an array may stand
+abbrev pub named_unary : Plan Expression
+named_unary = next is_name (λ x. entry_after (name_in x) >>= done) refuse
+
+-- what follows a minus sign
+abbrev pub negation : Plan Expression
+negation = one r.Primary (λ x. done (v.Neg x))
+
+-- ---- tests
+
+-- a condition between brackets
+unfoldable pub guard_in_brackets : Plan Guard
+guard_in_brackets = in_brackets done
+
+-- what follows `~~`
+abbrev pub not_after : Plan Guard
+not_after = guard_in_brackets >>= λ x. done (Tested (c.Not (condition x)))
+
+-- a test that begins with a bracket
+abbrev pub bracketed_test : Plan Guard
+bracketed_test = guard_in_brackets >>= λ x. bracket_after x >>= done
+
+-- and one that begins with a value
+abbrev pub compared_test : Plan Guard
+compared_test = one r.Value (λ x. relation_after x >>= done)
 
 -- ---- chains of conditions
 
@@ -47,11 +103,49 @@ members_from join front = chain (r.Member join) (is_sign (other_connective join)
 unfoldable pub change_if_any : Plan (Option Assignment)
 change_if_any = optional r.Change done
 
+-- what follows a name and `=`
+abbrev pub set_after : List ℕ → Plan Assignment
+set_after name = one r.Value (λ x. done (s.Set name x))
+
+-- what follows the name of an array that is changed
+abbrev pub entry_change : List ℕ → Plan Assignment
+entry_change name =
+    arrow_next >>= λ words. one r.Primary
+    (λ i. take (is_sign Assign) (one r.Value (λ x. done (s.SetEntry name words i x))))
+
+-- what follows the name in a call, and in a change, with its semicolon
+abbrev pub call_after : List ℕ → Plan Statement
+call_after name =
+    take (is_sign LeftRound)
+    (arguments >>= λ xs. take (is_sign Semicolon) (done (s.Call name (v.arguments xs))))
+
+abbrev pub changed_after : List ℕ → Plan Statement
+changed_after name = change_after name >>= λ x. take (is_sign Semicolon) (done (s.Assign x))
+
+-- what follows `char` in an item
+abbrev pub char_after : Plan PrintItem
+char_after = take (is_sign RightRound) (one r.Value (λ x. done (s.Char x)))
+
+-- a value with its closing bracket, which goes on
+abbrev pub value_inside : Plan PrintItem
+value_inside =
+    one r.Value (λ x. take (is_sign RightRound) (value_after x >>= λ y. done (s.Value y)))
+
 -- what follows the opening bracket of an item
 unfoldable pub item_inside : Plan PrintItem
 item_inside =
     maybe r.Value (λ x. take (is_sign RightRound) (value_after x >>= λ y. done (s.Value y)))
     (take (is_word w.Char) (take (is_sign RightRound) (one r.Value (λ x. done (s.Char x)))))
+
+-- a string, an item that begins with a bracket, and a value
+abbrev pub text_item : Plan PrintItem
+text_item = next is_quoted (λ x. done (s.Text (text_in x))) refuse
+
+abbrev pub bracketed_item : Plan PrintItem
+bracketed_item = take (is_sign LeftRound) (item_inside >>= done)
+
+abbrev pub value_item : Plan PrintItem
+value_item = one r.Value (λ x. done (s.Value x))
 
 -- a statement that is nothing but a word
 unfoldable pub plain_statement : Plan Statement
@@ -72,19 +166,39 @@ simple_statement =
     (next (is_word w.Read) (λ _. read_after)
     plain_statement))
 
--- a condition between brackets
-unfoldable pub guard_in_brackets : Plan Guard
-guard_in_brackets = in_brackets done
+-- statements between braces
+unfoldable pub statements_in_braces : Plan (List Statement)
+statements_in_braces = take (is_sign LeftBrace) (statements_to_brace done)
+
+abbrev pub block : Plan Statement
+block =
+    take (is_sign LeftBrace) (statements_to_brace (λ xs. done (s.Block (s.statements xs))))
+
+-- this word, and a condition between brackets
+unfoldable pub guard_after : Keyword → Plan Guard
+guard_after keyword = take (is_word keyword) guard_in_brackets
+
+abbrev pub if_statement : Plan Statement
+if_statement = take (is_word w.If) (if_after >>= done)
+
+abbrev pub while_statement : Plan Statement
+while_statement = take (is_word w.While) (while_after >>= done)
+
+abbrev pub do_statement : Plan Statement
+do_statement = take (is_word w.Do) (do_after >>= done)
+
+abbrev pub for_statement : Plan Statement
+for_statement = take (is_word w.For) (for_after >>= done)
 
 -- the test of a `do`, with its word and its semicolon
 unfoldable pub until_test : Plan Guard
-until_test =
-    take (is_word w.Until) (guard_in_brackets >>= λ x. take (is_sign Semicolon) (done x))
+until_test = guard_after w.Until >>= λ x. take (is_sign Semicolon) (done x)
 
--- the first change in the head of a `for`, if there is one, between its bracket and its colon
+-- `for`, and the first change in its head, if there is one, between its bracket and its colon
 unfoldable pub first_change : Plan (Option Assignment)
 first_change =
-    take (is_sign LeftRound) (change_if_any >>= λ first. take (is_sign Colon) (done first))
+    take (is_word w.For)
+    (take (is_sign LeftRound) (change_if_any >>= λ first. take (is_sign Colon) (done first)))
 
 -- the last change, if there is one, and the closing bracket
 unfoldable pub last_change : Plan (Option Assignment)
@@ -96,9 +210,7 @@ test_to_colon = optional r.Condition (λ x. take (is_sign Colon) (done x))
 
 -- the value of a `switch` in its brackets, and the opening brace
 unfoldable pub switched_value : Plan Expression
-switched_value =
-    take (is_sign LeftRound)
-    (one r.Value (λ x. take (is_sign RightRound) (take (is_sign LeftBrace) (done x))))
+switched_value = value_in_brackets >>= λ x. take (is_sign LeftBrace) (done x)
 
 -- the choices of the first case, and their colon
 unfoldable pub first_choices : Plan (List s.Choice)

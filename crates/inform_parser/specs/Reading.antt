@@ -1,10 +1,11 @@
 -- What a method of the parser says: what a plan reads from its spot on.
-use Rattle.std.specs.Prelude.{◌≡◌, ◌∷◌, drop, Result, Ok, Err}
+use Rattle.std.specs.Prelude.{◌≡◌, ◌≤◌, ◌<◌, Bool, ◌∷◌, length, drop, Result, Ok, Err, OnOk}
 use Rattle.inform_lexemes.specs.Lexemes.{Lexeme}
 use Rattle.inform_grammar.specs.Faults.{Unexpected, Mixed, TooDeep, fault}
 use Rattle.inform_grammar.specs.Lexemes.{one_less}
 use Rattle.inform_grammar.specs.Plan.{Plan}
 use Rattle.inform_grammar.specs.Reading.{Spot, spot, Answer, reads, within_limit}
+use Rattle.inform_parser.specs.Nexts.{next_of}
 use Rattle.inform_parser.specs.declared.stops.Stop.{Stop}
 use Rattle.inform_parser.specs.declared.stops.Stop.TheVariants as stop
 
@@ -27,6 +28,24 @@ Answered view (Err stop) after answer = StopsAt after stop answer
 -- from a spot to another, a method gave what the plan reads
 abbrev pub Gives : {T V : Type 0} → (T → V) → Plan V → Spot → Result T Stop → Spot → Type 0
 Gives view p s result after = Answered view result after (read p s)
+
+-- so a method reads: it gave what the plan reads, and took nothing back
+pub record Reads {T V : Type 0} (view : T → V) (plan : Plan V) (s : Spot) (result : Result T Stop)
+    (after : Spot) : Type 0 where
+  pub gives : Gives view plan s result after
+  pub ahead : length after.rest ≤ length s.rest
+
+-- and so where the plan takes a lexeme before it gives anything
+pub record ReadsSome {T V : Type 0} (view : T → V) (plan : Plan V) (s : Spot)
+    (result : Result T Stop) (after : Spot) : Type 0 where
+  pub gives : Gives view plan s result after
+  pub ahead : length after.rest ≤ length s.rest
+  pub taken : OnOk result (length after.rest < length s.rest)
+
+-- this lexeme stood next, passes the test, and was taken
+pub record Passes (test : Lexeme → Bool) (x : Lexeme) (s after : Spot) : Type 0 where
+  pub gives : read (next_of test) s ≡ Ok (x, after)
+  pub taken : length after.rest < length s.rest
 
 -- a statement that was open has ended
 abbrev pub shut_spot : Spot → Spot

@@ -1,17 +1,17 @@
 //! Statements, with their bodies.
-ghost use Rattle.std.specs.Prelude.{◌≡◌, ◌≤◌, ◌<◌, List, [], ◌∷◌, option_map, OnOk, length};
+ghost use Rattle.std.specs.Prelude.{◌≡◌, [], ◌∷◌, option_map};
 ghost use Rattle.inform_tree.specs.Values.{expression_of};
 ghost use Rattle.inform_tree.specs.Conditions.{condition_of};
 ghost use Rattle.inform_tree.specs.Statements.{statement_of, assignment_if_any, cases_of};
 ghost use Rattle.inform_grammar.specs.Rules as r;
 ghost use Rattle.inform_grammar.specs.Trees.{condition};
-ghost use Rattle.inform_grammar.specs.StatementRules.{else_after, if_after, while_after, do_after, for_body, for_last, for_test, for_after, switch, cases_after};
+ghost use Rattle.inform_grammar.specs.StatementRules.{else_after, for_body, for_last, for_test, switch, cases_after};
 ghost use Rattle.inform_grammar.specs.Plan.{done, one, many};
-ghost use Rattle.inform_parser.specs.Reading.{Gives};
+ghost use Rattle.inform_parser.specs.Reading.{Reads, ReadsSome};
 ghost use Rattle.inform_parser.specs.Guards.{guard_of, guard_if_any};
 ghost use Rattle.inform_parser.specs.Parts.{part_of, parts_in};
 ghost use Rattle.inform_parser.specs.Views.{statements_in};
-ghost use Rattle.inform_parser.specs.Plans.{default_read};
+ghost use Rattle.inform_parser.specs.Plans.{statements_in_braces, block, if_statement, while_statement, do_statement, for_statement, default_read};
 
 use crate::cursor::Cursor;
 use crate::guards::Guard;
@@ -40,37 +40,29 @@ impl<'a> Cursor<'a> {
     #[cycle(statements)]
     #[tactic(auto, using(crate::proofs::Steps::steps, crate::proofs::TreesMade::statements, crate::proofs::BodySteps::statement_as))]
     fn statement(&mut self, alloc: Global) -> Result<Stmt, Stop>
-        ensures gives { Gives statement_of (one r.Statement done) self.old result self.new }
-        ensures ahead { length self.new.rest ≤ length self.old.rest }
-        ensures taken { OnOk result (length self.new.rest < length self.old.rest) }
+        ensures { ReadsSome statement_of (one r.Statement done) self.old result self.new }
     {
         if self.at(Symbol::Semicolon) {
             self.pass(Symbol::Semicolon);
             return Ok(Stmt::Empty);
         }
         if self.at(Symbol::LeftBrace) {
-            self.expect(Symbol::LeftBrace)?;
-            let body = self.statements(alloc, BODY_ROOM)?;
-            return self.statement_to(Symbol::RightBrace, Stmt::Block(body));
+            return self.block(alloc);
         }
         if self.at_name() {
             return self.named_statement(alloc);
         }
         if self.at_word(Keyword::If) {
-            self.expect_word(Keyword::If)?;
-            return self.if_after(alloc);
+            return self.if_statement(alloc);
         }
         if self.at_word(Keyword::While) {
-            self.expect_word(Keyword::While)?;
-            return self.while_after(alloc);
+            return self.while_statement(alloc);
         }
         if self.at_word(Keyword::Do) {
-            self.expect_word(Keyword::Do)?;
-            return self.do_after(alloc);
+            return self.do_statement(alloc);
         }
         if self.at_word(Keyword::For) {
-            self.expect_word(Keyword::For)?;
-            return self.for_after(alloc);
+            return self.for_statement(alloc);
         }
         if self.at_word(Keyword::Switch) {
             self.pass_word(Keyword::Switch);
@@ -84,8 +76,7 @@ impl<'a> Cursor<'a> {
     #[cycle(statements)]
     #[tactic(auto, using(crate::proofs::Steps::steps, crate::proofs::BodySteps::statement_loop))]
     pub fn statements(&mut self, alloc: Global, room: usize) -> Result<Vec<Stmt>, Stop>
-        ensures gives { Gives statements_in (many r.Statement [] done) self.old result self.new }
-        ensures ahead { length self.new.rest ≤ length self.old.rest }
+        ensures { Reads statements_in (many r.Statement [] done) self.old result self.new }
     {
         let mut statements = Vec::with_capacity(alloc, room)?;
         while self.at_statement() {
@@ -96,14 +87,34 @@ impl<'a> Cursor<'a> {
         Ok(statements)
     }
 
+    // Statements between braces.
+    #[cycle(statements)]
+    #[tactic(auto, using(crate::proofs::Steps::steps), unfolding(crate::specs::Plans::statements_in_braces))]
+    fn statements_in_braces(&mut self, alloc: Global) -> Result<Vec<Stmt>, Stop>
+        ensures { ReadsSome statements_in statements_in_braces self.old result self.new }
+    {
+        self.expect(Symbol::LeftBrace)?;
+        let body = self.statements(alloc, BODY_ROOM)?;
+        self.statements_to(Symbol::RightBrace, body)
+    }
+
+    // A block.
+    #[cycle(statements)]
+    #[tactic(auto, using(crate::proofs::Steps::steps, crate::proofs::TreesMade::statements, crate::proofs::BodySteps::block_as))]
+    #[inline(always)]
+    fn block(&mut self, alloc: Global) -> Result<Stmt, Stop>
+        ensures { ReadsSome statement_of block self.old result self.new }
+    {
+        let body = self.statements_in_braces(alloc)?;
+        Ok(Stmt::Block(body))
+    }
+
     // A body of one statement that is no block.
     #[cycle(statements)]
     #[tactic(auto, using(crate::proofs::Steps::steps))]
     fn single_body(&mut self, alloc: Global) -> Result<Vec<Stmt>, Stop>
-        ensures gives { Gives statements_in (one r.Statement (λ x. done (x ∷ [])))
+        ensures { ReadsSome statements_in (one r.Statement (λ x. done (x ∷ [])))
             self.old result self.new }
-        ensures ahead { length self.new.rest ≤ length self.old.rest }
-        ensures taken { OnOk result (length self.new.rest < length self.old.rest) }
     {
         let statement = self.statement(alloc)?;
         let mut body = Vec::with_capacity(alloc, 1)?;
@@ -113,16 +124,12 @@ impl<'a> Cursor<'a> {
 
     // A body: statements in braces, or one other statement.
     #[cycle(statements)]
-    #[tactic(auto, using(crate::proofs::Steps::steps, crate::proofs::BodySteps::body_as))]
+    #[tactic(auto, using(crate::proofs::Steps::steps, crate::proofs::BodySteps::body_as), unfolding(crate::specs::Plans::statements_in_braces))]
     fn body(&mut self, alloc: Global) -> Result<Vec<Stmt>, Stop>
-        ensures gives { Gives statements_in (one r.Body done) self.old result self.new }
-        ensures ahead { length self.new.rest ≤ length self.old.rest }
-        ensures taken { OnOk result (length self.new.rest < length self.old.rest) }
+        ensures { ReadsSome statements_in (one r.Body done) self.old result self.new }
     {
         if self.at(Symbol::LeftBrace) {
-            self.expect(Symbol::LeftBrace)?;
-            let body = self.statements(alloc, BODY_ROOM)?;
-            return self.statements_to(Symbol::RightBrace, body);
+            return self.statements_in_braces(alloc);
         }
         self.single_body(alloc)
     }
@@ -132,9 +139,8 @@ impl<'a> Cursor<'a> {
     #[tactic(auto, using(crate::proofs::Steps::steps, crate::proofs::TreesMade::bodies), unfolding(inform_grammar::specs::StatementRules::else_after))]
     #[inline(always)]
     fn else_after(&mut self, alloc: Global, test: Guard, body: Vec<Stmt>) -> Result<Stmt, Stop>
-        ensures gives { Gives statement_of
-            (else_after (guard_of test) (statements_in body)) self.old result self.new }
-        ensures ahead { length self.new.rest ≤ length self.old.rest }
+        ensures { Reads statement_of (else_after (guard_of test) (statements_in body))
+            self.old result self.new }
     {
         if self.at_word(Keyword::Else) {
             self.pass_word(Keyword::Else);
@@ -146,41 +152,39 @@ impl<'a> Cursor<'a> {
         Ok(Stmt::If(test.into_condition(), body, Vec::new(alloc)))
     }
 
-    // What follows `if`.
+    // An `if`.
     #[cycle(statements)]
-    #[tactic(auto, using(crate::proofs::Steps::steps, crate::proofs::BodySteps::if_after_as))]
+    #[tactic(auto, using(crate::proofs::Steps::steps, crate::proofs::BodySteps::if_statement_as))]
     #[inline(always)]
-    fn if_after(&mut self, alloc: Global) -> Result<Stmt, Stop>
-        ensures gives { Gives statement_of if_after self.old result self.new }
-        ensures ahead { length self.new.rest ≤ length self.old.rest }
+    fn if_statement(&mut self, alloc: Global) -> Result<Stmt, Stop>
+        ensures { ReadsSome statement_of if_statement self.old result self.new }
     {
-        let test = self.guard_in_brackets(alloc)?;
+        let test = self.guard_after(alloc, Keyword::If)?;
         let body = self.body(alloc)?;
         self.else_after(alloc, test, body)
     }
 
-    // What follows `while`.
+    // A `while`.
     #[cycle(statements)]
-    #[tactic(auto, using(crate::proofs::Steps::steps, crate::proofs::TreesMade::bodies, crate::proofs::BodySteps::while_after_as))]
+    #[tactic(auto, using(crate::proofs::Steps::steps, crate::proofs::TreesMade::bodies, crate::proofs::BodySteps::while_statement_as))]
     #[inline(always)]
-    fn while_after(&mut self, alloc: Global) -> Result<Stmt, Stop>
-        ensures gives { Gives statement_of while_after self.old result self.new }
-        ensures ahead { length self.new.rest ≤ length self.old.rest }
+    fn while_statement(&mut self, alloc: Global) -> Result<Stmt, Stop>
+        ensures { ReadsSome statement_of while_statement self.old result self.new }
     {
-        let test = self.guard_in_brackets(alloc)?;
+        let test = self.guard_after(alloc, Keyword::While)?;
         let body = self.body(alloc)?;
         self.shut();
         Ok(Stmt::While(test.into_condition(), body))
     }
 
-    // What follows `do`.
+    // A `do`.
     #[cycle(statements)]
-    #[tactic(auto, using(crate::proofs::Steps::steps, crate::proofs::TreesMade::bodies, crate::proofs::BodySteps::do_after_as))]
+    #[tactic(auto, using(crate::proofs::Steps::steps, crate::proofs::TreesMade::bodies, crate::proofs::BodySteps::do_statement_as))]
     #[inline(always)]
-    fn do_after(&mut self, alloc: Global) -> Result<Stmt, Stop>
-        ensures gives { Gives statement_of do_after self.old result self.new }
-        ensures ahead { length self.new.rest ≤ length self.old.rest }
+    fn do_statement(&mut self, alloc: Global) -> Result<Stmt, Stop>
+        ensures { ReadsSome statement_of do_statement self.old result self.new }
     {
+        self.expect_word(Keyword::Do)?;
         let body = self.body(alloc)?;
         let test = self.until_test(alloc)?;
         self.shut();
@@ -198,10 +202,9 @@ impl<'a> Cursor<'a> {
         test: Option<Guard>,
         last: Option<Change>,
     ) -> Result<Stmt, Stop>
-        ensures gives { Gives statement_of
+        ensures { Reads statement_of
             (for_body (assignment_if_any first) (guard_if_any test) (assignment_if_any last))
             self.old result self.new }
-        ensures ahead { length self.new.rest ≤ length self.old.rest }
     {
         let head = Head {
             first,
@@ -224,9 +227,8 @@ impl<'a> Cursor<'a> {
         first: Option<Change>,
         test: Option<Guard>,
     ) -> Result<Stmt, Stop>
-        ensures gives { Gives statement_of
-            (for_last (assignment_if_any first) (guard_if_any test)) self.old result self.new }
-        ensures ahead { length self.new.rest ≤ length self.old.rest }
+        ensures { Reads statement_of (for_last (assignment_if_any first) (guard_if_any test))
+            self.old result self.new }
     {
         let last = self.last_change(alloc)?;
         self.for_body(alloc, first, test, last)
@@ -237,21 +239,18 @@ impl<'a> Cursor<'a> {
     #[tactic(auto, using(crate::proofs::Steps::steps, crate::proofs::BodySteps::for_test_as))]
     #[inline(always)]
     fn for_test(&mut self, alloc: Global, first: Option<Change>) -> Result<Stmt, Stop>
-        ensures gives { Gives statement_of
-            (for_test (assignment_if_any first)) self.old result self.new }
-        ensures ahead { length self.new.rest ≤ length self.old.rest }
+        ensures { Reads statement_of (for_test (assignment_if_any first)) self.old result self.new }
     {
         let test = self.test_to_colon(alloc)?;
         self.for_last(alloc, first, test)
     }
 
-    // What follows `for`.
+    // A `for`.
     #[cycle(statements)]
-    #[tactic(auto, using(crate::proofs::Steps::steps, crate::proofs::BodySteps::for_after_as))]
+    #[tactic(auto, using(crate::proofs::Steps::steps, crate::proofs::BodySteps::for_statement_as))]
     #[inline(always)]
-    fn for_after(&mut self, alloc: Global) -> Result<Stmt, Stop>
-        ensures gives { Gives statement_of for_after self.old result self.new }
-        ensures ahead { length self.new.rest ≤ length self.old.rest }
+    fn for_statement(&mut self, alloc: Global) -> Result<Stmt, Stop>
+        ensures { ReadsSome statement_of for_statement self.old result self.new }
     {
         let first = self.first_change(alloc)?;
         self.for_test(alloc, first)
@@ -262,8 +261,7 @@ impl<'a> Cursor<'a> {
     #[tactic(auto, using(crate::proofs::Steps::steps, crate::proofs::BodySteps::switch_as))]
     #[inline(always)]
     fn switch_after(&mut self, alloc: Global) -> Result<Stmt, Stop>
-        ensures gives { Gives statement_of switch self.old result self.new }
-        ensures ahead { length self.new.rest ≤ length self.old.rest }
+        ensures { Reads statement_of switch self.old result self.new }
     {
         let value = self.switched_value(alloc)?;
         self.cases_after(alloc, value)
@@ -274,9 +272,7 @@ impl<'a> Cursor<'a> {
     #[tactic(auto, using(crate::proofs::Steps::steps, crate::proofs::BodySteps::cases_steps))]
     #[inline(always)]
     fn cases_after(&mut self, alloc: Global, value: Expr) -> Result<Stmt, Stop>
-        ensures gives { Gives statement_of
-            (cases_after (expression_of value)) self.old result self.new }
-        ensures ahead { length self.new.rest ≤ length self.old.rest }
+        ensures { Reads statement_of (cases_after (expression_of value)) self.old result self.new }
     {
         if !self.at_bare_constant() && !self.at_name() {
             return self.default_after(alloc, value, Vec::new(alloc));
@@ -292,9 +288,8 @@ impl<'a> Cursor<'a> {
     #[tactic(auto, using(crate::proofs::Steps::steps, crate::proofs::TreesMade::bodies), unfolding(crate::specs::Plans::default_read))]
     #[inline(always)]
     fn default_after(&mut self, alloc: Global, value: Expr, cases: Vec<Case>) -> Result<Stmt, Stop>
-        ensures gives { Gives statement_of
-            (default_read (expression_of value) (cases_of cases.items)) self.old result self.new }
-        ensures ahead { length self.new.rest ≤ length self.old.rest }
+        ensures { Reads statement_of (default_read (expression_of value) (cases_of cases.items))
+            self.old result self.new }
     {
         if self.at_word(Keyword::Default) {
             self.pass_word(Keyword::Default);
@@ -310,9 +305,7 @@ impl<'a> Cursor<'a> {
     #[cycle(statements)]
     #[tactic(auto, using(crate::proofs::Steps::steps, crate::proofs::BodySteps::part_steps))]
     fn part(&mut self, alloc: Global) -> Result<Part, Stop>
-        ensures gives { Gives part_of (one r.Part done) self.old result self.new }
-        ensures ahead { length self.new.rest ≤ length self.old.rest }
-        ensures taken { OnOk result (length self.new.rest < length self.old.rest) }
+        ensures { ReadsSome part_of (one r.Part done) self.old result self.new }
     {
         if self.at_name() {
             return self.named_part(alloc);
@@ -328,8 +321,7 @@ impl<'a> Cursor<'a> {
     #[cycle(statements)]
     #[tactic(auto, using(crate::proofs::Steps::steps, crate::proofs::BodySteps::part_loop))]
     fn parts(&mut self, alloc: Global) -> Result<Vec<Part>, Stop>
-        ensures gives { Gives parts_in (many r.Part [] done) self.old result self.new }
-        ensures ahead { length self.new.rest ≤ length self.old.rest }
+        ensures { Reads parts_in (many r.Part [] done) self.old result self.new }
     {
         let mut parts = Vec::new(alloc);
         while self.at_part() {

@@ -1,11 +1,10 @@
 //! Changes, and the statements that begin with a name.
-ghost use Rattle.std.specs.Prelude.{◌≡◌, ◌≤◌, ◌<◌, List, [], ◌∷◌, OnOk, length};
 ghost use Rattle.inform_tree.specs.Statements.{assignment_of, assignment_if_any, statement_of};
 ghost use Rattle.inform_grammar.specs.Rules as r;
 ghost use Rattle.inform_grammar.specs.StatementRules.{change_after, statement_after};
 ghost use Rattle.inform_grammar.specs.Plan.{done, one};
-ghost use Rattle.inform_parser.specs.Reading.{Gives};
-ghost use Rattle.inform_parser.specs.Plans.{change_if_any, named_statement};
+ghost use Rattle.inform_parser.specs.Reading.{Reads, ReadsSome};
+ghost use Rattle.inform_parser.specs.Plans.{set_after, entry_change, change_if_any, call_after, changed_after, named_statement};
 
 use crate::cursor::Cursor;
 use crate::stops::Stop;
@@ -14,25 +13,40 @@ use inform_tree::{Change, Name, Stmt};
 use std::alloc::Global;
 
 impl<'a> Cursor<'a> {
+    // What follows a name and `=`.
+    #[tactic(auto, using(crate::proofs::Steps::steps))]
+    #[inline(always)]
+    fn set_after(&mut self, alloc: Global, name: Name) -> Result<Change, Stop>
+        ensures { ReadsSome assignment_of (set_after name) self.old result self.new }
+    {
+        let value = self.value(alloc)?;
+        Ok(Change::Set(name, value))
+    }
+
+    // What follows the name of an array that is changed.
+    #[tactic(auto, using(crate::proofs::Steps::steps))]
+    fn entry_change(&mut self, alloc: Global, name: Name) -> Result<Change, Stop>
+        ensures { ReadsSome assignment_of (entry_change name) self.old result self.new }
+    {
+        let words = self.arrow()?;
+        let index = self.primary(alloc)?;
+        self.expect(Symbol::Assign)?;
+        let value = self.value(alloc)?;
+        Ok(Change::SetEntry(name, words, index, value))
+    }
+
     // What follows a name that is changed.
     #[tactic(auto, using(crate::proofs::Steps::steps, crate::proofs::StatementSteps::changes))]
     #[inline(always)]
     fn change_after(&mut self, alloc: Global, name: Name) -> Result<Change, Stop>
-        ensures gives { Gives assignment_of (change_after name) self.old result self.new }
-        ensures ahead { length self.new.rest ≤ length self.old.rest }
-        ensures taken { OnOk result (length self.new.rest < length self.old.rest) }
+        ensures { ReadsSome assignment_of (change_after name) self.old result self.new }
     {
         if self.at(Symbol::Assign) {
             self.pass(Symbol::Assign);
-            let value = self.value(alloc)?;
-            return Ok(Change::Set(name, value));
+            return self.set_after(alloc, name);
         }
         if self.at_arrow() {
-            let words = self.arrow()?;
-            let index = self.primary(alloc)?;
-            self.expect(Symbol::Assign)?;
-            let value = self.value(alloc)?;
-            return Ok(Change::SetEntry(name, words, index, value));
+            return self.entry_change(alloc, name);
         }
         if self.at(Symbol::Increment) {
             self.pass(Symbol::Increment);
@@ -45,9 +59,7 @@ impl<'a> Cursor<'a> {
     // A change.
     #[tactic(auto, using(crate::proofs::Steps::steps, crate::proofs::StatementSteps::change_as))]
     fn change(&mut self, alloc: Global) -> Result<Change, Stop>
-        ensures gives { Gives assignment_of (one r.Change done) self.old result self.new }
-        ensures ahead { length self.new.rest ≤ length self.old.rest }
-        ensures taken { OnOk result (length self.new.rest < length self.old.rest) }
+        ensures { ReadsSome assignment_of (one r.Change done) self.old result self.new }
     {
         let name = self.name(alloc)?;
         self.change_after(alloc, name)
@@ -56,8 +68,7 @@ impl<'a> Cursor<'a> {
     /// A change, if one stands next.
     #[tactic(auto, using(crate::proofs::Steps::steps, crate::proofs::StatementSteps::change_if))]
     pub fn change_if_any(&mut self, alloc: Global) -> Result<Option<Change>, Stop>
-        ensures gives { Gives assignment_if_any change_if_any self.old result self.new }
-        ensures ahead { length self.new.rest ≤ length self.old.rest }
+        ensures { Reads assignment_if_any change_if_any self.old result self.new }
     {
         if !self.at_name() {
             return Ok(None);
@@ -66,30 +77,44 @@ impl<'a> Cursor<'a> {
         Ok(Some(change))
     }
 
-    /// A call or a change with its semicolon, after its name.
-    #[tactic(auto, using(crate::proofs::Steps::steps, crate::proofs::TreesMade::statements), unfolding(inform_grammar::specs::StatementRules::statement_after))]
+    // The arguments of a call in their brackets, and its semicolon.
+    #[tactic(auto, using(crate::proofs::Steps::steps, crate::proofs::TreesMade::statements))]
     #[inline(always)]
-    pub fn statement_after(&mut self, alloc: Global, name: Name) -> Result<Stmt, Stop>
-        ensures gives { Gives statement_of (statement_after name) self.old result self.new }
-        ensures ahead { length self.new.rest ≤ length self.old.rest }
-        ensures taken { OnOk result (length self.new.rest < length self.old.rest) }
+    fn call_after(&mut self, alloc: Global, name: Name) -> Result<Stmt, Stop>
+        ensures { ReadsSome statement_of (call_after name) self.old result self.new }
     {
-        if self.at(Symbol::LeftRound) {
-            self.expect(Symbol::LeftRound)?;
-            let arguments = self.arguments(alloc)?;
-            return self.statement_to(Symbol::Semicolon, Stmt::Call(name, arguments));
-        }
+        self.expect(Symbol::LeftRound)?;
+        let arguments = self.arguments(alloc)?;
+        self.statement_to(Symbol::Semicolon, Stmt::Call(name, arguments))
+    }
+
+    // What follows the name in a change, and its semicolon.
+    #[tactic(auto, using(crate::proofs::Steps::steps, crate::proofs::TreesMade::statements))]
+    #[inline(always)]
+    fn changed_after(&mut self, alloc: Global, name: Name) -> Result<Stmt, Stop>
+        ensures { ReadsSome statement_of (changed_after name) self.old result self.new }
+    {
         let change = self.change_after(alloc, name)?;
         self.statement_to(Symbol::Semicolon, Stmt::Change(change))
+    }
+
+    /// A call or a change with its semicolon, after its name.
+    #[tactic(auto, using(crate::proofs::Steps::steps), unfolding(inform_grammar::specs::StatementRules::statement_after))]
+    #[inline(always)]
+    pub fn statement_after(&mut self, alloc: Global, name: Name) -> Result<Stmt, Stop>
+        ensures { ReadsSome statement_of (statement_after name) self.old result self.new }
+    {
+        if self.at(Symbol::LeftRound) {
+            return self.call_after(alloc, name);
+        }
+        self.changed_after(alloc, name)
     }
 
     /// A statement that begins with a name.
     #[tactic(auto, using(crate::proofs::Steps::steps))]
     #[inline(always)]
     pub fn named_statement(&mut self, alloc: Global) -> Result<Stmt, Stop>
-        ensures gives { Gives statement_of named_statement self.old result self.new }
-        ensures ahead { length self.new.rest ≤ length self.old.rest }
-        ensures taken { OnOk result (length self.new.rest < length self.old.rest) }
+        ensures { ReadsSome statement_of named_statement self.old result self.new }
     {
         let name = self.name(alloc)?;
         self.statement_after(alloc, name)

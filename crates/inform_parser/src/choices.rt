@@ -1,9 +1,9 @@
 //! The heads of the cases of a `switch`.
-ghost use Rattle.std.specs.Prelude.{◌≡◌, ◌≤◌, ◌<◌, List, [], ◌∷◌, OnOk, IfOk, IfErr, length};
+ghost use Rattle.std.specs.Prelude.{[], ◌∷◌};
 ghost use Rattle.inform_grammar.specs.Rules as r;
 ghost use Rattle.inform_grammar.specs.StatementRules.{range_after, choices_after, head_after};
 ghost use Rattle.inform_grammar.specs.Plan.{done, one, many};
-ghost use Rattle.inform_parser.specs.Reading.{Gives};
+ghost use Rattle.inform_parser.specs.Reading.{Reads, ReadsSome};
 ghost use Rattle.inform_parser.specs.Plans.{first_choices};
 ghost use Rattle.inform_parser.specs.Parts.{choice_of, choices_in, part_of};
 
@@ -18,8 +18,7 @@ impl<'a> Cursor<'a> {
     // What follows a constant that begins a choice: the last one of a range, or nothing.
     #[tactic(auto, using(crate::proofs::Steps::steps, crate::proofs::ChoiceSteps::ranges))]
     fn range_after(&mut self, alloc: Global, first: Const) -> Result<(Const, Option<Const>), Stop>
-        ensures gives { Gives choice_of (range_after first) self.old result self.new }
-        ensures ahead { length self.new.rest ≤ length self.old.rest }
+        ensures { Reads choice_of (range_after first) self.old result self.new }
     {
         if self.at_word(Keyword::To) {
             self.pass_word(Keyword::To);
@@ -32,9 +31,7 @@ impl<'a> Cursor<'a> {
     /// A choice of a case.
     #[tactic(auto, using(crate::proofs::Steps::steps, crate::proofs::ChoiceSteps::choice_as))]
     pub fn choice(&mut self, alloc: Global) -> Result<(Const, Option<Const>), Stop>
-        ensures gives { Gives choice_of (one r.Choice done) self.old result self.new }
-        ensures ahead { length self.new.rest ≤ length self.old.rest }
-        ensures taken { OnOk result (length self.new.rest < length self.old.rest) }
+        ensures { ReadsSome choice_of (one r.Choice done) self.old result self.new }
     {
         let first = self.constant(alloc)?;
         self.range_after(alloc, first)
@@ -43,9 +40,7 @@ impl<'a> Cursor<'a> {
     // A further choice, after its comma.
     #[tactic(auto, using(crate::proofs::Steps::steps, crate::proofs::ChoiceSteps::further_choice_as))]
     fn further_choice(&mut self, alloc: Global) -> Result<(Const, Option<Const>), Stop>
-        ensures gives { Gives choice_of (one r.FurtherChoice done) self.old result self.new }
-        ensures ahead { length self.new.rest ≤ length self.old.rest }
-        ensures taken { OnOk result (length self.new.rest < length self.old.rest) }
+        ensures { ReadsSome choice_of (one r.FurtherChoice done) self.old result self.new }
     {
         self.expect(Symbol::Comma)?;
         self.choice(alloc)
@@ -58,9 +53,8 @@ impl<'a> Cursor<'a> {
         alloc: Global,
         first: (Const, Option<Const>),
     ) -> Result<Vec<(Const, Option<Const>)>, Stop>
-        ensures gives { Gives choices_in
-            (many r.FurtherChoice (choice_of first ∷ []) done) self.old result self.new }
-        ensures ahead { length self.new.rest ≤ length self.old.rest }
+        ensures { Reads choices_in (many r.FurtherChoice (choice_of first ∷ []) done)
+            self.old result self.new }
     {
         let mut choices = Vec::with_capacity(alloc, 1)?;
         choices.push(first)?;
@@ -78,10 +72,7 @@ impl<'a> Cursor<'a> {
         alloc: Global,
         first: (Const, Option<Const>),
     ) -> Result<Vec<(Const, Option<Const>)>, Stop>
-        ensures gives { Gives choices_in
-            (choices_after (choice_of first)) self.old result self.new }
-        ensures ahead { length self.new.rest ≤ length self.old.rest }
-        ensures taken { OnOk result (length self.new.rest < length self.old.rest) }
+        ensures { ReadsSome choices_in (choices_after (choice_of first)) self.old result self.new }
     {
         let choices = self.choices(alloc, first)?;
         self.expect(Symbol::Colon)?;
@@ -92,9 +83,7 @@ impl<'a> Cursor<'a> {
     #[tactic(auto, using(crate::proofs::Steps::steps), unfolding(crate::specs::Plans::first_choices))]
     #[inline(always)]
     pub fn first_choices(&mut self, alloc: Global) -> Result<Vec<(Const, Option<Const>)>, Stop>
-        ensures gives { Gives choices_in first_choices self.old result self.new }
-        ensures ahead { length self.new.rest ≤ length self.old.rest }
-        ensures taken { OnOk result (length self.new.rest < length self.old.rest) }
+        ensures { ReadsSome choices_in first_choices self.old result self.new }
     {
         let first = self.choice(alloc)?;
         self.choices_after(alloc, first)
@@ -103,9 +92,7 @@ impl<'a> Cursor<'a> {
     /// The head of a case, with its first constant read.
     #[tactic(auto, using(crate::proofs::Steps::steps, crate::proofs::ChoiceSteps::head_after_as))]
     pub fn head_after(&mut self, alloc: Global, first: Const) -> Result<Part, Stop>
-        ensures gives { Gives part_of (head_after first) self.old result self.new }
-        ensures ahead { length self.new.rest ≤ length self.old.rest }
-        ensures taken { OnOk result (length self.new.rest < length self.old.rest) }
+        ensures { ReadsSome part_of (head_after first) self.old result self.new }
     {
         let first = self.range_after(alloc, first)?;
         let choices = self.choices_after(alloc, first)?;

@@ -1,13 +1,13 @@
 //! Conditions.
-ghost use Rattle.std.specs.Prelude.{◌≡◌, ◌≤◌, ◌<◌, List, [], ◌∷◌, OnOk, length};
+ghost use Rattle.std.specs.Prelude.{◌≡◌, [], ◌∷◌};
 ghost use Rattle.inform_tree.specs.Values.{expression_of};
 ghost use Rattle.inform_tree.specs.Conditions.{condition_of};
 ghost use Rattle.inform_grammar.specs.Rules as r;
 ghost use Rattle.inform_grammar.specs.ConditionRules.{relation_after, value_after, bracket_after, members_after, tests_after};
 ghost use Rattle.inform_grammar.specs.Plan.{done, one};
-ghost use Rattle.inform_parser.specs.Reading.{Gives};
+ghost use Rattle.inform_parser.specs.Reading.{Reads, ReadsSome};
 ghost use Rattle.inform_parser.specs.Guards.{guard_of, join_of, conditions_in};
-ghost use Rattle.inform_parser.specs.Plans.{at_connective, at_other, connective_next, members_from};
+ghost use Rattle.inform_parser.specs.Plans.{at_connective, at_other, connective_next, members_from, not_after, bracketed_test, compared_test, guard_in_brackets};
 
 use crate::cursor::Cursor;
 use crate::guards::{Guard, Join};
@@ -42,9 +42,7 @@ impl<'a> Cursor<'a> {
     // Takes the symbol of such a chain, which must stand next.
     #[tactic(auto, using(crate::proofs::Steps::steps, crate::proofs::ConditionSteps::connectives))]
     fn take_connective(&mut self, join: Join) -> Result<(), Stop>
-        ensures gives { Gives (λ x. x) (connective_next (join_of join)) self.old result self.new }
-        ensures ahead { length self.new.rest ≤ length self.old.rest }
-        ensures taken { OnOk result (length self.new.rest < length self.old.rest) }
+        ensures { ReadsSome (λ x. x) (connective_next (join_of join)) self.old result self.new }
     {
         match join {
             Join::All => self.expect(Symbol::And)?,
@@ -57,9 +55,7 @@ impl<'a> Cursor<'a> {
     #[tactic(auto, using(crate::proofs::Steps::steps, crate::proofs::TreesMade::conditions, crate::proofs::ConditionSteps::relations))]
     #[inline(always)]
     fn relation_after(&mut self, alloc: Global, first: Expr) -> Result<Guard, Stop>
-        ensures gives { Gives guard_of
-            (relation_after (expression_of first)) self.old result self.new }
-        ensures ahead { length self.new.rest ≤ length self.old.rest }
+        ensures { Reads guard_of (relation_after (expression_of first)) self.old result self.new }
     {
         if self.at_relation() {
             let relation = self.relation()?;
@@ -72,9 +68,7 @@ impl<'a> Cursor<'a> {
     /// A value with a first part in brackets read.
     #[tactic(auto, using(crate::proofs::Steps::steps), unfolding(inform_grammar::specs::ConditionRules::value_after))]
     pub fn value_after(&mut self, alloc: Global, first: Expr) -> Result<Expr, Stop>
-        ensures gives { Gives expression_of
-            (value_after (expression_of first)) self.old result self.new }
-        ensures ahead { length self.new.rest ≤ length self.old.rest }
+        ensures { Reads expression_of (value_after (expression_of first)) self.old result self.new }
     {
         let product = self.factors_after(alloc, first)?;
         self.terms_after(alloc, product)
@@ -83,8 +77,7 @@ impl<'a> Cursor<'a> {
     // What follows what stands in brackets: an expression may go on, and a condition may not.
     #[tactic(auto, using(crate::proofs::Steps::steps), unfolding(inform_grammar::specs::ConditionRules::bracket_after))]
     fn bracket_after(&mut self, alloc: Global, inside: Guard) -> Result<Guard, Stop>
-        ensures gives { Gives guard_of (bracket_after (guard_of inside)) self.old result self.new }
-        ensures ahead { length self.new.rest ≤ length self.old.rest }
+        ensures { Reads guard_of (bracket_after (guard_of inside)) self.old result self.new }
     {
         match inside {
             Guard::Plain(first) => {
@@ -95,40 +88,70 @@ impl<'a> Cursor<'a> {
         }
     }
 
+    // A test that begins with a value.
+    #[tactic(auto, using(crate::proofs::Steps::steps))]
+    #[inline(always)]
+    fn compared_test(&mut self, alloc: Global) -> Result<Guard, Stop>
+        ensures { ReadsSome guard_of compared_test self.old result self.new }
+    {
+        let value = self.value(alloc)?;
+        self.relation_after(alloc, value)
+    }
+
     // A test.
     #[cycle(conditions)]
-    #[tactic(auto, using(crate::proofs::Steps::steps, crate::proofs::TreesMade::conditions, crate::proofs::ConditionSteps::test_as))]
+    #[tactic(auto, using(crate::proofs::Steps::steps, crate::proofs::ConditionSteps::test_as), unfolding(crate::specs::Plans::guard_in_brackets))]
     fn test(&mut self, alloc: Global) -> Result<Guard, Stop>
-        ensures gives { Gives guard_of (one r.Test done) self.old result self.new }
-        ensures ahead { length self.new.rest ≤ length self.old.rest }
-        ensures taken { OnOk result (length self.new.rest < length self.old.rest) }
+        ensures { ReadsSome guard_of (one r.Test done) self.old result self.new }
     {
         if self.at(Symbol::Not) {
             self.pass(Symbol::Not);
-            self.expect(Symbol::LeftRound)?;
-            let inside = self.guard(alloc)?;
-            self.expect(Symbol::RightRound)?;
-            let inside = Box::new(alloc, inside.into_condition())?;
-            return Ok(Guard::Tested(Cond::Not(inside)));
+            return self.not_after(alloc);
         }
         if self.at(Symbol::LeftRound) {
-            self.expect(Symbol::LeftRound)?;
-            let inside = self.guard(alloc)?;
-            self.expect(Symbol::RightRound)?;
-            return self.bracket_after(alloc, inside);
+            return self.bracketed_test(alloc);
         }
-        let value = self.value(alloc)?;
-        self.relation_after(alloc, value)
+        self.compared_test(alloc)
+    }
+
+    // What follows `~~`.
+    #[cycle(conditions)]
+    #[tactic(auto, using(crate::proofs::Steps::steps, crate::proofs::TreesMade::conditions))]
+    fn not_after(&mut self, alloc: Global) -> Result<Guard, Stop>
+        ensures { ReadsSome guard_of not_after self.old result self.new }
+    {
+        let inside = self.guard_in_brackets(alloc)?;
+        let inside = Box::new(alloc, inside.into_condition())?;
+        Ok(Guard::Tested(Cond::Not(inside)))
+    }
+
+    // A test that begins with a bracket.
+    #[cycle(conditions)]
+    #[tactic(auto, using(crate::proofs::Steps::steps))]
+    fn bracketed_test(&mut self, alloc: Global) -> Result<Guard, Stop>
+        ensures { ReadsSome guard_of bracketed_test self.old result self.new }
+    {
+        let inside = self.guard_in_brackets(alloc)?;
+        self.bracket_after(alloc, inside)
+    }
+
+    /// A condition between brackets.
+    #[cycle(conditions)]
+    #[tactic(auto, using(crate::proofs::Steps::steps), unfolding(crate::specs::Plans::guard_in_brackets))]
+    pub fn guard_in_brackets(&mut self, alloc: Global) -> Result<Guard, Stop>
+        ensures { ReadsSome guard_of guard_in_brackets self.old result self.new }
+    {
+        self.expect(Symbol::LeftRound)?;
+        let guard = self.guard(alloc)?;
+        self.guard_to(Symbol::RightRound, guard)
     }
 
     // A further member of a chain, after its symbol.
     #[cycle(conditions)]
     #[tactic(auto, using(crate::proofs::Steps::steps, crate::proofs::ConditionSteps::member_as))]
     fn member(&mut self, alloc: Global, join: Join) -> Result<Cond, Stop>
-        ensures gives { Gives condition_of
-            (one (r.Member (join_of join)) done) self.old result self.new }
-        ensures ahead { length self.new.rest ≤ length self.old.rest }
-        ensures taken { OnOk result (length self.new.rest < length self.old.rest) }
+        ensures { ReadsSome condition_of (one (r.Member (join_of join)) done)
+            self.old result self.new }
     {
         self.take_connective(join)?;
         let test = self.test(alloc)?;
@@ -145,10 +168,9 @@ impl<'a> Cursor<'a> {
         first: Cond,
         second: Cond,
     ) -> Result<Vec<Cond>, Stop>
-        ensures gives { Gives conditions_in
-            (members_from (join_of join)
-            (condition_of first ∷ condition_of second ∷ [])) self.old result self.new }
-        ensures ahead { length self.new.rest ≤ length self.old.rest }
+        ensures { Reads conditions_in
+            (members_from (join_of join) (condition_of first ∷ condition_of second ∷ []))
+            self.old result self.new }
     {
         let mut members = Vec::with_capacity(alloc, 2)?;
         members.push(first)?;
@@ -173,10 +195,9 @@ impl<'a> Cursor<'a> {
         first: Cond,
         second: Cond,
     ) -> Result<Guard, Stop>
-        ensures gives { Gives guard_of
+        ensures { Reads guard_of
             (members_after (join_of join) (condition_of first) (condition_of second))
             self.old result self.new }
-        ensures ahead { length self.new.rest ≤ length self.old.rest }
     {
         let members = self.members(alloc, join, first, second)?;
         Ok(Guard::Tested(join.chain(members)))
@@ -186,8 +207,7 @@ impl<'a> Cursor<'a> {
     #[cycle(conditions)]
     #[tactic(auto, using(crate::proofs::Steps::steps, crate::proofs::ConditionSteps::tests_after_steps))]
     fn tests_after(&mut self, alloc: Global, first: Guard) -> Result<Guard, Stop>
-        ensures gives { Gives guard_of (tests_after (guard_of first)) self.old result self.new }
-        ensures ahead { length self.new.rest ≤ length self.old.rest }
+        ensures { Reads guard_of (tests_after (guard_of first)) self.old result self.new }
     {
         if self.at(Symbol::And) {
             let second = self.member(alloc, Join::All)?;
@@ -204,9 +224,7 @@ impl<'a> Cursor<'a> {
     #[cycle(conditions)]
     #[tactic(auto, using(crate::proofs::Steps::steps, crate::proofs::ConditionSteps::condition_as))]
     pub fn guard(&mut self, alloc: Global) -> Result<Guard, Stop>
-        ensures gives { Gives guard_of (one r.Condition done) self.old result self.new }
-        ensures ahead { length self.new.rest ≤ length self.old.rest }
-        ensures taken { OnOk result (length self.new.rest < length self.old.rest) }
+        ensures { ReadsSome guard_of (one r.Condition done) self.old result self.new }
     {
         let first = self.test(alloc)?;
         self.tests_after(alloc, first)

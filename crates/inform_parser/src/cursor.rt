@@ -1,11 +1,11 @@
 //! The tokens that are left, and how many brackets and statements are open.
-ghost use Rattle.std.specs.Prelude.{◌≡◌, ◌≤◌, ◌<◌, OnOk, Ok, IfOk, MatchOption, length, drop, true, false};
+ghost use Rattle.std.specs.Prelude.{◌≡◌, ◌≤◌, IfOk, MatchOption, length, drop, true, false};
 ghost use Rattle.inform_lexemes.specs.Lexemes.{Word, Name as NameLexeme, Number, Character, Quoted, Sign, is_sign, is_word, is_name, is_number, is_character, is_quoted};
 ghost use Rattle.inform_lexer.specs.Spans.{lexemes};
 ghost use Rattle.inform_grammar.specs.Lexemes.{heads, is_arrow, is_factor_sign, is_term_sign, is_relation, relation_in, is_opener, is_closer};
 ghost use Rattle.inform_grammar.specs.Reading.{spot};
 ghost use Rattle.inform_parser.specs.Glances.{first_glance, opens, closes, opened_within};
-ghost use Rattle.inform_parser.specs.Reading.{Gives, StandsNext, shut_spot, read};
+ghost use Rattle.inform_parser.specs.Reading.{ReadsSome, Passes, StandsNext, shut_spot};
 ghost use Rattle.inform_parser.specs.Nexts.{next_of, any_next, arrow_next, relation_next, factor_next, term_next, relation_lexeme};
 
 use crate::stops::Stop;
@@ -251,9 +251,7 @@ impl<'a> Cursor<'a> {
     /// Takes whatever stands next.
     #[inline(always)]
     pub fn advance(&mut self) -> Result<(), Stop>
-        ensures gives { Gives (λ _. tt) any_next self.old result self.new }
-        ensures ahead { length self.new.rest ≤ length self.old.rest }
-        ensures taken { OnOk result (length self.new.rest < length self.old.rest) }
+        ensures { ReadsSome (λ _. tt) any_next self.old result self.new }
     {
         let Some(seen) = self.seen else {
             return Err(Stop::Unexpected);
@@ -284,8 +282,7 @@ impl<'a> Cursor<'a> {
         requires next { heads (is_sign symbol) self.old.rest ≡ true }
         requires opens { is_opener (Sign symbol) ≡ false }
         requires closes { is_closer (Sign symbol) ≡ false }
-        ensures gives { read (next_of (is_sign symbol)) self.old ≡ Ok (Sign symbol, self.new) }
-        ensures taken { length self.new.rest < length self.old.rest }
+        ensures { Passes (is_sign symbol) (Sign symbol) self.old self.new }
     {
         self.skip();
     }
@@ -296,8 +293,7 @@ impl<'a> Cursor<'a> {
     pub fn pass_word(&mut self, keyword: Keyword)
         requires next { heads (is_word keyword) self.old.rest ≡ true }
         requires opens { is_opener (Word keyword) ≡ false }
-        ensures gives { read (next_of (is_word keyword)) self.old ≡ Ok (Word keyword, self.new) }
-        ensures taken { length self.new.rest < length self.old.rest }
+        ensures { Passes (is_word keyword) (Word keyword) self.old self.new }
     {
         self.skip();
     }
@@ -306,10 +302,7 @@ impl<'a> Cursor<'a> {
     #[tactic(auto, using(crate::proofs::Taking::sign_taken, crate::proofs::Taking::sign_stops, crate::proofs::Taking::fails))]
     #[inline(always)]
     pub fn expect(&mut self, symbol: Symbol) -> Result<(), Stop>
-        ensures gives { Gives (λ _. Sign symbol) (next_of (is_sign symbol))
-            self.old result self.new }
-        ensures ahead { length self.new.rest ≤ length self.old.rest }
-        ensures taken { OnOk result (length self.new.rest < length self.old.rest) }
+        ensures { ReadsSome (λ _. Sign symbol) (next_of (is_sign symbol)) self.old result self.new }
     {
         if !self.at(symbol) {
             return Err(Stop::Unexpected);
@@ -322,10 +315,8 @@ impl<'a> Cursor<'a> {
     #[tactic(auto, using(crate::proofs::Taking::fails))]
     #[inline(always)]
     pub fn expect_word(&mut self, keyword: Keyword) -> Result<(), Stop>
-        ensures gives { Gives (λ _. Word keyword) (next_of (is_word keyword))
+        ensures { ReadsSome (λ _. Word keyword) (next_of (is_word keyword))
             self.old result self.new }
-        ensures ahead { length self.new.rest ≤ length self.old.rest }
-        ensures taken { OnOk result (length self.new.rest < length self.old.rest) }
     {
         if !self.at_word(keyword) {
             return Err(Stop::Unexpected);
@@ -351,9 +342,7 @@ impl<'a> Cursor<'a> {
     #[tactic(auto, using(crate::proofs::Taking::fails))]
     #[inline(always)]
     pub fn number(&mut self) -> Result<u32, Stop>
-        ensures gives { Gives Number (next_of is_number) self.old result self.new }
-        ensures ahead { length self.new.rest ≤ length self.old.rest }
-        ensures taken { OnOk result (length self.new.rest < length self.old.rest) }
+        ensures { ReadsSome Number (next_of is_number) self.old result self.new }
     {
         let Some(number) = self.next_number() else {
             return Err(Stop::Unexpected);
@@ -367,8 +356,7 @@ impl<'a> Cursor<'a> {
     #[inline(always)]
     pub fn pass_number(&mut self) -> u32
         requires { heads is_number self.old.rest ≡ true }
-        ensures gives { read (next_of is_number) self.old ≡ Ok (Number result, self.new) }
-        ensures taken { length self.new.rest < length self.old.rest }
+        ensures { Passes is_number (Number result) self.old self.new }
     {
         let number = match self.seen() {
             Some(Glance::Number(number)) => number,
@@ -383,8 +371,7 @@ impl<'a> Cursor<'a> {
     #[inline(always)]
     pub fn pass_character(&mut self) -> u8
         requires { heads is_character self.old.rest ≡ true }
-        ensures gives { read (next_of is_character) self.old ≡ Ok (Character result, self.new) }
-        ensures taken { length self.new.rest < length self.old.rest }
+        ensures { Passes is_character (Character result) self.old self.new }
     {
         let byte = match self.seen() {
             Some(Glance::Character(byte)) => byte,
@@ -413,9 +400,7 @@ impl<'a> Cursor<'a> {
     /// Takes a name, which must stand next.
     #[tactic(auto, using(crate::proofs::Taking::fails))]
     pub fn name(&mut self, alloc: Global) -> Result<Name, Stop>
-        ensures gives { Gives NameLexeme (next_of is_name) self.old result self.new }
-        ensures ahead { length self.new.rest ≤ length self.old.rest }
-        ensures taken { OnOk result (length self.new.rest < length self.old.rest) }
+        ensures { ReadsSome NameLexeme (next_of is_name) self.old result self.new }
     {
         let Some(name) = self.next_name(alloc)? else {
             return Err(Stop::Unexpected);
@@ -442,9 +427,7 @@ impl<'a> Cursor<'a> {
     /// Takes a string, which must stand next.
     #[tactic(auto, using(crate::proofs::Taking::fails))]
     pub fn text(&mut self, alloc: Global) -> Result<Text, Stop>
-        ensures gives { Gives Quoted (next_of is_quoted) self.old result self.new }
-        ensures ahead { length self.new.rest ≤ length self.old.rest }
-        ensures taken { OnOk result (length self.new.rest < length self.old.rest) }
+        ensures { ReadsSome Quoted (next_of is_quoted) self.old result self.new }
     {
         let Some(text) = self.next_text(alloc)? else {
             return Err(Stop::Unexpected);
@@ -467,9 +450,7 @@ impl<'a> Cursor<'a> {
     /// Takes a symbol that compares values, which must stand next.
     #[tactic(auto, using(crate::proofs::SeenKinds::relation_fails))]
     pub fn relation(&mut self) -> Result<Relation, Stop>
-        ensures gives { Gives (λ op. op) relation_next self.old result self.new }
-        ensures ahead { length self.new.rest ≤ length self.old.rest }
-        ensures taken { OnOk result (length self.new.rest < length self.old.rest) }
+        ensures { ReadsSome (λ op. op) relation_next self.old result self.new }
     {
         let Some(relation) = self.next_relation() else {
             return Err(Stop::Unexpected);
@@ -481,9 +462,7 @@ impl<'a> Cursor<'a> {
     /// Takes `->` or `-->`, which must stand next, and tells whether it is the one of words.
     #[tactic(auto, using(crate::proofs::Steps::steps, crate::proofs::SeenKinds::arrows))]
     pub fn arrow(&mut self) -> Result<bool, Stop>
-        ensures gives { Gives (λ words. words) arrow_next self.old result self.new }
-        ensures ahead { length self.new.rest ≤ length self.old.rest }
-        ensures taken { OnOk result (length self.new.rest < length self.old.rest) }
+        ensures { ReadsSome (λ words. words) arrow_next self.old result self.new }
     {
         if self.at(Symbol::WordArrow) {
             self.pass(Symbol::WordArrow);
@@ -497,9 +476,7 @@ impl<'a> Cursor<'a> {
     #[tactic(auto, using(crate::proofs::Steps::steps), unfolding(crate::specs::Nexts::factor_next))]
     #[inline(always)]
     pub fn factor_sign(&mut self) -> Result<ProdOp, Stop>
-        ensures gives { Gives (λ op. op) factor_next self.old result self.new }
-        ensures ahead { length self.new.rest ≤ length self.old.rest }
-        ensures taken { OnOk result (length self.new.rest < length self.old.rest) }
+        ensures { ReadsSome (λ op. op) factor_next self.old result self.new }
     {
         if self.at(Symbol::Times) {
             self.pass(Symbol::Times);
@@ -517,9 +494,7 @@ impl<'a> Cursor<'a> {
     #[tactic(auto, using(crate::proofs::Steps::steps), unfolding(crate::specs::Nexts::term_next))]
     #[inline(always)]
     pub fn term_sign(&mut self) -> Result<SumOp, Stop>
-        ensures gives { Gives (λ op. op) term_next self.old result self.new }
-        ensures ahead { length self.new.rest ≤ length self.old.rest }
-        ensures taken { OnOk result (length self.new.rest < length self.old.rest) }
+        ensures { ReadsSome (λ op. op) term_next self.old result self.new }
     {
         if self.at(Symbol::Plus) {
             self.pass(Symbol::Plus);

@@ -1,10 +1,10 @@
 //! Directives, and the program that they are.
-ghost use Rattle.std.specs.Prelude.{◌≡◌, ◌≤◌, ◌<◌, List, [], ◌∷◌, OnOk, length};
+ghost use Rattle.std.specs.Prelude.{[], ◌∷◌};
 ghost use Rattle.inform_tree.specs.Programs.{directive_of, program_of};
 ghost use Rattle.inform_grammar.specs.Rules as r;
 ghost use Rattle.inform_grammar.specs.Rule.{constant_after, global_after, array_after, routine_after, program};
 ghost use Rattle.inform_grammar.specs.Plan.{done, one, many};
-ghost use Rattle.inform_parser.specs.Reading.{Gives};
+ghost use Rattle.inform_parser.specs.Reading.{Reads, ReadsSome};
 ghost use Rattle.inform_parser.specs.Views.{name_of, names_in, constants_in, directives_in};
 
 use crate::cursor::Cursor;
@@ -20,9 +20,7 @@ impl<'a> Cursor<'a> {
     // The further entries of an array, of which one is read.
     #[tactic(auto, using(crate::proofs::Steps::steps, crate::proofs::DirectiveSteps::entry_loop))]
     fn entries(&mut self, alloc: Global, first: Const) -> Result<Vec<Const>, Stop>
-        ensures gives { Gives constants_in
-            (many r.Entry (first ∷ []) done) self.old result self.new }
-        ensures ahead { length self.new.rest ≤ length self.old.rest }
+        ensures { Reads constants_in (many r.Entry (first ∷ []) done) self.old result self.new }
     {
         let mut entries = Vec::new(alloc);
         entries.push(first)?;
@@ -36,9 +34,7 @@ impl<'a> Cursor<'a> {
     // A local of a routine.
     #[tactic(auto, using(crate::proofs::Steps::steps, crate::proofs::DirectiveSteps::local_as))]
     fn local(&mut self, alloc: Global) -> Result<Name, Stop>
-        ensures gives { Gives name_of (one r.Local done) self.old result self.new }
-        ensures ahead { length self.new.rest ≤ length self.old.rest }
-        ensures taken { OnOk result (length self.new.rest < length self.old.rest) }
+        ensures { ReadsSome name_of (one r.Local done) self.old result self.new }
     {
         self.name(alloc)
     }
@@ -46,8 +42,7 @@ impl<'a> Cursor<'a> {
     // The locals of a routine.
     #[tactic(auto, using(crate::proofs::Steps::steps, crate::proofs::DirectiveSteps::local_loop))]
     fn locals(&mut self, alloc: Global) -> Result<Vec<Name>, Stop>
-        ensures gives { Gives names_in (many r.Local [] done) self.old result self.new }
-        ensures ahead { length self.new.rest ≤ length self.old.rest }
+        ensures { Reads names_in (many r.Local [] done) self.old result self.new }
     {
         let mut locals = Vec::with_capacity(alloc, usize::from(self.at_name()))?;
         while self.at_name() {
@@ -60,9 +55,7 @@ impl<'a> Cursor<'a> {
     // What follows `constant`.
     #[tactic(auto, using(crate::proofs::Steps::steps), unfolding(inform_grammar::specs::Rule::constant_after))]
     fn constant_after(&mut self, alloc: Global) -> Result<Directive, Stop>
-        ensures gives { Gives directive_of constant_after self.old result self.new }
-        ensures ahead { length self.new.rest ≤ length self.old.rest }
-        ensures taken { OnOk result (length self.new.rest < length self.old.rest) }
+        ensures { ReadsSome directive_of constant_after self.old result self.new }
     {
         let name = self.name(alloc)?;
         self.expect(Symbol::Assign)?;
@@ -73,9 +66,7 @@ impl<'a> Cursor<'a> {
     // What follows `global`.
     #[tactic(auto, using(crate::proofs::Steps::steps), unfolding(inform_grammar::specs::Rule::global_after))]
     fn global_after(&mut self, alloc: Global) -> Result<Directive, Stop>
-        ensures gives { Gives directive_of global_after self.old result self.new }
-        ensures ahead { length self.new.rest ≤ length self.old.rest }
-        ensures taken { OnOk result (length self.new.rest < length self.old.rest) }
+        ensures { ReadsSome directive_of global_after self.old result self.new }
     {
         let name = self.name(alloc)?;
         if self.at(Symbol::Assign) {
@@ -89,9 +80,7 @@ impl<'a> Cursor<'a> {
     // What follows `array`.
     #[tactic(auto, using(crate::proofs::Steps::steps, crate::proofs::DirectiveSteps::array_after_as))]
     fn array_after(&mut self, alloc: Global) -> Result<Directive, Stop>
-        ensures gives { Gives directive_of array_after self.old result self.new }
-        ensures ahead { length self.new.rest ≤ length self.old.rest }
-        ensures taken { OnOk result (length self.new.rest < length self.old.rest) }
+        ensures { ReadsSome directive_of array_after self.old result self.new }
     {
         let name = self.name(alloc)?;
         let words = self.arrow()?;
@@ -103,9 +92,7 @@ impl<'a> Cursor<'a> {
     // What follows the opening bracket of a routine.
     #[tactic(auto, using(crate::proofs::Steps::steps), unfolding(inform_grammar::specs::Rule::routine_after))]
     fn routine_after(&mut self, alloc: Global) -> Result<Directive, Stop>
-        ensures gives { Gives directive_of routine_after self.old result self.new }
-        ensures ahead { length self.new.rest ≤ length self.old.rest }
-        ensures taken { OnOk result (length self.new.rest < length self.old.rest) }
+        ensures { ReadsSome directive_of routine_after self.old result self.new }
     {
         let name = self.name(alloc)?;
         let locals = self.locals(alloc)?;
@@ -119,9 +106,7 @@ impl<'a> Cursor<'a> {
     // A directive.
     #[tactic(auto, using(crate::proofs::Steps::steps, crate::proofs::DirectiveSteps::directive_as))]
     fn directive(&mut self, alloc: Global) -> Result<Directive, Stop>
-        ensures gives { Gives directive_of (one r.Directive done) self.old result self.new }
-        ensures ahead { length self.new.rest ≤ length self.old.rest }
-        ensures taken { OnOk result (length self.new.rest < length self.old.rest) }
+        ensures { ReadsSome directive_of (one r.Directive done) self.old result self.new }
     {
         if self.at_word(Keyword::Constant) {
             self.pass_word(Keyword::Constant);
@@ -142,8 +127,7 @@ impl<'a> Cursor<'a> {
     // The directives of a program.
     #[tactic(auto, using(crate::proofs::Steps::steps, crate::proofs::DirectiveSteps::directive_loop))]
     fn directives(&mut self, alloc: Global) -> Result<Vec<Directive>, Stop>
-        ensures gives { Gives directives_in (many r.Directive [] done) self.old result self.new }
-        ensures ahead { length self.new.rest ≤ length self.old.rest }
+        ensures { Reads directives_in (many r.Directive [] done) self.old result self.new }
     {
         let mut directives = Vec::new(alloc);
         while self.at_directive() {
@@ -156,8 +140,7 @@ impl<'a> Cursor<'a> {
     /// A program, and nothing after it.
     #[tactic(auto, using(crate::proofs::Steps::steps, crate::proofs::DirectiveSteps::program_steps), unfolding(inform_grammar::specs::Rule::program))]
     pub fn program(&mut self, alloc: Global) -> Result<Program, Stop>
-        ensures gives { Gives program_of program self.old result self.new }
-        ensures ahead { length self.new.rest ≤ length self.old.rest }
+        ensures { Reads program_of program self.old result self.new }
     {
         let directives = self.directives(alloc)?;
         if self.seen().is_some() {

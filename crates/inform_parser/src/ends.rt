@@ -1,15 +1,16 @@
 //! What was made, once the symbol is read that ends it.
-ghost use Rattle.std.specs.Prelude.{◌≡◌, ◌≤◌, ◌<◌, OnOk, length};
 ghost use Rattle.inform_tree.specs.Values.{expression_of};
 ghost use Rattle.inform_tree.specs.Statements.{statement_of};
 ghost use Rattle.inform_tree.specs.Programs.{directive_of};
 ghost use Rattle.inform_lexemes.specs.declared.symbols.Symbol.TheVariants.{Semicolon};
 ghost use Rattle.inform_lexemes.specs.Lexemes.{is_sign, is_word};
 ghost use Rattle.inform_grammar.specs.Plan.{done, take};
-ghost use Rattle.inform_parser.specs.Reading.{Gives};
+ghost use Rattle.inform_parser.specs.Reading.{ReadsSome};
+ghost use Rattle.inform_parser.specs.Guards.{guard_of};
 ghost use Rattle.inform_parser.specs.Views.{expressions_of, statements_in};
 
 use crate::cursor::Cursor;
+use crate::guards::Guard;
 use crate::stops::Stop;
 use inform_lexemes::{Keyword, Symbol};
 use inform_tree::{Directive, Expr, Stmt};
@@ -19,11 +20,9 @@ impl<'a> Cursor<'a> {
     #[tactic(auto, using(crate::proofs::Steps::steps))]
     #[inline(always)]
     pub fn alone(&mut self, keyword: Keyword, made: Stmt) -> Result<Stmt, Stop>
-        ensures gives { Gives statement_of
+        ensures { ReadsSome statement_of
             (take (is_word keyword) (take (is_sign Semicolon) (done (statement_of made))))
             self.old result self.new }
-        ensures ahead { length self.new.rest ≤ length self.old.rest }
-        ensures taken { OnOk result (length self.new.rest < length self.old.rest) }
     {
         self.expect_word(keyword)?;
         self.expect(Symbol::Semicolon)?;
@@ -34,10 +33,8 @@ impl<'a> Cursor<'a> {
     #[tactic(auto, using(crate::proofs::Steps::steps))]
     #[inline(always)]
     pub fn statement_to(&mut self, symbol: Symbol, made: Stmt) -> Result<Stmt, Stop>
-        ensures gives { Gives statement_of (take (is_sign symbol) (done (statement_of made)))
+        ensures { ReadsSome statement_of (take (is_sign symbol) (done (statement_of made)))
             self.old result self.new }
-        ensures ahead { length self.new.rest ≤ length self.old.rest }
-        ensures taken { OnOk result (length self.new.rest < length self.old.rest) }
     {
         self.expect(symbol)?;
         Ok(made)
@@ -47,10 +44,8 @@ impl<'a> Cursor<'a> {
     #[tactic(auto, using(crate::proofs::Steps::steps))]
     #[inline(always)]
     pub fn statements_to(&mut self, symbol: Symbol, made: Vec<Stmt>) -> Result<Vec<Stmt>, Stop>
-        ensures gives { Gives statements_in (take (is_sign symbol) (done (statements_in made)))
+        ensures { ReadsSome statements_in (take (is_sign symbol) (done (statements_in made)))
             self.old result self.new }
-        ensures ahead { length self.new.rest ≤ length self.old.rest }
-        ensures taken { OnOk result (length self.new.rest < length self.old.rest) }
     {
         self.expect(symbol)?;
         Ok(made)
@@ -60,10 +55,8 @@ impl<'a> Cursor<'a> {
     #[tactic(auto, using(crate::proofs::Steps::steps))]
     #[inline(always)]
     pub fn expression_to(&mut self, symbol: Symbol, made: Expr) -> Result<Expr, Stop>
-        ensures gives { Gives expression_of (take (is_sign symbol) (done (expression_of made)))
+        ensures { ReadsSome expression_of (take (is_sign symbol) (done (expression_of made)))
             self.old result self.new }
-        ensures ahead { length self.new.rest ≤ length self.old.rest }
-        ensures taken { OnOk result (length self.new.rest < length self.old.rest) }
     {
         self.expect(symbol)?;
         Ok(made)
@@ -73,10 +66,19 @@ impl<'a> Cursor<'a> {
     #[tactic(auto, using(crate::proofs::Steps::steps))]
     #[inline(always)]
     pub fn expressions_to(&mut self, symbol: Symbol, made: Vec<Expr>) -> Result<Vec<Expr>, Stop>
-        ensures gives { Gives expressions_of (take (is_sign symbol) (done (expressions_of made)))
+        ensures { ReadsSome expressions_of (take (is_sign symbol) (done (expressions_of made)))
             self.old result self.new }
-        ensures ahead { length self.new.rest ≤ length self.old.rest }
-        ensures taken { OnOk result (length self.new.rest < length self.old.rest) }
+    {
+        self.expect(symbol)?;
+        Ok(made)
+    }
+
+    /// What stands where a condition is expected, up to this symbol.
+    #[tactic(auto, using(crate::proofs::Steps::steps))]
+    #[inline(always)]
+    pub fn guard_to(&mut self, symbol: Symbol, made: Guard) -> Result<Guard, Stop>
+        ensures { ReadsSome guard_of (take (is_sign symbol) (done (guard_of made)))
+            self.old result self.new }
     {
         self.expect(symbol)?;
         Ok(made)
@@ -86,10 +88,8 @@ impl<'a> Cursor<'a> {
     #[tactic(auto, using(crate::proofs::Steps::steps))]
     #[inline(always)]
     pub fn directive_to(&mut self, symbol: Symbol, made: Directive) -> Result<Directive, Stop>
-        ensures gives { Gives directive_of (take (is_sign symbol) (done (directive_of made)))
+        ensures { ReadsSome directive_of (take (is_sign symbol) (done (directive_of made)))
             self.old result self.new }
-        ensures ahead { length self.new.rest ≤ length self.old.rest }
-        ensures taken { OnOk result (length self.new.rest < length self.old.rest) }
     {
         self.expect(symbol)?;
         Ok(made)

@@ -1,12 +1,11 @@
 //! Parts of statements with bodies that hold no statement with a body.
-ghost use Rattle.std.specs.Prelude.{◌≡◌, ◌≤◌, ◌<◌, List, [], ◌∷◌, option_map, OnOk, length};
 ghost use Rattle.inform_grammar.specs.StatementRules.{part_after};
-ghost use Rattle.inform_parser.specs.Reading.{Gives};
+ghost use Rattle.inform_parser.specs.Reading.{ReadsSome};
 ghost use Rattle.inform_parser.specs.Guards.{guard_of, guard_if_any};
 ghost use Rattle.inform_parser.specs.Parts.{part_of};
 ghost use Rattle.inform_tree.specs.Values.{expression_of};
 ghost use Rattle.inform_tree.specs.Statements.{assignment_if_any};
-ghost use Rattle.inform_parser.specs.Plans.{guard_in_brackets, until_test, first_change, last_change, test_to_colon, switched_value, named_part, bare_part};
+ghost use Rattle.inform_parser.specs.Plans.{guard_after, until_test, first_change, last_change, test_to_colon, switched_value, named_part, bare_part};
 
 use crate::cursor::Cursor;
 use crate::guards::Guard;
@@ -17,42 +16,33 @@ use inform_tree::{Change, Const, Expr, Name};
 use std::alloc::Global;
 
 impl<'a> Cursor<'a> {
-    /// A condition between brackets.
-    #[tactic(auto, using(crate::proofs::Steps::steps), unfolding(crate::specs::Plans::guard_in_brackets))]
+    /// This word, and a condition between brackets.
+    #[tactic(auto, using(crate::proofs::Steps::steps), unfolding(crate::specs::Plans::guard_after))]
     #[inline(always)]
-    pub fn guard_in_brackets(&mut self, alloc: Global) -> Result<Guard, Stop>
-        ensures gives { Gives guard_of guard_in_brackets self.old result self.new }
-        ensures ahead { length self.new.rest ≤ length self.old.rest }
-        ensures taken { OnOk result (length self.new.rest < length self.old.rest) }
+    pub fn guard_after(&mut self, alloc: Global, keyword: Keyword) -> Result<Guard, Stop>
+        ensures { ReadsSome guard_of (guard_after keyword) self.old result self.new }
     {
-        self.expect(Symbol::LeftRound)?;
-        let guard = self.guard(alloc)?;
-        self.expect(Symbol::RightRound)?;
-        Ok(guard)
+        self.expect_word(keyword)?;
+        self.guard_in_brackets(alloc)
     }
 
     /// The test of a `do`, with its word and its semicolon.
     #[tactic(auto, using(crate::proofs::Steps::steps), unfolding(crate::specs::Plans::until_test))]
     #[inline(always)]
     pub fn until_test(&mut self, alloc: Global) -> Result<Guard, Stop>
-        ensures gives { Gives guard_of until_test self.old result self.new }
-        ensures ahead { length self.new.rest ≤ length self.old.rest }
-        ensures taken { OnOk result (length self.new.rest < length self.old.rest) }
+        ensures { ReadsSome guard_of until_test self.old result self.new }
     {
-        self.expect_word(Keyword::Until)?;
-        let test = self.guard_in_brackets(alloc)?;
-        self.expect(Symbol::Semicolon)?;
-        Ok(test)
+        let test = self.guard_after(alloc, Keyword::Until)?;
+        self.guard_to(Symbol::Semicolon, test)
     }
 
-    /// The first change in the head of a `for`, if there is one, between its bracket and its colon.
+    /// `for`, and the first change in its head, if there is one, between its bracket and its colon.
     #[tactic(auto, using(crate::proofs::Steps::steps), unfolding(crate::specs::Plans::first_change))]
     #[inline(always)]
     pub fn first_change(&mut self, alloc: Global) -> Result<Option<Change>, Stop>
-        ensures gives { Gives assignment_if_any first_change self.old result self.new }
-        ensures ahead { length self.new.rest ≤ length self.old.rest }
-        ensures taken { OnOk result (length self.new.rest < length self.old.rest) }
+        ensures { ReadsSome assignment_if_any first_change self.old result self.new }
     {
+        self.expect_word(Keyword::For)?;
         self.expect(Symbol::LeftRound)?;
         let first = self.change_if_any(alloc)?;
         self.expect(Symbol::Colon)?;
@@ -63,9 +53,7 @@ impl<'a> Cursor<'a> {
     #[tactic(auto, using(crate::proofs::Steps::steps), unfolding(crate::specs::Plans::last_change))]
     #[inline(always)]
     pub fn last_change(&mut self, alloc: Global) -> Result<Option<Change>, Stop>
-        ensures gives { Gives assignment_if_any last_change self.old result self.new }
-        ensures ahead { length self.new.rest ≤ length self.old.rest }
-        ensures taken { OnOk result (length self.new.rest < length self.old.rest) }
+        ensures { ReadsSome assignment_if_any last_change self.old result self.new }
     {
         let last = self.change_if_any(alloc)?;
         self.expect(Symbol::RightRound)?;
@@ -76,22 +64,16 @@ impl<'a> Cursor<'a> {
     #[tactic(auto, using(crate::proofs::Steps::steps), unfolding(crate::specs::Plans::switched_value))]
     #[inline(always)]
     pub fn switched_value(&mut self, alloc: Global) -> Result<Expr, Stop>
-        ensures gives { Gives expression_of switched_value self.old result self.new }
-        ensures ahead { length self.new.rest ≤ length self.old.rest }
-        ensures taken { OnOk result (length self.new.rest < length self.old.rest) }
+        ensures { ReadsSome expression_of switched_value self.old result self.new }
     {
-        self.expect(Symbol::LeftRound)?;
-        let value = self.value(alloc)?;
-        self.expect(Symbol::RightRound)?;
+        let value = self.value_in_brackets(alloc)?;
         self.expression_to(Symbol::LeftBrace, value)
     }
 
     /// The test in the head of a `for`, if there is one, and its colon.
     #[tactic(auto, using(crate::proofs::Steps::steps, crate::proofs::BodySteps::test_to_colon_as))]
     pub fn test_to_colon(&mut self, alloc: Global) -> Result<Option<Guard>, Stop>
-        ensures gives { Gives guard_if_any test_to_colon self.old result self.new }
-        ensures ahead { length self.new.rest ≤ length self.old.rest }
-        ensures taken { OnOk result (length self.new.rest < length self.old.rest) }
+        ensures { ReadsSome guard_if_any test_to_colon self.old result self.new }
     {
         if self.at(Symbol::Colon) {
             self.pass(Symbol::Colon);
@@ -105,9 +87,7 @@ impl<'a> Cursor<'a> {
     /// What follows a name in the braces of a `switch`.
     #[tactic(auto, using(crate::proofs::Steps::steps, crate::proofs::BodySteps::parts_after))]
     pub fn part_after(&mut self, alloc: Global, name: Name) -> Result<Part, Stop>
-        ensures gives { Gives part_of (part_after name) self.old result self.new }
-        ensures ahead { length self.new.rest ≤ length self.old.rest }
-        ensures taken { OnOk result (length self.new.rest < length self.old.rest) }
+        ensures { ReadsSome part_of (part_after name) self.old result self.new }
     {
         if self.at_choice() {
             return self.head_after(alloc, Const::Name(name));
@@ -120,9 +100,7 @@ impl<'a> Cursor<'a> {
     #[tactic(auto, using(crate::proofs::Steps::steps))]
     #[inline(always)]
     pub fn named_part(&mut self, alloc: Global) -> Result<Part, Stop>
-        ensures gives { Gives part_of named_part self.old result self.new }
-        ensures ahead { length self.new.rest ≤ length self.old.rest }
-        ensures taken { OnOk result (length self.new.rest < length self.old.rest) }
+        ensures { ReadsSome part_of named_part self.old result self.new }
     {
         let name = self.name(alloc)?;
         self.part_after(alloc, name)
@@ -132,9 +110,7 @@ impl<'a> Cursor<'a> {
     #[tactic(auto, using(crate::proofs::Steps::steps))]
     #[inline(always)]
     pub fn bare_part(&mut self, alloc: Global) -> Result<Part, Stop>
-        ensures gives { Gives part_of bare_part self.old result self.new }
-        ensures ahead { length self.new.rest ≤ length self.old.rest }
-        ensures taken { OnOk result (length self.new.rest < length self.old.rest) }
+        ensures { ReadsSome part_of bare_part self.old result self.new }
     {
         let first = self.constant(alloc)?;
         self.head_after(alloc, first)

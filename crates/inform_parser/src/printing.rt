@@ -1,11 +1,11 @@
 //! `print` and its items.
-ghost use Rattle.std.specs.Prelude.{◌≡◌, ◌≤◌, ◌<◌, List, [], ◌∷◌, OnOk, length};
+ghost use Rattle.std.specs.Prelude.{[], ◌∷◌};
 ghost use Rattle.inform_tree.specs.Statements.{print_item_of, statement_of};
 ghost use Rattle.inform_grammar.specs.Rules as r;
 ghost use Rattle.inform_grammar.specs.StatementRules.{print_after};
 ghost use Rattle.inform_grammar.specs.Plan.{done, one, many};
-ghost use Rattle.inform_parser.specs.Reading.{Gives};
-ghost use Rattle.inform_parser.specs.Plans.{item_inside};
+ghost use Rattle.inform_parser.specs.Reading.{Reads, ReadsSome};
+ghost use Rattle.inform_parser.specs.Plans.{char_after, value_inside, item_inside, text_item, bracketed_item, value_item};
 ghost use Rattle.inform_parser.specs.Views.{items_in};
 
 use crate::cursor::Cursor;
@@ -15,50 +15,90 @@ use inform_tree::{Item, Stmt};
 use std::alloc::Global;
 
 impl<'a> Cursor<'a> {
-    // What follows the opening bracket of an item: `char`, its closing bracket and a value, or a
-    // value that goes on.
-    #[tactic(auto, using(crate::proofs::Steps::steps, crate::proofs::StatementSteps::item_inside_as))]
-    fn item_inside(&mut self, alloc: Global) -> Result<Item, Stop>
-        ensures gives { Gives print_item_of item_inside self.old result self.new }
-        ensures ahead { length self.new.rest ≤ length self.old.rest }
-        ensures taken { OnOk result (length self.new.rest < length self.old.rest) }
+    // What follows `char` in an item: its closing bracket, and a value.
+    #[tactic(auto, using(crate::proofs::Steps::steps))]
+    #[inline(always)]
+    fn char_after(&mut self, alloc: Global) -> Result<Item, Stop>
+        ensures { ReadsSome print_item_of char_after self.old result self.new }
     {
-        if self.at_word(Keyword::Char) {
-            self.pass_word(Keyword::Char);
-            self.expect(Symbol::RightRound)?;
-            let value = self.value(alloc)?;
-            return Ok(Item::Char(value));
-        }
+        self.expect(Symbol::RightRound)?;
+        let value = self.value(alloc)?;
+        Ok(Item::Char(value))
+    }
+
+    // A value with its closing bracket, which goes on.
+    #[tactic(auto, using(crate::proofs::Steps::steps))]
+    #[inline(always)]
+    fn value_inside(&mut self, alloc: Global) -> Result<Item, Stop>
+        ensures { ReadsSome print_item_of value_inside self.old result self.new }
+    {
         let first = self.value(alloc)?;
         self.expect(Symbol::RightRound)?;
         let value = self.value_after(alloc, first)?;
         Ok(Item::Value(value))
     }
 
+    // What follows the opening bracket of an item: `char`, its closing bracket and a value, or a
+    // value that goes on.
+    #[tactic(auto, using(crate::proofs::Steps::steps, crate::proofs::StatementSteps::item_inside_as))]
+    fn item_inside(&mut self, alloc: Global) -> Result<Item, Stop>
+        ensures { ReadsSome print_item_of item_inside self.old result self.new }
+    {
+        if self.at_word(Keyword::Char) {
+            self.pass_word(Keyword::Char);
+            return self.char_after(alloc);
+        }
+        self.value_inside(alloc)
+    }
+
+    // A string.
+    #[tactic(auto, using(crate::proofs::Steps::steps))]
+    #[inline(always)]
+    fn text_item(&mut self, alloc: Global) -> Result<Item, Stop>
+        ensures { ReadsSome print_item_of text_item self.old result self.new }
+    {
+        let text = self.text(alloc)?;
+        Ok(Item::Text(text))
+    }
+
+    // An item that begins with a bracket.
+    #[tactic(auto, using(crate::proofs::Steps::steps))]
+    #[inline(always)]
+    fn bracketed_item(&mut self, alloc: Global) -> Result<Item, Stop>
+        ensures { ReadsSome print_item_of bracketed_item self.old result self.new }
+    {
+        self.expect(Symbol::LeftRound)?;
+        self.item_inside(alloc)
+    }
+
+    // A value.
+    #[tactic(auto, using(crate::proofs::Steps::steps))]
+    #[inline(always)]
+    fn value_item(&mut self, alloc: Global) -> Result<Item, Stop>
+        ensures { ReadsSome print_item_of value_item self.old result self.new }
+    {
+        let value = self.value(alloc)?;
+        Ok(Item::Value(value))
+    }
+
     // An item of `print`.
     #[tactic(auto, using(crate::proofs::Steps::steps, crate::proofs::StatementSteps::item_as))]
     fn item(&mut self, alloc: Global) -> Result<Item, Stop>
-        ensures gives { Gives print_item_of (one r.Item done) self.old result self.new }
-        ensures ahead { length self.new.rest ≤ length self.old.rest }
-        ensures taken { OnOk result (length self.new.rest < length self.old.rest) }
+        ensures { ReadsSome print_item_of (one r.Item done) self.old result self.new }
     {
         if self.at_text() {
-            return Ok(Item::Text(self.text(alloc)?));
+            return self.text_item(alloc);
         }
         if self.at(Symbol::LeftRound) {
-            self.expect(Symbol::LeftRound)?;
-            return self.item_inside(alloc);
+            return self.bracketed_item(alloc);
         }
-        let value = self.value(alloc)?;
-        Ok(Item::Value(value))
+        self.value_item(alloc)
     }
 
     // A further item, after its comma.
     #[tactic(auto, using(crate::proofs::Steps::steps, crate::proofs::StatementSteps::further_item_as))]
     fn further_item(&mut self, alloc: Global) -> Result<Item, Stop>
-        ensures gives { Gives print_item_of (one r.FurtherItem done) self.old result self.new }
-        ensures ahead { length self.new.rest ≤ length self.old.rest }
-        ensures taken { OnOk result (length self.new.rest < length self.old.rest) }
+        ensures { ReadsSome print_item_of (one r.FurtherItem done) self.old result self.new }
     {
         self.expect(Symbol::Comma)?;
         self.item(alloc)
@@ -67,9 +107,8 @@ impl<'a> Cursor<'a> {
     // The items of `print`, of which one is read.
     #[tactic(auto, using(crate::proofs::Steps::steps, crate::proofs::StatementSteps::item_loop))]
     fn items(&mut self, alloc: Global, first: Item) -> Result<Vec<Item>, Stop>
-        ensures gives { Gives items_in
-            (many r.FurtherItem (print_item_of first ∷ []) done) self.old result self.new }
-        ensures ahead { length self.new.rest ≤ length self.old.rest }
+        ensures { Reads items_in (many r.FurtherItem (print_item_of first ∷ []) done)
+            self.old result self.new }
     {
         let mut items = Vec::with_capacity(alloc, 1)?;
         items.push(first)?;
@@ -84,9 +123,7 @@ impl<'a> Cursor<'a> {
     #[tactic(auto, using(crate::proofs::Steps::steps, crate::proofs::TreesMade::statements), unfolding(inform_grammar::specs::StatementRules::print_after))]
     #[inline(always)]
     pub fn print_after(&mut self, alloc: Global) -> Result<Stmt, Stop>
-        ensures gives { Gives statement_of print_after self.old result self.new }
-        ensures ahead { length self.new.rest ≤ length self.old.rest }
-        ensures taken { OnOk result (length self.new.rest < length self.old.rest) }
+        ensures { ReadsSome statement_of print_after self.old result self.new }
     {
         let first = self.item(alloc)?;
         let items = self.items(alloc, first)?;

@@ -1,8 +1,7 @@
 //! Statements without a body that begin with a word.
-ghost use Rattle.std.specs.Prelude.{◌≡◌, ◌≤◌, ◌<◌, OnOk, length};
 ghost use Rattle.inform_tree.specs.Statements.{statement_of};
 ghost use Rattle.inform_grammar.specs.StatementRules.{return_after, read_after};
-ghost use Rattle.inform_parser.specs.Reading.{Gives};
+ghost use Rattle.inform_parser.specs.Reading.{ReadsSome};
 ghost use Rattle.inform_parser.specs.Plans.{plain_statement, simple_statement};
 
 use crate::cursor::Cursor;
@@ -16,9 +15,7 @@ impl<'a> Cursor<'a> {
     #[tactic(auto, using(crate::proofs::Steps::steps, crate::proofs::TreesMade::statements, crate::proofs::StatementSteps::return_after_as))]
     #[inline(always)]
     fn return_after(&mut self, alloc: Global) -> Result<Stmt, Stop>
-        ensures gives { Gives statement_of return_after self.old result self.new }
-        ensures ahead { length self.new.rest ≤ length self.old.rest }
-        ensures taken { OnOk result (length self.new.rest < length self.old.rest) }
+        ensures { ReadsSome statement_of return_after self.old result self.new }
     {
         if self.at(Symbol::Semicolon) {
             self.pass(Symbol::Semicolon);
@@ -32,9 +29,7 @@ impl<'a> Cursor<'a> {
     #[tactic(auto, using(crate::proofs::Steps::steps, crate::proofs::TreesMade::statements), unfolding(inform_grammar::specs::StatementRules::read_after))]
     #[inline(always)]
     fn read_after(&mut self, alloc: Global) -> Result<Stmt, Stop>
-        ensures gives { Gives statement_of read_after self.old result self.new }
-        ensures ahead { length self.new.rest ≤ length self.old.rest }
-        ensures taken { OnOk result (length self.new.rest < length self.old.rest) }
+        ensures { ReadsSome statement_of read_after self.old result self.new }
     {
         let line = self.name(alloc)?;
         let words = self.name(alloc)?;
@@ -45,9 +40,7 @@ impl<'a> Cursor<'a> {
     #[tactic(auto, using(crate::proofs::Steps::steps, crate::proofs::TreesMade::statements), unfolding(crate::specs::Plans::plain_statement))]
     #[inline(always)]
     fn plain_statement(&mut self) -> Result<Stmt, Stop>
-        ensures gives { Gives statement_of plain_statement self.old result self.new }
-        ensures ahead { length self.new.rest ≤ length self.old.rest }
-        ensures taken { OnOk result (length self.new.rest < length self.old.rest) }
+        ensures { ReadsSome statement_of plain_statement self.old result self.new }
     {
         if self.at_word(Keyword::Break) {
             return self.alone(Keyword::Break, Stmt::Break);
@@ -71,9 +64,7 @@ impl<'a> Cursor<'a> {
     #[tactic(auto, using(crate::proofs::Steps::steps, crate::proofs::StatementSteps::simple_as))]
     #[inline(always)]
     pub fn simple_statement(&mut self, alloc: Global) -> Result<Stmt, Stop>
-        ensures gives { Gives statement_of simple_statement self.old result self.new }
-        ensures ahead { length self.new.rest ≤ length self.old.rest }
-        ensures taken { OnOk result (length self.new.rest < length self.old.rest) }
+        ensures { ReadsSome statement_of simple_statement self.old result self.new }
     {
         if self.at_word(Keyword::Print) {
             self.pass_word(Keyword::Print);

@@ -1,13 +1,15 @@
 //! Constants and expressions.
-ghost use Rattle.std.specs.Prelude.{◌≡◌, ◌≤◌, ◌<◌, List, [], ◌∷◌, map, OnOk, IfOk, IfErr, length};
+ghost use Rattle.std.specs.Prelude.{◌≡◌, [], ◌∷◌, IfOk, IfErr};
 ghost use Rattle.inform_tree.specs.Values.{expression_of};
+ghost use Rattle.inform_lexemes.specs.declared.symbols.Symbol.TheVariants.{Minus};
+ghost use Rattle.inform_lexemes.specs.Lexemes.{is_sign};
 ghost use Rattle.inform_grammar.specs.Rules as r;
 ghost use Rattle.inform_grammar.specs.Trees.{product_of, sum_of};
-ghost use Rattle.inform_grammar.specs.ValueRules.{arguments, name_after, entry_after, factors_after, terms_after};
-ghost use Rattle.inform_grammar.specs.Plan.{done, one, many};
+ghost use Rattle.inform_grammar.specs.ValueRules.{minus_number, arguments, name_after, entry_after, factors_after, terms_after};
+ghost use Rattle.inform_grammar.specs.Plan.{done, take, one, many};
 ghost use Rattle.inform_parser.specs.declared.stops.Stop.TheVariants.{Memory};
-ghost use Rattle.inform_parser.specs.Reading.{Gives};
-ghost use Rattle.inform_parser.specs.Plans.{random_plan};
+ghost use Rattle.inform_parser.specs.Reading.{Reads, ReadsSome};
+ghost use Rattle.inform_parser.specs.Plans.{named_constant, negative_entry, some_arguments, named_primary, value_in_brackets, random_plan, named_unary, negation};
 ghost use Rattle.inform_parser.specs.Views.{same_tree, expressions_of, factor_of, factors_of, term_of, terms_of};
 
 use crate::cursor::Cursor;
@@ -45,42 +47,34 @@ fn sum_of(alloc: Global, first: Expr, terms: Vec<(SumOp, Expr)>) -> Result<Expr,
 }
 
 impl<'a> Cursor<'a> {
-    /// A constant.
-    #[tactic(auto, using(crate::proofs::Steps::steps, crate::proofs::ValueSteps::constants), unfolding(inform_grammar::specs::ValueRules::minus_number))]
-    pub fn constant(&mut self, alloc: Global) -> Result<Const, Stop>
-        ensures gives { Gives same_tree (one r.Constant done) self.old result self.new }
-        ensures ahead { length self.new.rest ≤ length self.old.rest }
-        ensures taken { OnOk result (length self.new.rest < length self.old.rest) }
+    // A constant that is a name.
+    #[tactic(auto, using(crate::proofs::Steps::steps))]
+    #[inline(always)]
+    fn named_constant(&mut self, alloc: Global) -> Result<Const, Stop>
+        ensures { ReadsSome same_tree named_constant self.old result self.new }
     {
-        if self.at_number() {
-            return Ok(Const::Number(self.pass_number()));
-        }
-        if self.at_character() {
-            return Ok(Const::Char(self.pass_character()));
-        }
-        if self.at_name() {
-            return Ok(Const::Name(self.name(alloc)?));
-        }
-        self.expect(Symbol::Minus)?;
-        Ok(Const::Minus(self.number()?))
+        let name = self.name(alloc)?;
+        Ok(Const::Name(name))
     }
 
-    /// An entry of an array.
-    #[tactic(auto, using(crate::proofs::Steps::steps, crate::proofs::ValueSteps::constants), unfolding(inform_grammar::specs::ValueRules::minus_number))]
-    pub fn entry(&mut self, alloc: Global) -> Result<Const, Stop>
-        ensures gives { Gives same_tree (one r.Entry done) self.old result self.new }
-        ensures ahead { length self.new.rest ≤ length self.old.rest }
-        ensures taken { OnOk result (length self.new.rest < length self.old.rest) }
+    // A number with its minus sign.
+    #[tactic(auto, using(crate::proofs::Steps::steps), unfolding(inform_grammar::specs::ValueRules::minus_number))]
+    #[inline(always)]
+    fn negative_number(&mut self) -> Result<Const, Stop>
+        ensures { ReadsSome same_tree (take (is_sign Minus) minus_number)
+            self.old result self.new }
     {
-        if self.at_number() {
-            return Ok(Const::Number(self.pass_number()));
-        }
-        if self.at_character() {
-            return Ok(Const::Char(self.pass_character()));
-        }
-        if self.at_name() {
-            return Ok(Const::Name(self.name(alloc)?));
-        }
+        self.expect(Symbol::Minus)?;
+        let number = self.number()?;
+        Ok(Const::Minus(number))
+    }
+
+    // A number with its minus sign, between brackets.
+    #[tactic(auto, using(crate::proofs::Steps::steps), unfolding(inform_grammar::specs::ValueRules::minus_number))]
+    #[inline(always)]
+    fn negative_entry(&mut self) -> Result<Const, Stop>
+        ensures { ReadsSome same_tree negative_entry self.old result self.new }
+    {
         self.expect(Symbol::LeftRound)?;
         self.expect(Symbol::Minus)?;
         let number = self.number()?;
@@ -88,18 +82,59 @@ impl<'a> Cursor<'a> {
         Ok(Const::Minus(number))
     }
 
+    /// A constant.
+    #[tactic(auto, using(crate::proofs::Steps::steps, crate::proofs::ValueSteps::constant_as))]
+    pub fn constant(&mut self, alloc: Global) -> Result<Const, Stop>
+        ensures { ReadsSome same_tree (one r.Constant done) self.old result self.new }
+    {
+        if self.at_number() {
+            return Ok(Const::Number(self.pass_number()));
+        }
+        if self.at_character() {
+            return Ok(Const::Char(self.pass_character()));
+        }
+        if self.at_name() {
+            return self.named_constant(alloc);
+        }
+        self.negative_number()
+    }
+
+    /// An entry of an array.
+    #[tactic(auto, using(crate::proofs::Steps::steps, crate::proofs::ValueSteps::entry_as))]
+    pub fn entry(&mut self, alloc: Global) -> Result<Const, Stop>
+        ensures { ReadsSome same_tree (one r.Entry done) self.old result self.new }
+    {
+        if self.at_number() {
+            return Ok(Const::Number(self.pass_number()));
+        }
+        if self.at_character() {
+            return Ok(Const::Char(self.pass_character()));
+        }
+        if self.at_name() {
+            return self.named_constant(alloc);
+        }
+        self.negative_entry()
+    }
+
     /// What follows the bracket after a name: the arguments of a call, and a closing bracket.
     #[cycle(values)]
     #[tactic(auto, using(crate::proofs::Steps::steps, crate::proofs::TreesMade::expressions, crate::proofs::ValueSteps::arguments_as))]
     pub fn arguments(&mut self, alloc: Global) -> Result<Vec<Expr>, Stop>
-        ensures gives { Gives expressions_of arguments self.old result self.new }
-        ensures ahead { length self.new.rest ≤ length self.old.rest }
-        ensures taken { OnOk result (length self.new.rest < length self.old.rest) }
+        ensures { ReadsSome expressions_of arguments self.old result self.new }
     {
         if self.at(Symbol::RightRound) {
             self.expect(Symbol::RightRound)?;
             return Ok(Vec::new(alloc));
         }
+        self.some_arguments(alloc)
+    }
+
+    // Arguments, of which there is one at least, and a closing bracket.
+    #[cycle(values)]
+    #[tactic(auto, using(crate::proofs::Steps::steps))]
+    fn some_arguments(&mut self, alloc: Global) -> Result<Vec<Expr>, Stop>
+        ensures { ReadsSome expressions_of some_arguments self.old result self.new }
+    {
         let first = self.value(alloc)?;
         let arguments = self.further_arguments(alloc, first)?;
         self.expressions_to(Symbol::RightRound, arguments)
@@ -109,9 +144,8 @@ impl<'a> Cursor<'a> {
     #[cycle(values)]
     #[tactic(auto, using(crate::proofs::Steps::steps, crate::proofs::TreesMade::expressions, crate::proofs::ValueSteps::argument_loop))]
     fn further_arguments(&mut self, alloc: Global, first: Expr) -> Result<Vec<Expr>, Stop>
-        ensures gives { Gives expressions_of (many r.Argument (expression_of first ∷ []) done)
+        ensures { Reads expressions_of (many r.Argument (expression_of first ∷ []) done)
             self.old result self.new }
-        ensures ahead { length self.new.rest ≤ length self.old.rest }
     {
         let mut arguments = Vec::with_capacity(alloc, 1)?;
         arguments.push(first)?;
@@ -127,9 +161,7 @@ impl<'a> Cursor<'a> {
     #[cycle(values)]
     #[tactic(auto, using(crate::proofs::Steps::steps, crate::proofs::TreesMade::expressions, crate::proofs::ValueSteps::argument_as))]
     fn argument(&mut self, alloc: Global) -> Result<Expr, Stop>
-        ensures gives { Gives expression_of (one r.Argument done) self.old result self.new }
-        ensures ahead { length self.new.rest ≤ length self.old.rest }
-        ensures taken { OnOk result (length self.new.rest < length self.old.rest) }
+        ensures { ReadsSome expression_of (one r.Argument done) self.old result self.new }
     {
         self.expect(Symbol::Comma)?;
         self.value(alloc)
@@ -140,8 +172,7 @@ impl<'a> Cursor<'a> {
     #[tactic(auto, using(crate::proofs::Steps::steps, crate::proofs::TreesMade::expressions), unfolding(inform_grammar::specs::ValueRules::name_after))]
     #[inline(always)]
     fn name_after(&mut self, alloc: Global, name: Name) -> Result<Expr, Stop>
-        ensures gives { Gives expression_of (name_after name) self.old result self.new }
-        ensures ahead { length self.new.rest ≤ length self.old.rest }
+        ensures { Reads expression_of (name_after name) self.old result self.new }
     {
         if self.at(Symbol::LeftRound) {
             self.expect(Symbol::LeftRound)?;
@@ -156,8 +187,7 @@ impl<'a> Cursor<'a> {
     #[tactic(auto, using(crate::proofs::Steps::steps, crate::proofs::TreesMade::expressions, crate::proofs::ValueSteps::entries_after))]
     #[inline(always)]
     fn entry_after(&mut self, alloc: Global, name: Name) -> Result<Expr, Stop>
-        ensures gives { Gives expression_of (entry_after name) self.old result self.new }
-        ensures ahead { length self.new.rest ≤ length self.old.rest }
+        ensures { Reads expression_of (entry_after name) self.old result self.new }
     {
         if self.at_arrow() {
             let words = self.arrow()?;
@@ -171,9 +201,7 @@ impl<'a> Cursor<'a> {
     #[cycle(values)]
     #[tactic(auto, using(crate::proofs::Steps::steps, crate::proofs::TreesMade::expressions, crate::proofs::ValueSteps::primary_as))]
     pub fn primary(&mut self, alloc: Global) -> Result<Expr, Stop>
-        ensures gives { Gives expression_of (one r.Primary done) self.old result self.new }
-        ensures ahead { length self.new.rest ≤ length self.old.rest }
-        ensures taken { OnOk result (length self.new.rest < length self.old.rest) }
+        ensures { ReadsSome expression_of (one r.Primary done) self.old result self.new }
     {
         if self.at_number() {
             return Ok(Expr::Number(self.pass_number()));
@@ -182,12 +210,31 @@ impl<'a> Cursor<'a> {
             return Ok(Expr::Char(self.pass_character()));
         }
         if self.at_name() {
-            let name = self.name(alloc)?;
-            return self.name_after(alloc, name);
+            return self.named_primary(alloc);
         }
         if self.at_word(Keyword::Random) {
             return self.random(alloc);
         }
+        self.value_in_brackets(alloc)
+    }
+
+    // A name, or a call of it.
+    #[cycle(values)]
+    #[tactic(auto, using(crate::proofs::Steps::steps))]
+    #[inline(always)]
+    fn named_primary(&mut self, alloc: Global) -> Result<Expr, Stop>
+        ensures { ReadsSome expression_of named_primary self.old result self.new }
+    {
+        let name = self.name(alloc)?;
+        self.name_after(alloc, name)
+    }
+
+    /// A value between brackets.
+    #[cycle(values)]
+    #[tactic(auto, using(crate::proofs::Steps::steps), unfolding(crate::specs::Plans::value_in_brackets))]
+    pub fn value_in_brackets(&mut self, alloc: Global) -> Result<Expr, Stop>
+        ensures { ReadsSome expression_of value_in_brackets self.old result self.new }
+    {
         self.expect(Symbol::LeftRound)?;
         let value = self.value(alloc)?;
         self.expression_to(Symbol::RightRound, value)
@@ -197,14 +244,10 @@ impl<'a> Cursor<'a> {
     #[cycle(values)]
     #[tactic(auto, using(crate::proofs::Steps::steps, crate::proofs::TreesMade::expressions))]
     fn random(&mut self, alloc: Global) -> Result<Expr, Stop>
-        ensures gives { Gives expression_of random_plan self.old result self.new }
-        ensures ahead { length self.new.rest ≤ length self.old.rest }
-        ensures taken { OnOk result (length self.new.rest < length self.old.rest) }
+        ensures { ReadsSome expression_of random_plan self.old result self.new }
     {
         self.expect_word(Keyword::Random)?;
-        self.expect(Symbol::LeftRound)?;
-        let limit = self.value(alloc)?;
-        self.expect(Symbol::RightRound)?;
+        let limit = self.value_in_brackets(alloc)?;
         Ok(Expr::Random(Box::new(alloc, limit)?))
     }
 
@@ -213,29 +256,45 @@ impl<'a> Cursor<'a> {
     #[tactic(auto, using(crate::proofs::Steps::steps, crate::proofs::TreesMade::expressions, crate::proofs::ValueSteps::unary_as))]
     #[inline(always)]
     fn unary(&mut self, alloc: Global) -> Result<Expr, Stop>
-        ensures gives { Gives expression_of (one r.Unary done) self.old result self.new }
-        ensures ahead { length self.new.rest ≤ length self.old.rest }
-        ensures taken { OnOk result (length self.new.rest < length self.old.rest) }
+        ensures { ReadsSome expression_of (one r.Unary done) self.old result self.new }
     {
         if self.at_name() {
-            let name = self.name(alloc)?;
-            return self.entry_after(alloc, name);
+            return self.named_unary(alloc);
         }
         if self.at(Symbol::Minus) {
             self.pass(Symbol::Minus);
-            let operand = self.primary(alloc)?;
-            return Ok(Expr::Neg(Box::new(alloc, operand)?));
+            return self.negation(alloc);
         }
         self.primary(alloc)
+    }
+
+    // A name, a call of it, or an entry of the array that it names.
+    #[cycle(values)]
+    #[tactic(auto, using(crate::proofs::Steps::steps))]
+    #[inline(always)]
+    fn named_unary(&mut self, alloc: Global) -> Result<Expr, Stop>
+        ensures { ReadsSome expression_of named_unary self.old result self.new }
+    {
+        let name = self.name(alloc)?;
+        self.entry_after(alloc, name)
+    }
+
+    // What follows a minus sign.
+    #[cycle(values)]
+    #[tactic(auto, using(crate::proofs::Steps::steps, crate::proofs::TreesMade::expressions))]
+    #[inline(always)]
+    fn negation(&mut self, alloc: Global) -> Result<Expr, Stop>
+        ensures { ReadsSome expression_of negation self.old result self.new }
+    {
+        let operand = self.primary(alloc)?;
+        Ok(Expr::Neg(Box::new(alloc, operand)?))
     }
 
     // A further factor, after its sign.
     #[cycle(values)]
     #[tactic(auto, using(crate::proofs::Steps::steps, crate::proofs::TreesMade::expressions, crate::proofs::ValueSteps::factor_as))]
     fn factor(&mut self, alloc: Global) -> Result<(ProdOp, Expr), Stop>
-        ensures gives { Gives factor_of (one r.Factor done) self.old result self.new }
-        ensures ahead { length self.new.rest ≤ length self.old.rest }
-        ensures taken { OnOk result (length self.new.rest < length self.old.rest) }
+        ensures { ReadsSome factor_of (one r.Factor done) self.old result self.new }
     {
         let sign = self.factor_sign()?;
         Ok((sign, self.unary(alloc)?))
@@ -245,8 +304,7 @@ impl<'a> Cursor<'a> {
     #[cycle(values)]
     #[tactic(auto, using(crate::proofs::Steps::steps, crate::proofs::TreesMade::expressions, crate::proofs::ValueSteps::factor_loop))]
     fn factors(&mut self, alloc: Global) -> Result<Vec<(ProdOp, Expr)>, Stop>
-        ensures gives { Gives factors_of (many r.Factor [] done) self.old result self.new }
-        ensures ahead { length self.new.rest ≤ length self.old.rest }
+        ensures { Reads factors_of (many r.Factor [] done) self.old result self.new }
     {
         let mut factors = Vec::new(alloc);
         while self.at_factor() {
@@ -261,9 +319,8 @@ impl<'a> Cursor<'a> {
     #[tactic(auto, using(crate::proofs::Steps::steps, crate::proofs::TreesMade::expressions, crate::proofs::ValueSteps::no_factors), unfolding(inform_grammar::specs::ValueRules::factors_after))]
     #[inline(always)]
     pub fn factors_after(&mut self, alloc: Global, first: Expr) -> Result<Expr, Stop>
-        ensures gives { Gives expression_of (factors_after (expression_of first))
+        ensures { Reads expression_of (factors_after (expression_of first))
             self.old result self.new }
-        ensures ahead { length self.new.rest ≤ length self.old.rest }
     {
         if !self.at_factor() {
             return Ok(first);
@@ -277,9 +334,7 @@ impl<'a> Cursor<'a> {
     #[tactic(auto, using(crate::proofs::Steps::steps, crate::proofs::TreesMade::expressions, crate::proofs::ValueSteps::product_as))]
     #[inline(always)]
     fn product(&mut self, alloc: Global) -> Result<Expr, Stop>
-        ensures gives { Gives expression_of (one r.Product done) self.old result self.new }
-        ensures ahead { length self.new.rest ≤ length self.old.rest }
-        ensures taken { OnOk result (length self.new.rest < length self.old.rest) }
+        ensures { ReadsSome expression_of (one r.Product done) self.old result self.new }
     {
         let first = self.unary(alloc)?;
         self.factors_after(alloc, first)
@@ -289,9 +344,7 @@ impl<'a> Cursor<'a> {
     #[cycle(values)]
     #[tactic(auto, using(crate::proofs::Steps::steps, crate::proofs::TreesMade::expressions, crate::proofs::ValueSteps::term_as))]
     fn term(&mut self, alloc: Global) -> Result<(SumOp, Expr), Stop>
-        ensures gives { Gives term_of (one r.Term done) self.old result self.new }
-        ensures ahead { length self.new.rest ≤ length self.old.rest }
-        ensures taken { OnOk result (length self.new.rest < length self.old.rest) }
+        ensures { ReadsSome term_of (one r.Term done) self.old result self.new }
     {
         let sign = self.term_sign()?;
         Ok((sign, self.product(alloc)?))
@@ -301,8 +354,7 @@ impl<'a> Cursor<'a> {
     #[cycle(values)]
     #[tactic(auto, using(crate::proofs::Steps::steps, crate::proofs::TreesMade::expressions, crate::proofs::ValueSteps::term_loop))]
     fn terms(&mut self, alloc: Global) -> Result<Vec<(SumOp, Expr)>, Stop>
-        ensures gives { Gives terms_of (many r.Term [] done) self.old result self.new }
-        ensures ahead { length self.new.rest ≤ length self.old.rest }
+        ensures { Reads terms_of (many r.Term [] done) self.old result self.new }
     {
         let mut terms = Vec::new(alloc);
         while self.at_term() {
@@ -317,9 +369,7 @@ impl<'a> Cursor<'a> {
     #[tactic(auto, using(crate::proofs::Steps::steps, crate::proofs::TreesMade::expressions, crate::proofs::ValueSteps::no_terms), unfolding(inform_grammar::specs::ValueRules::terms_after))]
     #[inline(always)]
     pub fn terms_after(&mut self, alloc: Global, first: Expr) -> Result<Expr, Stop>
-        ensures gives { Gives expression_of (terms_after (expression_of first))
-            self.old result self.new }
-        ensures ahead { length self.new.rest ≤ length self.old.rest }
+        ensures { Reads expression_of (terms_after (expression_of first)) self.old result self.new }
     {
         if !self.at_term() {
             return Ok(first);
@@ -332,9 +382,7 @@ impl<'a> Cursor<'a> {
     #[cycle(values)]
     #[tactic(auto, using(crate::proofs::Steps::steps, crate::proofs::TreesMade::expressions, crate::proofs::ValueSteps::value_as))]
     pub fn value(&mut self, alloc: Global) -> Result<Expr, Stop>
-        ensures gives { Gives expression_of (one r.Value done) self.old result self.new }
-        ensures ahead { length self.new.rest ≤ length self.old.rest }
-        ensures taken { OnOk result (length self.new.rest < length self.old.rest) }
+        ensures { ReadsSome expression_of (one r.Value done) self.old result self.new }
     {
         let first = self.product(alloc)?;
         self.terms_after(alloc, first)

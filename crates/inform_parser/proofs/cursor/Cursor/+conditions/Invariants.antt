@@ -6,7 +6,16 @@ use Rattle.inform_parser.specs.Plans.{members_from}
 use Rattle.inform_parser.proofs.cursor.Cursor.«+conditions».Given as goal
 
 abbrev pub decreases-test : goal.decreases-test
-decreases-test l = 8 * length l.self.now.rest + 1
+decreases-test l = 8 * length l.self.now.rest + 2
+
+abbrev pub decreases-not_after : goal.decreases-not_after
+decreases-not_after l = 8 * length l.self.now.rest + 1
+
+abbrev pub decreases-bracketed_test : goal.decreases-bracketed_test
+decreases-bracketed_test l = 8 * length l.self.now.rest + 1
+
+abbrev pub decreases-guard_in_brackets : goal.decreases-guard_in_brackets
+decreases-guard_in_brackets l = 8 * length l.self.now.rest
 
 abbrev pub decreases-member : goal.decreases-member
 decreases-member l = 8 * length l.self.now.rest + 1
@@ -21,7 +30,7 @@ abbrev pub decreases-tests_after : goal.decreases-tests_after
 decreases-tests_after l = 8 * length l.self.now.rest + 2
 
 abbrev pub decreases-guard : goal.decreases-guard
-decreases-guard l = 8 * length l.self.now.rest + 2
+decreases-guard l = 8 * length l.self.now.rest + 3
 
 -- what is read with what was found so far is what is read
 abbrev pub invariant-members-loop-alloc : goal.invariant-members-loop-alloc

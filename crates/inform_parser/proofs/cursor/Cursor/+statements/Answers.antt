@@ -40,10 +40,12 @@ stops front s after stop total more h same =
     let e : and_then (read (one r.Part done) s) (continued k) ≡ total = sym (read-one r.Part k s) ∙ sym more ∙ same in
     subst (λ (a : Answer (List r.SwitchPart)). StopsAt after stop a) e (stops-then after stop (continued k) (read (one r.Part done) s) h)
 
-pub parts-returns-in_err-part-clause-gives : goal.parts-returns-in_err-part-clause-gives
-parts-returns-in_err-part-clause-gives t c =
+pub parts-returns-in_err-part : goal.parts-returns-in_err-part
+parts-returns-in_err-part t c =
     let p = err_from_is_err_and c.from_residual.result c.from_residual.ensures.1 in
     let l = c.loop-alloc in
-    rw (p.1, p.2)
-    (stops (map part_of l.parts.items) l.self c.part.new.self c.in_err-part.field-0.0 _
-    (part_more (map part_of l.parts.items) l.self (sym c.at_part.ensures ∙ c.loop-alloc-test.true)) c.in_err-part.ensures.gives l.invariant.0)
+    rw (p.1, p.2) (record {
+      gives = stops (map part_of l.parts.items) l.self c.part.new.self c.in_err-part.field-0.0 _
+          (part_more (map part_of l.parts.items) l.self (sym c.at_part.ensures ∙ c.loop-alloc-test.true)) c.in_err-part.ensures.gives l.invariant.0;
+      ahead = omega arith;
+    })

@@ -7,31 +7,37 @@ use Rattle.inform_parser.specs.Parts.{part_of}
 use Rattle.inform_parser.proofs.cursor.Cursor.«+statements».Given as goal
 
 abbrev pub decreases-statement : goal.decreases-statement
-decreases-statement l = 8 * length l.self.now.rest
+decreases-statement l = 8 * length l.self.now.rest + 3
 
 abbrev pub decreases-statements : goal.decreases-statements
-decreases-statements l = 8 * length l.self.now.rest + 2
+decreases-statements l = 8 * length l.self.now.rest + 4
+
+abbrev pub decreases-statements_in_braces : goal.decreases-statements_in_braces
+decreases-statements_in_braces l = 8 * length l.self.now.rest
+
+abbrev pub decreases-block : goal.decreases-block
+decreases-block l = 8 * length l.self.now.rest + 1
 
 abbrev pub decreases-single_body : goal.decreases-single_body
-decreases-single_body l = 8 * length l.self.now.rest + 1
+decreases-single_body l = 8 * length l.self.now.rest + 4
 
 abbrev pub decreases-body : goal.decreases-body
-decreases-body l = 8 * length l.self.now.rest + 2
+decreases-body l = 8 * length l.self.now.rest + 5
 
 abbrev pub decreases-else_after : goal.decreases-else_after
 decreases-else_after l = 8 * length l.self.now.rest + 1
 
-abbrev pub decreases-if_after : goal.decreases-if_after
-decreases-if_after l = 8 * length l.self.now.rest + 1
+abbrev pub decreases-if_statement : goal.decreases-if_statement
+decreases-if_statement l = 8 * length l.self.now.rest + 1
 
-abbrev pub decreases-while_after : goal.decreases-while_after
-decreases-while_after l = 8 * length l.self.now.rest + 1
+abbrev pub decreases-while_statement : goal.decreases-while_statement
+decreases-while_statement l = 8 * length l.self.now.rest + 1
 
-abbrev pub decreases-do_after : goal.decreases-do_after
-decreases-do_after l = 8 * length l.self.now.rest + 3
+abbrev pub decreases-do_statement : goal.decreases-do_statement
+decreases-do_statement l = 8 * length l.self.now.rest + 1
 
 abbrev pub decreases-for_body : goal.decreases-for_body
-decreases-for_body l = 8 * length l.self.now.rest + 3
+decreases-for_body l = 8 * length l.self.now.rest + 6
 
 abbrev pub decreases-for_last : goal.decreases-for_last
 decreases-for_last l = 8 * length l.self.now.rest + 1
@@ -39,8 +45,8 @@ decreases-for_last l = 8 * length l.self.now.rest + 1
 abbrev pub decreases-for_test : goal.decreases-for_test
 decreases-for_test l = 8 * length l.self.now.rest + 1
 
-abbrev pub decreases-for_after : goal.decreases-for_after
-decreases-for_after l = 8 * length l.self.now.rest + 1
+abbrev pub decreases-for_statement : goal.decreases-for_statement
+decreases-for_statement l = 8 * length l.self.now.rest + 1
 
 abbrev pub decreases-switch_after : goal.decreases-switch_after
 decreases-switch_after l = 8 * length l.self.now.rest + 1
@@ -52,10 +58,10 @@ abbrev pub decreases-default_after : goal.decreases-default_after
 decreases-default_after l = 8 * length l.self.now.rest + 1
 
 abbrev pub decreases-part : goal.decreases-part
-decreases-part l = 8 * length l.self.now.rest + 2
+decreases-part l = 8 * length l.self.now.rest + 4
 
 abbrev pub decreases-parts : goal.decreases-parts
-decreases-parts l = 8 * length l.self.now.rest + 3
+decreases-parts l = 8 * length l.self.now.rest + 5
 
 -- what is read with what was found so far is what is read
 

@@ -18,6 +18,21 @@ decreases-factor l = 8 * length l.self.now.rest + 1
 abbrev pub decreases-term : goal.decreases-term
 decreases-term l = 8 * length l.self.now.rest + 1
 
+abbrev pub decreases-named_primary : goal.decreases-named_primary
+decreases-named_primary l = 8 * length l.self.now.rest + 1
+
+abbrev pub decreases-value_in_brackets : goal.decreases-value_in_brackets
+decreases-value_in_brackets l = 8 * length l.self.now.rest
+
+abbrev pub decreases-named_unary : goal.decreases-named_unary
+decreases-named_unary l = 8 * length l.self.now.rest + 1
+
+abbrev pub decreases-negation : goal.decreases-negation
+decreases-negation l = 8 * length l.self.now.rest + 3
+
+abbrev pub decreases-some_arguments : goal.decreases-some_arguments
+decreases-some_arguments l = 8 * length l.self.now.rest + 6
+
 abbrev pub decreases-primary : goal.decreases-primary
 decreases-primary l = 8 * length l.self.now.rest + 2
 
@@ -37,7 +52,7 @@ abbrev pub decreases-value : goal.decreases-value
 decreases-value l = 8 * length l.self.now.rest + 5
 
 abbrev pub decreases-arguments : goal.decreases-arguments
-decreases-arguments l = 8 * length l.self.now.rest + 6
+decreases-arguments l = 8 * length l.self.now.rest + 7
 
 abbrev pub decreases-further_arguments : goal.decreases-further_arguments
 decreases-further_arguments l = 8 * length l.self.now.rest + 2

@@ -6,10 +6,18 @@ use Rattle.inform_parser.specs.Nexts.{relation_lexeme}
 use Rattle.inform_parser.proofs.Taking.{sign_taken, sign_stops}
 use Rattle.inform_parser.proofs.cursor.Cursor.expect.Goals as goal
 
-pub returns-in_err-advance-clause-gives : goal.returns-in_err-advance-clause-gives
-returns-in_err-advance-clause-gives c =
+pub returns-in_err-advance : goal.returns-in_err-advance
+returns-in_err-advance c =
     let p = err_from_is_err_and c.from_residual.result c.from_residual.ensures.1 in
-    rw (p.1, p.2) (sign_stops c.args.self.now c.advance.new.self c.in_err-advance.field-0.0 c.args.symbol (sym c.at.ensures ∙ c.if-not-at.false) c.in_err-advance.ensures.gives)
+    rw (p.1, p.2) (record {
+      gives = sign_stops c.args.self.now c.advance.new.self c.in_err-advance.field-0.0 c.args.symbol (sym c.at.ensures ∙ c.if-not-at.false) c.in_err-advance.ensures.gives;
+      ahead = c.advance.ensures.ahead;
+      taken = tt;
+    })
 
-pub returns-clause-gives : goal.returns-clause-gives
-returns-clause-gives c = sign_taken c.args.self.now c.advance.new.self c.args.symbol (sym c.at.ensures ∙ c.if-not-at.false) c.in_ok-advance.ensures.gives
+pub returns : goal.returns
+returns c = record {
+  gives = sign_taken c.args.self.now c.advance.new.self c.args.symbol (sym c.at.ensures ∙ c.if-not-at.false) c.in_ok-advance.ensures.gives;
+  ahead = c.advance.ensures.ahead;
+  taken = c.in_ok-advance.ensures.taken;
+}
