@@ -95,6 +95,7 @@ module _ (number : ℕ → Option ℕ) where
 module _ {number : ℕ → Option ℕ} {b : ℕ} (p : Program)
     (notes : (name : List ℕ) (r : Routine) → p.routines name ≡ Some r
     → p.notes name r.directive ≡ number r.directive) where
+  -- after a body that is done, `Main` enters no routine, with one step more or without
   main-on : (e : Outcome) → IsDone e
       → Steady number 0 b (resume_at p CALL_LIMIT (Main ∷ []) e)
   unfolding resume_at bind on_main

@@ -271,6 +271,7 @@ module _ (p : Program) (call : Calls) where
 module _ {number : ℕ → Option ℕ} {b : ℕ} (p : Program)
     (notes : (name : List ℕ) (r : Routine) → p.routines name ≡ Some r
     → p.notes name r.directive ≡ number r.directive) where
+  -- a call notes the routine that it enters, with one step more and also where no step is left
   enter-called : (call : Calls) → GoingCalls call
       → ((name : List ℕ) (values : List ℤ) → Called number b (call name values))
       → (name : List ℕ) (o : Option Routine)

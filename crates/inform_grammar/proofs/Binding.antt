@@ -29,6 +29,7 @@ either-same : {A B C : Type 0} (o : Option A) (f : A → B) (other : B) (g : B �
 either-same None f other g f' other' some none = none
 either-same (Some x) f other g f' other' some none = some x
 
+-- the step of two plans in turn is that of the first, with the second to follow what it reads
 pub step-then : {X Y : Type 0} (t : Option Lexeme) (p : Plan X) (n : ℕ) (f : X → Plan Y)
     → step t (p >>= f) n ≡ then_step t f (step t p n)
 unfolding step

@@ -85,6 +85,7 @@ chain-judged : {X Y : Type 0} (x y : Lexeme) (b c : Bool) (s a : Option (Plan X)
 chain-judged x y b c (Some p) a k n o other f g h = tt
 chain-judged x y b c None a k n o other f g h = bar-judged x y b c a k n o other f (λ e. let i : false ≡ true = g e in cc) h
 
+-- a lexeme that a plan refuses is unexpected, or a connective in whose place the other one goes on
 pub judged : {X : Type 0} (place : Place) (x : Lexeme) (p : Plan X) (n : ℕ) → Onward place p → Judged x (step (Some x) p n) (step (Some (swapped x)) p n)
 unfolding step
 judged place x (done v) n o = tt

@@ -115,6 +115,7 @@ fewer-rule : {X Y : Type 0} (o : Option (Plan Y)) (k : Y → Plan X) (n : ℕ) (
 fewer-rule None k n other h = h
 fewer-rule (Some p) k n other h = omega arith
 
+-- whatever the plan, no more are open before the lexeme that it takes than there were
 step-fewer : {X : Type 0} (x : Lexeme) (p : Plan X) (n : ℕ) → Fewer n (step (Some x) p n)
 unfolding step
 step-fewer x (done v) n = tt
@@ -134,6 +135,7 @@ HadRoom room n = (k : ℕ) → k < n → room k ≡ true
 had-fewer : (room : ℕ → Bool) (n m : ℕ) → m ≤ n → HadRoom room n → HadRoom room m
 had-fewer room n m few h k below = h k (omega (arith, few, below))
 
+-- if there was room for each that is open before a lexeme that fits, so there was for each after it
 had-after : (room : ℕ → Bool) (x : Lexeme) (n : ℕ) → Fits room x n → HadRoom room n → HadRoom room (opened_after x n)
 had-after room x n = by (is_opener x) (is_closer x)
   where
@@ -197,6 +199,7 @@ module _ {X : Type 0} (room : ℕ → Bool) where
       by true false i e one other = let a = same-faults TooDeep kind (x ∷ xs) rest e in other refl refl a.0 a.1
       by false c i e one other = one tt e
 
+  -- a fault at a lexeme or after it has a trace, if each fault in the lexemes after it has one
   trace-here : (x : Lexeme) (xs : List Lexeme) (p : Plan X) (n : ℕ) (kind : FaultKind) (rest : List Lexeme)
       → ((q : Plan X) (i : ℕ) → reads room xs q i ≡ refused_with kind rest → Trace room q i kind xs rest)
       → (o : Outcome X) → step (Some x) p n ≡ o → at_lexeme room x xs o (reads room xs) ≡ refused_with kind rest → Trace room p n kind (x ∷ xs) rest
@@ -230,6 +233,7 @@ module _ {X : Type 0} (room : ℕ → Bool) where
         stop = subst (StopsAt room p n kind) r (inr (q, m, same, b, c, sym k));
       })
 
+  -- each fault has a trace: some lexemes lead from the plan to where it stands
   trace : (ts : List Lexeme) (p : Plan X) (n : ℕ) (kind : FaultKind) (rest : List Lexeme) → reads room ts p n ≡ refused_with kind rest → Trace room p n kind ts rest
   unfolding reads
   trace [] p n kind rest e =

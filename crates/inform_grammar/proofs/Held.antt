@@ -38,6 +38,7 @@ not-both e = absurd (cc)
 module _ (room : ℕ → Bool) where
   -- ---- one plan, and then another
 
+  -- what two plans in turn read is what the first reads up to some spot, and the second from there
   pub holds-then : {X Y : Type 0} (p : Plan X) (f : X → Plan Y) (n : ℕ) (v : Y) (ts : List Lexeme) (m : ℕ) (rest : List Lexeme)
       → Holds room (p >>= f) n v ts m rest
       → (w : X) × (i : ℕ) × (mid : List Lexeme) × Holds room p n w ts i mid × Holds room (f w) i v mid m rest

@@ -101,6 +101,7 @@ look-then : (a b : Bool) (M N P Q : Type 0) → (M → N) → (P → Q) → Matc
 look-then true b M N P Q f g h = (h.0, f h.1)
 look-then false b M N P Q f g h = (h.0, g h.1)
 
+-- two plans in turn take or bar the first lexeme where they take the second, if each of them does
 follows-then : {X Y : Type 0} (x y : Lexeme) (p : Plan X) (f : X → Plan Y) → Follows x y p → ((v : X) → Follows x y (f v)) → Follows x y (p >>= f)
 follows-then x y (done v) f h g = g v
 follows-then x y refuse f h g = tt
@@ -119,6 +120,7 @@ follows-then x y (shut p) f h g = follows-then x y p f h g
 both-then : {X Y : Type 0} (p : Plan X) (f : X → Plan Y) → Both p → ((v : X) → Both (f v)) → Both (p >>= f)
 both-then p f h g = (follows-then (Sign And) (Sign Or) p f h.0 (λ v. (g v).0), follows-then (Sign Or) (Sign And) p f h.1 (λ v. (g v).1))
 
+-- two plans in turn lead to plans that do so for both connectives, if each of the two does
 leading-then : {X Y : Type 0} (p : Plan X) (f : X → Plan Y) → Leading p → ((v : X) → Paired (f v)) → Leading (p >>= f)
 leading-then (done v) f h g = (g v).leading
 leading-then refuse f h g = tt

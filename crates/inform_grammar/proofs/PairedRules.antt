@@ -372,6 +372,7 @@ paired-read : Paired read_after
 unfolding read_after
 paired-read = next-paired (refl, refl) (λ line. next-paired (refl, refl) (λ words. take-paired (refl, refl) done-paired) refuse-paired) refuse-paired
 
+-- after whatever begins a statement, a connective is taken or barred where the other one is taken
 paired-statement : (x : Lexeme) → PairedIfAny (statement x)
 unfolding statement
 paired-statement (Sign Semicolon) = done-paired
@@ -416,6 +417,7 @@ paired-part x =
 
 -- ---- directives
 
+-- after whatever begins a directive, a connective is taken or barred where the other one is taken
 paired-directive : (x : Lexeme) → PairedIfAny (directive x)
 unfolding opened
 paired-directive (Word w.Constant) =
@@ -438,6 +440,7 @@ paired-local _ = tt
 
 -- ---- all rules, and the program
 
+-- after whatever begins a rule, a connective is taken or barred where the other one is taken
 pub paired : (r : Rule) (x : Lexeme) → PairedIfAny (rule r x)
 unfolding rule
 paired r.Constant x = paired-constant x

@@ -128,6 +128,7 @@ mutual
   read-test room (by_itself {rest = rest} x h) k = value-as-test room x k ∙ next-no room rest is_relation h _ _ _
   read-test room (compared {op = op} x y) k = value-as-test room x k ∙ relation-read room op _ _ k _ ∙ read-value room y _
 
+  -- members that are spelled so, each after its connective, are read so, after those read before
   read-members : (room : ℕ → Bool) {X : Type 0} {o : ℕ} {join : Join} {xs : List c.Condition} {ts rest : List Lexeme} → Members room o join xs ts rest
       → (front : List c.Condition) (k : List c.Condition → Plan X)
       → reads room ts (chain (r.Member join) (is_sign (other_connective join)) front k) o ≡ reads room rest (k (front ++ xs)) o

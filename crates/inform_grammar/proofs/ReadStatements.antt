@@ -213,6 +213,7 @@ Ends ts = No (starts r.Statement) ts
 mutual
   unfolding opened
 
+  -- a statement that is spelled so is read so, and the plan goes on with the lexemes after it
   pub read-statement : (room : ℕ → Bool) {X : Type 0} {o : ℕ} {x : s.Statement} {ts rest : List Lexeme} → Statement room o x ts rest
       → (k : s.Statement → Plan X) → reads room ts (one r.Statement k) o ≡ reads room rest (k x) o
   read-statement room empty k = refl
@@ -275,6 +276,7 @@ mutual
       ∙ part-as-statement room d _ ∙ read-statement room d _ ∙ read-said room ds _ k
       ∙ ap (λ xs. reads room rest (many r.Part xs k) o) (append_assoc front (Said x ∷ []) (map (λ y. Said y) xs))
 
+  -- cases of a switch that are spelled so are read so, after those read before
   read-cases : (room : ℕ → Bool) {X : Type 0} {o : ℕ} {xs : List (List s.Choice × List s.Statement)} {ts rest : List Lexeme} → Cases room o xs ts rest
       → No (starts r.Part) rest → (front : List SwitchPart) (k : List SwitchPart → Plan X)
       → reads room ts (many r.Part front k) o ≡ reads room rest (k (front ++ parts_of xs)) o

@@ -102,6 +102,7 @@ mutual
   read-unary room (operand {ts = ts} h x) k =
       unary-as-primary room ts h (there room r.Primary _ _ _ _ (read-primary room x (λ _. mark))) k _ ∙ read-primary room x k
 
+  -- factors that are spelled so, each after its sign, are read so, after those read before
   pub read-factors : (room : ℕ → Bool) {X : Type 0} {o : ℕ} {xs : List (ProdOp × Expression)} {ts rest : List Lexeme} → Factors room o xs ts rest
       → (front : List (ProdOp × Expression)) (k : List (ProdOp × Expression) → Plan X)
       → reads room ts (many r.Factor front k) o ≡ reads room rest (k (front ++ xs)) o

@@ -92,6 +92,7 @@ good s = record { completes = s.closes.completes; onward = s.onward }
 
 -- ---- one plan, and then another
 
+-- two plans in turn can be completed, if the first can, and the second by what may follow it
 unfoldable pub completes-then : {X Y : Type 0} {place between : Place} {p : Plan X} {f : X → Plan Y} → Completes between p → ((x : X) → Closes place between (f x))
     → Completes place (p >>= f)
 completes-then {Y = Y} {place = place} {p = p} {f = f} a g =
@@ -119,6 +120,7 @@ closes-then {before = before} {p = p} {f = f} a g = record {
       subst (Stop before) (sym (append_assoc a.completes.more more rest)) (a.stops (more ++ rest) ((g v).stops rest s));
 }
 
+-- all that two plans in turn lead to can be completed, if all that each of the two leads to can
 pub onward-then : {X Y : Type 0} {place between : Place} (p : Plan X) (f : X → Plan Y) → Onward between p → ((x : X) → Closes place between (f x))
     → ((x : X) → Onward place (f x)) → Onward place (p >>= f)
 onward-then (done x) f o c g = g x

@@ -22,6 +22,7 @@ done-safe {x = x} = record {
   onward = tt;
 }
 
+-- a statement that ends changes nothing in what completes a plan and in where the plan leads
 pub shut-safe : {X : Type 0} {place before : Place} {p : Plan X} → Safe place before p → Safe place before (shut p)
 shut-safe {p = p} a =
     let c = a.closes.completes in
@@ -46,6 +47,7 @@ free-taken {X = X} x xs n go = by (is_opener x) (cond (is_closer x) (one_less n)
     by false i = refl
 
 module _ {X : Type 0} {place : Place} {test : Lexeme → Bool} {k : Lexeme → Plan X} {q : Plan X} where
+  -- a plan that takes such a lexeme can be completed by it and by what completes the plan after it
   next-completes : (x : Lexeme) → test x ≡ true → Completes place (k x) → Completes place (next test k q)
   unfolding reads step
   next-completes x e a = record {
@@ -72,6 +74,7 @@ module _ {X : Type 0} {place : Place} {test : Lexeme → Bool} {k : Lexeme → P
     onward = (λ y e. ((g y e).completes, (g y e).onward), o);
   }
 
+  -- where a lexeme may be left out, what completes the plan without it completes this one
   pub next-skip : {before : Place} → Free before test → ((y : Lexeme) → test y ≡ true → Good place (k y)) → Safe place before q → Safe place before (next test k q)
   next-skip {before = before} f g a =
       let c = a.closes.completes in
@@ -110,6 +113,7 @@ pub record Witness (r : Rule) : Type 0 where
   pub completes : Completes (place_of r) plan
 
 module _ {X : Type 0} {place : Place} {r : Rule} {k : TreeOf r → Plan X} {q : Plan X} where
+  -- a plan that a rule begins can be completed by what the rule reads and what completes the rest
   rule-completes : Witness r → ((x : TreeOf r) → Closes place (place_of r) (k x)) → Completes place (maybe r k q)
   unfolding reads step
   rule-completes a g =
@@ -130,6 +134,7 @@ module _ {X : Type 0} {place : Place} {r : Rule} {k : TreeOf r → Plan X} {q : 
     onward = (λ x. ((g x).closes, (g x).onward), o);
   }
 
+  -- where what a rule reads may be left out, what completes the plan without it completes this one
   pub maybe-skip : {before : Place} → Free before (starts r) → ((x : TreeOf r) → Safe place (place_of r) (k x)) → Safe place before q → Safe place before (maybe r k q)
   maybe-skip {before = before} f g a =
       let c = a.closes.completes in
@@ -153,6 +158,7 @@ one-good a g = maybe-good a g tt
 abbrev pub Bars : Rule → (Lexeme → Bool) → Type 0
 Bars r test = Free (place_of r) test × ((x : Lexeme) → test x ≡ true → (is_connective x ≡ true) × (starts r (swapped x) ≡ true))
 
+-- a chain may end at once: what completes the plan after it completes the chain
 chain-closes : {X : Type 0} {place : Place} {r : Rule} {test : Lexeme → Bool} {front : List (TreeOf r)} {k : List (TreeOf r) → Plan X} → Free (place_of r) (starts r)
     → Free (place_of r) test → Closes place (place_of r) (k front) → Closes place (place_of r) (chain r test front k)
 chain-closes {r = r} {test = test} {front = front} {k = k} f g a =

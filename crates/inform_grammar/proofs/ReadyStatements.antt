@@ -164,6 +164,7 @@ for-good =
 alone-good : {x : s.Statement} → Good Statements (take (is_sign Semicolon) (done x))
 alone-good = take-good (Sign Semicolon) refl done-good
 
+-- after whatever begins a statement, the rest of it can be completed
 ready-statement : (x : Lexeme) → GoodIfAny Statements (statement x)
 unfolding opened
 ready-statement (Sign Semicolon) = done-good
@@ -229,6 +230,7 @@ ready-part x =
 
 -- ---- directives
 
+-- after whatever begins a directive, the rest of it can be completed
 ready-directive : (x : Lexeme) → GoodIfAny Statements (directive x)
 unfolding opened
 ready-directive (Word w.Constant) =
@@ -252,6 +254,7 @@ ready-local _ = tt
 
 -- ---- all rules, and the program
 
+-- after whatever begins a rule, the rest of it can be completed
 pub ready : (r : Rule) (x : Lexeme) → GoodIfAny (place_of r) (rule r x)
 unfolding rule
 ready r.Constant x = ready-constant x

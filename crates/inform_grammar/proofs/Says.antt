@@ -28,6 +28,7 @@ module _ (room : ℕ → Bool) where
       (x : s.Choice) × (ys : List s.Choice) × (mid : List Lexeme) × (xs ≡ x ∷ ys) × Choice x ts mid × Choices ys mid (Sign Colon ∷ rest)
   PartSays o (Said x) ts rest = Statement room o x ts rest
 
+  -- the lexemes up to the rest spell what the rule reads, by what the grammar says of the rule
   abbrev pub Says : (r : Rule) → ℕ → TreeOf r → List Lexeme → List Lexeme → Type 0
   Says r.Constant o x ts rest = Constant x ts rest
   Says r.Entry o x ts rest = Entry room o x ts rest

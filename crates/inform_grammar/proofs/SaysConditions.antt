@@ -62,6 +62,7 @@ module _ (told : SymbolsTold) (room : ℕ → Bool) where
   says-compared x n v us m rest y i mid b h =
       says-relation y n (x ∷ us) mid v m rest b.says (subst (λ i. Read room (relation_after y) i v mid m rest) (sym b.same) h)
 
+  -- what is read as a test is spelled so, and as many are open after it as before
   pub says-test : (x : Lexeme) (n : ℕ) (v : Guard) (us : List Lexeme) (m : ℕ) (rest : List Lexeme) → Fits room x n
       → Begun room (test x) (opened_after x n) v us m rest → Found room r.Test n (x ∷ us) v m rest
   unfolding opened

@@ -35,6 +35,7 @@ module _ (told : SymbolsTold) (words : KeywordsTold) (room : ℕ → Bool) where
 
   -- ---- directives
 
+  -- what is read as a directive is spelled so, and as many are open after it as before
   says-directive : (x : Lexeme) (n : ℕ) (v : DirectiveTree) (us : List Lexeme) (m : ℕ) (rest : List Lexeme)
       → Begun room (directive x) (opened_after x n) v us m rest → Found room r.Directive n (x ∷ us) v m rest
   unfolding opened
@@ -69,6 +70,7 @@ module _ (told : SymbolsTold) (words : KeywordsTold) (room : ℕ → Bool) where
   says-local (Name name) n v us m rest h = ended room h refl refl
   says-local _ n v us m rest h = absurd h
 
+  -- what any rule reads is spelled so, and as many are open after it as before
   pub says-rule : (r : Rule) (x : Lexeme) (n : ℕ) (v : TreeOf r) (us : List Lexeme) (m : ℕ) (rest : List Lexeme) → Fits room x n
       → Begun room (rule r x) (opened_after x n) v us m rest → Found room r n (x ∷ us) v m rest
   unfolding rule

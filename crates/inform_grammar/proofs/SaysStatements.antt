@@ -39,6 +39,7 @@ module _ (told : SymbolsTold) (words : KeywordsTold) (room : ℕ → Bool) where
       → Statement room n x (Name name ∷ ts) rest
   statement_at {n = n} {x = x} {name = name} {rest = rest} e d = subst (λ ts. Statement room n x (Name name ∷ ts) rest) (sym e) d
 
+  -- what is read as a change after its name is spelled so, and the plan goes on after it
   says-change : {X : Type 0} (k : Assignment → Plan X) (name : List ℕ) (n : ℕ) (v : X) (ts : List Lexeme) (m : ℕ) (rest : List Lexeme)
       → Read room (change_after name >>= k) n v ts m rest
       → (x : Assignment) × (mid : List Lexeme) × Change room n x (Name name ∷ ts) mid × Read room (k x) n v mid m rest
@@ -61,6 +62,7 @@ module _ (told : SymbolsTold) (words : KeywordsTold) (room : ℕ → Bool) where
   says-changed (Name name) n v us m rest h = let a = says-change done name n v us m rest h in ended room a.3 refl a.2
   says-changed _ n v us m rest h = absurd h
 
+  -- what is read as a statement after its first name is spelled so, and the plan goes on after it
   says-named : {X : Type 0} (k : s.Statement → Plan X) (name : List ℕ) (n : ℕ) (v : X) (ts : List Lexeme) (m : ℕ) (rest : List Lexeme)
       → Read room (statement_after name >>= k) n v ts m rest
       → (x : s.Statement) × (mid : List Lexeme) × Statement room n x (Name name ∷ ts) mid × Read room (k x) n v mid m rest
@@ -94,6 +96,7 @@ module _ (told : SymbolsTold) (words : KeywordsTold) (room : ℕ → Bool) where
 
   -- ---- items of `print`
 
+  -- what is read as an item of `print` is spelled so, and as many are open after it as before
   pub says-item : (x : Lexeme) (n : ℕ) (v : PrintItem) (us : List Lexeme) (m : ℕ) (rest : List Lexeme) → Fits room x n
       → Begun room (item x) (opened_after x n) v us m rest → Found room r.Item n (x ∷ us) v m rest
   unfolding opened
@@ -182,6 +185,7 @@ module _ (told : SymbolsTold) (words : KeywordsTold) (room : ℕ → Bool) where
   statements n [] ts rest e = subst (Statements room n [] ts) e last_statement
   statements n (x ∷ xs) ts rest (mid, d, ds) = one_more_statement d (statements n xs mid rest ds)
 
+  -- what is read as the default of a switch, or as none, is spelled so up to the closing brace
   says-default : (x : Expression) (cs : List (List s.Choice × List s.Statement)) (n : ℕ) (v : s.Statement) (ts : List Lexeme) (m : ℕ) (rest : List Lexeme)
       → Read room (default_after x cs) n v ts m rest
       → (other : Option (List s.Statement)) × (us : List Lexeme) × DefaultIfAny room n other ts (Sign RightBrace ∷ us)
@@ -195,6 +199,7 @@ module _ (told : SymbolsTold) (words : KeywordsTold) (room : ℕ → Bool) where
       (λ _ h. must room (Sign RightBrace) (told RightBrace) h
       (λ us e _ h. (None, us, subst (λ ts. DefaultIfAny room n None ts (Sign RightBrace ∷ us)) (sym e) no_default, h)))
 
+  -- what is read as the cases and the default of a switch is spelled so up to the closing brace
   says-cases : (x : Expression) (n : ℕ) (v : s.Statement) (ts : List Lexeme) (m : ℕ) (rest : List Lexeme) → Read room (cases_after x) n v ts m rest
       → (cs : List (List s.Choice × List s.Statement)) × (other : Option (List s.Statement)) × (mid us : List Lexeme)
       × Cases room n cs ts mid × DefaultIfAny room n other mid (Sign RightBrace ∷ us)
@@ -222,6 +227,7 @@ module _ (told : SymbolsTold) (words : KeywordsTold) (room : ℕ → Bool) where
       (conditional f g d b (subst (λ mid. ElseIfAny room (suc n) ys mid far) (sym e) (an_else i)))))
       (λ e h. ended room (closed room h) refl (conditional f g d b (no_else e)))
 
+  -- what is read as a statement is spelled so, and as many are open after it as before
   pub says-statement : (x : Lexeme) (n : ℕ) (v : s.Statement) (us : List Lexeme) (m : ℕ) (rest : List Lexeme) → Fits room x n
       → Begun room (statement x) (opened_after x n) v us m rest → Found room r.Statement n (x ∷ us) v m rest
   unfolding opened

@@ -40,6 +40,7 @@ module _ (told : SymbolsTold) (room : ℕ → Bool) where
       must_as room (λ x. Number (number_in x)) number-told (number-plain n) h (λ x us e h. found_at room e (ended room h refl below_zero))
   says-constant _ n v us m rest h = absurd h
 
+  -- what is read as an entry of an array is spelled so, and as many are open after it as before
   pub says-entry : (x : Lexeme) (n : ℕ) (v : Const) (us : List Lexeme) (m : ℕ) (rest : List Lexeme) → Fits room x n
       → Begun room (entry x) (opened_after x n) v us m rest → Found room r.Entry n (x ∷ us) v m rest
   unfolding opened
@@ -60,6 +61,7 @@ module _ (told : SymbolsTold) (room : ℕ → Bool) where
   further-arguments n (x ∷ xs) ts rest (mid, (us, e, d), ds) =
       subst (λ ts. FurtherArguments room n (x ∷ xs) ts rest) (sym e) (one_more_argument d (further-arguments n xs mid rest ds))
 
+  -- what is read as the arguments of a call is spelled so, with the bracket that closes them
   pub says-arguments : {X : Type 0} (k : List Expression → Plan X) (n : ℕ) (v : X) (ts : List Lexeme) (m : ℕ) (rest : List Lexeme)
       → Read room (arguments >>= k) n v ts m rest
       → (xs : List Expression) × (mid : List Lexeme) × Arguments room n xs ts mid × Read room (k xs) (one_less n) v mid m rest
@@ -80,6 +82,7 @@ module _ (told : SymbolsTold) (room : ℕ → Bool) where
       (λ us e f h. let a = says-arguments _ (suc n) v us m rest h in found_at room e (ended room a.3 refl (called f a.2)))
       (λ e h. ended room h refl (named e))
 
+  -- what is read as an operand is spelled so, and as many are open after it as before
   pub says-primary : (x : Lexeme) (n : ℕ) (v : Expression) (us : List Lexeme) (m : ℕ) (rest : List Lexeme) → Fits room x n
       → Begun room (primary x) (opened_after x n) v us m rest → Found room r.Primary n (x ∷ us) v m rest
   unfolding opened

@@ -47,6 +47,7 @@ module _ {S X F : Type 0} (step : S → ℕ → List ℕ → Result (Piece S X) 
   breaks_later s at b bytes p is f (Ok ys) e rest = absurd (cc)
   breaks_later s at b bytes p is f (Err g) e rest = later p is (rest (cc))
 
+  -- bytes that are cut, after so many that are passed over, are pieces that stand for what is given
   pub read_pieces : (n : ℕ) (s : S) (at : ℕ) (bytes : List ℕ) (xs : List X) → cut step n s at bytes ≡ Ok xs → Pieces step s (at + n) (drop n bytes) xs
   read_pieces zero s at [] xs e = let same : [] ≡ xs = cc in subst (λ (zs : List X). Pieces step s (at + 0) [] zs) same none
   read_pieces (suc n) s at [] xs e = let same : [] ≡ xs = cc in subst (λ (zs : List X). Pieces step s (at + suc n) [] zs) same none
@@ -59,6 +60,7 @@ module _ {S X F : Type 0} (step : S → ℕ → List ℕ → Result (Piece S X) 
       by (Ok p) is e rest = with_rest s at b bytes p is xs (cut step p.more p.next (at + 1) bytes) e (rest p)
       by (Err f) is e rest = absurd (cc)
 
+  -- where bytes break that are cut after so many, they break after some pieces, for that reason
   pub read_break : (n : ℕ) (s : S) (at : ℕ) (bytes : List ℕ) (f : F) → cut step n s at bytes ≡ Err f → Breaks step s (at + n) (drop n bytes) f
   read_break zero s at [] f e = absurd (cc)
   read_break (suc n) s at [] f e = absurd (cc)

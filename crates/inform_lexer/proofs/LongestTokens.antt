@@ -121,6 +121,7 @@ digits_within base n bytes within are = run_has (is_digit_in base) n bytes withi
     all [] are = refl
     all (x ∷ xs) are = are
 
+-- where digits of a number stand after a dollar, the piece that is read there takes them all
 dollar_within : (at n : ℕ) (bytes : List ℕ) (p : Piece (Unit {0}) Token) → n ≤ length bytes → are_dollar_digits (take n bytes) ≡ true
     → dollar_here at bytes ≡ Ok p → n ≤ p.more
 dollar_within at zero bytes p within are e = omega arith
@@ -139,6 +140,7 @@ dollar_within at (suc n) (c ∷ bytes) p within are e = by (eqb c 36) are e
         let more : suc n ≤ run = digits_within 16 (suc n) (c ∷ bytes) within are in
         omega (arith, size, more)
 
+-- a text of a number at a piece is no longer than the piece
 number_within : (at b n : ℕ) (bytes : List ℕ) (p : Piece (Unit {0}) Token) → n ≤ length bytes → is_number_text (b ∷ take n bytes) ≡ true
     → token_step tt at (b ∷ bytes) ≡ Ok p → n ≤ p.more
 number_within at b n bytes p within is e = by (eqb b 36) refl is
@@ -198,6 +200,7 @@ quoted_within at b n bytes p within is e =
 
 -- ---- symbols
 
+-- each symbol has one byte to three
 symbol_sizes : (x : Symbol) → (1 ≤ length (symbol_text x)) × (length (symbol_text x) ≤ 3)
 symbol_sizes s.Semicolon = (omega arith, omega arith)
 symbol_sizes s.Comma = (omega arith, omega arith)
@@ -272,6 +275,7 @@ three_size (a ∷ []) x some e = absurd (omega arith)
 three_size (a ∷ b ∷ []) x some e = let same : 2 ≡ length (symbol_text x) = ap length (spelled_text (a ∷ b ∷ []) x e) in omega (arith, same)
 three_size (a ∷ b ∷ c ∷ bytes) x some e = let same : 3 ≡ length (symbol_text x) = ap length (spelled_text (a ∷ b ∷ c ∷ []) x e) in omega (arith, same)
 
+-- where the first bytes are a symbol, the one that is looked up first is at least as long
 first_is_longest : (n : ℕ) (bytes : List ℕ) (x y : Symbol) → n ≤ length bytes → symbol_spelled (take n bytes) ≡ Some x → symbol_first bytes ≡ Some y
     → n ≤ length (symbol_text y)
 first_is_longest zero bytes x y within is e = omega arith
@@ -300,6 +304,7 @@ symbol_more at n (Some y) p long e =
     let size : p.more ≡ length (symbol_text y) - 1 = token_more kind.Symbol at (length (symbol_text y) - 1) p e in
     omega (arith, size, long y refl)
 
+-- a text of a symbol at a piece is no longer than the piece
 symbol_within : (at b n : ℕ) (bytes : List ℕ) (p : Piece (Unit {0}) Token) → n ≤ length bytes → is_some (symbol_spelled (b ∷ take n bytes)) ≡ true
     → token_step tt at (b ∷ bytes) ≡ Ok p → n ≤ p.more
 symbol_within at b n bytes p within is e = by (symbol_spelled (b ∷ take n bytes)) refl is

@@ -21,6 +21,7 @@ use Rattle.inform_lexer.proofs.LongestSymbol.{found_passes}
 
 -- each word of the grammar is reserved, and so no name
 
+-- the text of each is one of the reserved words
 keyword_is_reserved : (keyword : Keyword) → is_reserved (keyword_text keyword) ≡ true
 keyword_is_reserved k.Array = refl
 keyword_is_reserved k.Break = refl
@@ -95,6 +96,7 @@ own_by : (t : Bool) (word : List ℕ) (words : List (List ℕ)) → t ≡ true �
 own_by true word words e = ap (λ same. same || has_size (length word) (map length words)) (eq-eqb (length word) (length word) refl)
 own_by false word words e = absurd (cc)
 
+-- a word that is among others has the length of one of them with its first byte
 among_looks : (word : List ℕ) (words : List (List ℕ)) → list_any (pointwise nat_eq word) words ≡ true
     → has_size (length word) (sizes_among (slice_index word 0) words) ≡ true
 among_looks word [] e = absurd (cc)
@@ -126,6 +128,7 @@ said_looks (b ∷ bs) e =
 
 -- ---- a word of the grammar is spelled in lower case
 
+-- the text of each stays the same where its bytes are turned into lower case
 lower_case : (keyword : Keyword) → word_said (keyword_text keyword) ≡ keyword_text keyword
 lower_case k.Array = refl
 lower_case k.Break = refl

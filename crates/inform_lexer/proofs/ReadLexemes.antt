@@ -247,6 +247,7 @@ symbol_sound : (at b : ℕ) (o : Option Symbol) (bytes : List ℕ) (p : Piece (U
 symbol_sound at b None bytes p e = absurd (cc)
 symbol_sound at b (Some symbol) bytes p e = token_sound kind.Symbol at (length (symbol_text symbol) - 1) b bytes p (any_sign (b ∷ take (length (symbol_text symbol) - 1) bytes)) e
 
+-- whichever test its first byte passes, the token of a piece begins there and says what has a text
 piece_sound : (blank word digit quote apostrophe mark dollar : Bool) (at b : ℕ) (bytes : List ℕ) (p : Piece (Unit {0}) Token) → begins_word b ≡ word
     → cond blank (gap (prefix_len is_blank bytes)) (cond word (word_here at bytes) (cond digit (decimal_here at (b ∷ bytes))
     (cond quote (string_here at bytes) (cond apostrophe (character_here at bytes) (cond mark (gap (prefix_len is_comment_byte bytes))
@@ -279,6 +280,7 @@ located whole at (t ∷ tokens) all =
     and_from (is_read (lexeme_at whole t)) _ (subst (λ (n : ℕ). is_read (lexeme_of t.kind (take (t.end - t.start) (drop n whole))) ≡ true) there here.1)
     (located whole at tokens parts.1)
 
+-- each token of the pieces of a text says a lexeme that has a text
 pieces_sound : (known : Unit {0}) (at : ℕ) (bytes : List ℕ) (tokens : List Token) → Pieces token_step known at bytes tokens
     → (whole : List ℕ) → drop at whole ≡ bytes → list_all (λ t. is_read (lexeme_at whole t)) tokens ≡ true
 pieces_sound known at _ _ none whole there = refl

@@ -17,6 +17,7 @@ begins_within bytes from to within =
       | inr inside ↦ let same : min to (length bytes) ≡ to = omega arith in ap (λ (n : ℕ). take (n - from) (drop from bytes)) same
     ]
 
+-- a span that begins after the end of the text has no bytes, and none when it is brought within it
 begins_past : (bytes : List ℕ) (from to end : ℕ) → end ≡ min to (length bytes) → end < from → take (end - end) (drop end bytes) ≡ take (to - from) (drop from bytes)
 begins_past bytes from to end is past =
     let none : end - end ≡ 0 = omega arith in
@@ -30,6 +31,7 @@ begins_past bytes from to end is past =
           nothing ∙ sym (ap (λ (n : ℕ). take n (drop from bytes)) zero_bytes)
     ]
 
+-- a span has the same bytes when its end is brought within the text, and its start before that end
 pub within_text : (bytes : List ℕ) (from to start end : ℕ) → end ≡ min to (length bytes) → start ≡ min from end
     → take (end - start) (drop start bytes) ≡ take (to - from) (drop from bytes)
 within_text bytes from to start end ends starts =

@@ -72,6 +72,7 @@ name_step at b bytes rest begins all short =
     ∙ ap (λ (n : ℕ). cond (ltb n NAME_LIMIT) (token kind.Word at n) (Err (LongName at))) size
     ∙ ap (λ (t : Bool). cond t (token kind.Word at (length bytes)) (Err (LongName at))) short
 
+-- bytes that may be a name, short enough and not reserved, say that name
 name_says : (b : ℕ) (bytes : List ℕ) → begins_name b ≡ true → list_all is_name_byte bytes ≡ true → ltb (length bytes) NAME_LIMIT ≡ true
     → is_reserved (b ∷ bytes) ≡ false → lexeme_of kind.Word (b ∷ bytes) ≡ Name (b ∷ bytes)
 unfolding word_lexeme
@@ -86,6 +87,7 @@ name_says b bytes begins all short free =
     short_enough : (bytes : List ℕ) → ltb (length bytes) NAME_LIMIT ≡ true → leb (suc (length bytes)) NAME_LIMIT ≡ true
     short_enough bytes short = le-leb (suc (length bytes)) NAME_LIMIT (omega (arith, ltb-true (length bytes) NAME_LIMIT short))
 
+-- a written name is taken whole, and says itself
 name_stands : (name : List ℕ) → is_name_text name ≡ true → Stands (Name name)
 unfolding written
 name_stands [] is = absurd (cc)
@@ -110,6 +112,7 @@ digit_first b is = (grind (arith, nat_tests), grind (arith, nat_tests), grind (a
 abbrev number_dollars : List ℕ → Option ℕ
 number_dollars bytes = cond (eqb (slice_index bytes 0) 36) (number_in 2 (drop 1 bytes)) (number_in 16 bytes)
 
+-- a number in decimal digits is taken whole, and says itself
 number_stands_as : (n : ℕ) (ds : List ℕ) → decimal n ≡ ds → is_number n ≡ true → list_all (is_digit_in 10) ds ≡ true → 1 ≤ length ds
     → digits_value 10 ds ≡ n → Stands (Number n)
 unfolding written
@@ -155,6 +158,7 @@ character_stands byte is = record {
   says = refl;
 }
 
+-- what is written of a string, between its quotes and before a blank, is one token
 string_step_of : (at : ℕ) (w text rest : List ℕ) → list_all is_inside w ≡ true → inside_said w ≡ Ok text
     → token_step tt at (34 ∷ ((w ++ 34 ∷ []) ++ 32 ∷ rest)) ≡ token kind.Quoted at (length (w ++ 34 ∷ []))
 string_step_of at w text rest all said =
@@ -176,6 +180,7 @@ string_says w text said =
     ∙ ap (λ (xs : List ℕ). Quoted (or_nothing (inside_said xs))) (take_at w (34 ∷ []) (length w) refl)
     ∙ ap (λ (r : Result (List ℕ) ℕ). Quoted (or_nothing r)) said
 
+-- a written string is taken whole, and says itself
 string_stands : (text : List ℕ) → is_text text ≡ true → Stands (Quoted text)
 unfolding written inside_said
 string_stands text is =
@@ -217,6 +222,7 @@ gap_step x at rest stops =
 abbrev token_of : Lexeme → ℕ → ℕ → Token
 token_of x at more = record { kind = kind_of x; start = at; end = at + 1 + more }
 
+-- a written lexeme and the gap after it are pieces, and its token comes before those of the rest
 pieces_of : (x : Lexeme) (st : Stands x) (at : ℕ) (rest : List ℕ) (ts : List Token) → prefix_len is_blank rest ≡ 0
     → Pieces token_step tt (at + 1 + length st.tail + 1 + 0) rest ts
     → Pieces token_step tt at (st.head ∷ (st.tail ++ gap_after x ∷ rest)) (token_of x at (length st.tail) ∷ ts)
@@ -257,6 +263,7 @@ rest_is whole x st at rest is =
     ∙ ap (λ (bytes : List ℕ). drop (length front_part) bytes) (is ∙ sym (append_assoc (st.head ∷ st.tail) (gap_after x ∷ []) rest))
     ∙ drop_at front_part rest (length front_part) refl
 
+-- the text of lexemes that can be written has tokens that say them, wherever it ends a whole text
 read_list : (xs : List Lexeme) → list_all is_writable xs ≡ true → (whole : List ℕ) (at : ℕ) → drop at whole ≡ text_of xs
     → (tokens : List Token) × Pieces token_step tt at (text_of xs) tokens × (map (lexeme_at whole) tokens ≡ xs)
 unfolding text_of

@@ -138,6 +138,7 @@ step_is : (c : Bool) (at b : ℕ) (bytes : List ℕ)
 unfolding string_step
 step_is c at b bytes = refl
 
+-- a plain byte in a string says itself, with no byte more
 pub plain_step : (c : Bool) (at b : ℕ) (bytes : List ℕ) → is_plain b ≡ true → string_step c at (b ∷ bytes) ≡ says 1 b 0
 plain_step c at b bytes plain =
     let blank : is_blank b ≡ false = grind (arith, nat_tests) in
@@ -156,6 +157,7 @@ abbrev escape_by : ℕ → List ℕ → ℕ → StringStep
 escape_by at bytes size =
     cond (leb 1 size && is_byte (digits_value 10 (take size bytes))) (says 1 (digits_value 10 (take size bytes)) (1 + size)) (Err at)
 
+-- the escape of a byte in decimal digits says that byte, where no other digit follows
 escape_step : (c : Bool) (at b : ℕ) (rest : List ℕ) → is_byte b ≡ true → prefix_len (is_digit_in 10) rest ≡ 0
     → string_step c at (64 ∷ 64 ∷ (decimal b ++ rest)) ≡ says 1 b (1 + length (decimal b))
 escape_step c at b rest byte stops =
@@ -240,6 +242,7 @@ shown_reads b plain text shown unbroken reads c at =
           (read_space c at plain unbroken ∙ then_text 32 text plain false (at + 1) reads)
     ]
 
+-- however the first byte of a text is written, it reads as itself, and what follows as the rest
 chain_reads : (ten quote shown : Bool) (b : ℕ) (plain escaped text : List ℕ) → is_byte b ≡ true
     → eqb b 10 ≡ ten → eqb b 34 ≡ quote → (shown ≡ true → (is_plain b || eqb b 32) ≡ true)
     → list_any is_break plain ≡ false → prefix_len (is_digit_in 10) escaped ≡ 0

@@ -35,6 +35,7 @@ pub record Stands (x : Lexeme) : Type 0 where
 
 -- ---- symbols
 
+-- each written symbol is taken whole, and says itself
 pub sign_stands : (symbol : Symbol) → Stands (Sign symbol)
 unfolding written token_step symbol_spelled
 sign_stands s.Semicolon = record { head = 59; tail = []; same = refl; blank = refl; step = λ at rest. refl; says = refl }
@@ -68,6 +69,7 @@ sign_stands s.Decrement = record { head = 45; tail = 45 ∷ []; same = refl; bla
 
 -- ---- words of the grammar
 
+-- each written word of the grammar is taken whole, and says itself
 pub word_stands : (keyword : Keyword) → Stands (Word keyword)
 unfolding written token_step keyword_spelled word_lexeme
 word_stands k.Array = record { head = 65; tail = 114 ∷ 114 ∷ 97 ∷ 121 ∷ []; same = refl; blank = refl; step = λ at rest. refl; says = refl }

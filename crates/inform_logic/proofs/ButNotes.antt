@@ -54,6 +54,7 @@ when-alike false h k = k
 -- ---- what frames do
 
 module _ (f : Frame) where
+  -- a frame that goes on after a normal outcome does the same but for notes, if what follows does
   pub on_normal-alike : {m m' : Meaning} → Alike m m' → (e : Outcome)
       → Alike (on_normal f m e) (on_normal f m' e)
   unfolding on_normal
@@ -66,6 +67,7 @@ module _ (f : Frame) where
   on_normal-alike h (Halts halt) = stays
   on_normal-alike h (Waits lack fs) = stays
 
+  -- a frame that goes on with a value does the same but for notes, if what follows does
   pub on_value-alike : {k k' : ℤ → Meaning} → ((v : ℤ) → Alike (k v) (k' v)) → (e : Outcome)
       → Alike (on_value f k e) (on_value f k' e)
   unfolding on_value
@@ -78,6 +80,7 @@ module _ (f : Frame) where
   on_value-alike h (Halts halt) = stays
   on_value-alike h (Waits lack fs) = stays
 
+  -- a frame that goes on with a truth value does the same but for notes, if what follows does
   pub on_truth-alike : {k k' : Bool → Meaning} → ((b : Bool) → Alike (k b) (k' b)) → (e : Outcome)
       → Alike (on_truth f k e) (on_truth f k' e)
   unfolding on_truth
@@ -90,6 +93,7 @@ module _ (f : Frame) where
   on_truth-alike h (Halts halt) = stays
   on_truth-alike h (Waits lack fs) = stays
 
+  -- a frame that goes on after the body of a loop does the same but for notes, if what follows does
   pub on_body-alike : {m m' : Meaning} → Alike m m' → (e : Outcome)
       → Alike (on_body f m e) (on_body f m' e)
   unfolding on_body

@@ -28,6 +28,7 @@ module _ (p : Program) (d r : ℕ) (w : Stage) (places : List ℕ) (small : leng
   Counts i n all most = Loops p d (carried_loop (length places)) (counting r i n) w Normal
       (counting r (length places) all) w most
 
+  -- from an item on, the loop adds the items that are held to the count so far
   loop : (rest : List ℕ) (i n : ℕ) → drop i places ≡ rest → i + length rest ≡ length places
       → n ≤ i → Counts i n (more n rest) (3 * length rest + 1)
   loop [] i n left all few = subst (λ i. Counts i n n 1) done

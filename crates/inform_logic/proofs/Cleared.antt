@@ -23,6 +23,7 @@ module _ (p : Program) (d r : ℕ) (w : Stage) (flags : List ℕ) (small : lengt
   abbrev Finds : ℕ → ℕ → ℕ → Type 0
   Finds i m most = Loops p d clear_loop (at_flag r i) w Normal (at_flag r m) w most
 
+  -- from a flag on, the loop is left at the first flag that is clear
   loop : (rest : List ℕ) (i m : ℕ) → drop i flags ≡ rest → i + length rest ≡ length flags
       → set_flags rest < length rest → i + set_flags rest ≡ m
       → Finds i m (3 * set_flags rest + 3)

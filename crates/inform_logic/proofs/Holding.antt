@@ -105,6 +105,7 @@ module _ (law : MeaningsAreFirst) (width : Width) (ds : List DirectiveTree) (dis
     by None h = cc
     by (Some m) h = ap (λ o. slice_get ds (unwrap_or o 0)) h
 
+-- where no two directives have one name, the program holds each routine of its directives
 held_by : (law : MeaningsAreFirst) (width : Width) (ds : List DirectiveTree)
     (notes : List ℕ → ℕ → Option ℕ) → Distinct ds → (at : ℕ) (x : DirectiveTree)
     → slice_get ds at ≡ Some x → Held (program_in width ds notes) x
@@ -123,6 +124,7 @@ pub program_holds : MeaningsAreFirst → ProgramHolds
 program_holds law width ds notes distinct = all_from (Held (program_in width ds notes)) ds
     (held_by law width ds notes distinct) ds 0 refl
 
+-- where no two directives have one name, each global and each array opens with its first values
 opened_by : (law : MeaningsAreFirst) (width : Width) (ds : List DirectiveTree)
     (lines : List (List ℕ)) (draws : List ℕ) → Distinct ds → (at : ℕ) (x : DirectiveTree)
     → slice_get ds at ≡ Some x

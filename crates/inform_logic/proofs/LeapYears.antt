@@ -40,6 +40,7 @@ module _ (p : Program) (d : ℕ) (w : Stage) (y : ℕ) (has : Has p is_leap) whe
   common : Holds leap_test false → Gives 0
   common test = routine has (next (if_false test end) (returns return_false)) by_return
 
+  -- what the routine gives, by whether 4, 100 and 400 divide the year
   by : (a b c : Bool) → nat_eq (y % 4) 0 ≡ a → nat_eq (y % 100) 0 ≡ b → nat_eq (y % 400) 0 ≡ c
       → Gives (if (a && not b) || c then 1 else 0)
   by true false c h4 h100 h400 = leap (any_of (this_holds (all_of (one_holds

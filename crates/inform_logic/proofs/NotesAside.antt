@@ -204,6 +204,7 @@ noted-alike (Some number) xs ys h = filter_map-append event_of xs (Noted number 
     ∙ append-nil (trace_of xs) ∙ h
 
 module _ (p : Program) (g : List ℕ → ℕ → Option ℕ) where
+  -- a routine that is entered does the same but for notes, if the calls in its body do
   enter-alike : (call call' : Calls) → AlikeCalls call call' → (name : List ℕ)
       (o : Option Routine) (values : List ℤ)
       → Alike (enter p call name o values) (enter (record p { notes = g }) call' name o values)

@@ -23,6 +23,7 @@ module _ (p : Program) (d r n : ℕ) (small : n < 32768) where
   abbrev Says : ℕ → Stage → Stage → ℕ → Type 0
   Says i w w' most = Loops p d numbers_loop (at_number r n i) w Normal (at_number r n n) w' most
 
+  -- from a number on, the loop says each number that is left
   loop : (count i : ℕ) (w : Stage) → i + count ≡ n
       → Says i w (said (numbers_text i count) w) (2 * count + 1)
   loop zero i w all =

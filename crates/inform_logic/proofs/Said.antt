@@ -9,11 +9,13 @@ use Rattle.inform_logic.proofs.Printing.{print_nothing, print_text, print_number
 use Rattle.inform_logic.proofs.Statements.{end, next, print, switch, this_case, later_case, default}
 use Rattle.inform_logic.proofs.Routines.{routine}
 
+-- the routine says nowhere of place 0, the room of a place up to 9, and that any other is held
 pub place_is_said : PlaceIsSaid
 place_is_said p d w n has = by (nat_eq n 0) (nat_le n 9) refl refl where
   within : (few : Bool) → nat_eq n 0 ≡ false → nat_le n 9 ≡ few → nat_le 1 n && nat_le n 9 ≡ few
   within few is h = grind (arith, is, h)
 
+  -- what is said, by whether the place is 0 and whether it is at most 9
   by : (zero few : Bool) → nat_eq n 0 ≡ zero → nat_le n 9 ≡ few → Does p (suc d) (codes "say_place")
       (pos n ∷ []) w (pos 1)
       (said (if zero then codes "nowhere" else

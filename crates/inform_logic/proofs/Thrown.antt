@@ -34,6 +34,7 @@ module _ (p : Program) (d r : ℕ) where
   Throws draws t w w' most = Loops p d (do_loop throw all_thrown) (throwing r (length draws) t) w
       Normal (throwing r 0 (thrown t draws)) w' most
 
+  -- from a sum on, the loop adds a die for each that is left, and takes a draw for each
   loop : (draws rest : List ℕ) (w : Stage) (t : ℕ) → t + 6 * length draws < 32768
       → w.draws ≡ draws ++ rest
       → Throws draws t w (after_draws draws rest w) (3 * length draws + 1)
@@ -51,6 +52,7 @@ module _ (p : Program) (d r : ℕ) where
       (loop draws rest (after_draws (draw ∷ []) (draws ++ rest) w) (t + ((draw - 1) % 6 + 1))
       (omega (arith, small, mod-lt)) refl)))
 
+-- the routine gives the sum of as many dice as it is asked for, one draw for each
 pub dice_are_added : DiceAreAdded
 dice_are_added p d w draw draws rest small has there =
     subst (λ past. Does p (suc d) (codes "throws") (pos (length (draw ∷ draws)) ∷ []) w

@@ -61,6 +61,7 @@ module _ (f : Frame) where
   on_normal-going m h (Halts halt) = stays
   on_normal-going m h (Waits lack fs) = stays
 
+  -- a frame that goes on with a value adds to the past and uses what is left, if what follows does
   pub on_value-going : (k : ℤ → Meaning) → ((v : ℤ) → Going (k v)) → (e : Outcome)
       → Going (on_value f k e)
   unfolding on_value
@@ -73,6 +74,7 @@ module _ (f : Frame) where
   on_value-going k h (Halts halt) = stays
   on_value-going k h (Waits lack fs) = stays
 
+  -- a frame that goes on with a truth adds to the past and uses what is left, if what follows does
   pub on_truth-going : (k : Bool → Meaning) → ((b : Bool) → Going (k b)) → (e : Outcome)
       → Going (on_truth f k e)
   unfolding on_truth

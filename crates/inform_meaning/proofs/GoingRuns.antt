@@ -60,6 +60,7 @@ module _ (p : Program) (call : Calls) (hc : GoingCalls call) where
   turns_of-going l = loop-going l _ _ _ (test_if_any-going p call hc l.test)
       (exec_all-going p call hc l.body) (alter_if_any-going p call hc l.change)
 
+  -- whatever begins adds to the past and uses what is left
   start-going : (b : Begin) → Going (start p call b)
   start-going (f.Evals x) = eval-going p call hc x
   start-going (f.CallDue name values) =
@@ -73,6 +74,7 @@ module _ (p : Program) (call : Calls) (hc : GoingCalls call) where
   start-going (f.LineDue name) = take_line-going name
   start-going (f.TurnDue l) = turns_of-going l
 
+  -- what a frame does with the value that it wants adds to the past and uses what is left
   use_value-going : (w : Want) (a : ℤ) → Going (use_value p call w a)
   use_value-going (f.IndexOf name) a = fetch-going name a
   use_value-going (f.Args name values xs) a =

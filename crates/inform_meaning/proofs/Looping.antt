@@ -22,6 +22,7 @@ module _ (b : ℕ) where
   when-same true m m' n h = h
   when-same false m m' n h = λ c few. refl
 
+  -- with so few steps left, a frame goes on the same after a normal outcome, if what follows does
   on_normal-same : (x : Frame) (m m' : Meaning) → Same b m m' → (e : Outcome)
       → Same b (on_normal x m e) (on_normal x m' e)
   unfolding on_normal
@@ -34,6 +35,7 @@ module _ (b : ℕ) where
   on_normal-same x m m' h (Halts halt) = λ c few. refl
   on_normal-same x m m' h (Waits lack fs) = λ c few. refl
 
+  -- with so few steps left, a frame goes on the same after a loop's body, if what follows does
   on_body-same : (x : Frame) (m m' : Meaning) → Same b m m' → (e : Outcome)
       → Same b (on_body x m e) (on_body x m' e)
   unfolding on_body
@@ -46,6 +48,7 @@ module _ (b : ℕ) where
   on_body-same x m m' h (Halts halt) = λ c few. refl
   on_body-same x m m' h (Waits lack fs) = λ c few. refl
 
+  -- with so few steps left, a frame goes on the same with a truth value, if what follows does
   on_truth-same : (x : Frame) (k k' : Bool → Meaning) → ((a : Bool) → Same b (k a) (k' a))
       → (e : Outcome) → Same b (on_truth x k e) (on_truth x k' e)
   unfolding on_truth

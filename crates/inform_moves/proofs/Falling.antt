@@ -50,6 +50,7 @@ block-positive : (xs : Statements) → 0 < block_work xs
 block-positive s.NoStatements = omega arith
 block-positive (s.MoreStatements x xs) = omega arith
 
+-- whatever begins has some work
 begin-positive : (x : Begin) → 0 < begin_work x
 begin-positive (f.Evals x) = expression-positive x
 begin-positive (f.CallDue name values) = omega arith
@@ -62,6 +63,7 @@ begin-positive (f.Prints xs) = omega arith
 begin-positive (f.LineDue name) = omega arith
 begin-positive (f.TurnDue l) = omega arith
 
+-- whatever wants a value has some work
 want-positive : (w : Want) → 0 < want_work w
 want-positive (f.IndexOf name) = omega arith
 want-positive (f.Args name values xs) = omega arith
@@ -129,6 +131,7 @@ factor-falls : (p : Program) (w : World) (o : Option ℤ) (xs : Factors)
 factor-falls p w None xs = omega arith
 factor-falls p w (Some a) xs = product-falls p w a xs
 
+-- the parts of an expression have less work than the expression
 value_parts-fall : (p : Program) (w : World) (x : Expression)
     → Falls (expression_work x) (value_parts p w x)
 value_parts-fall p w (v.Number n) = omega arith
@@ -254,6 +257,7 @@ read-falls : (w : World) (name : List ℕ) (b : Bool) → Falls 1 (read_move w n
 read-falls w name true = tt
 read-falls w name false = tt
 
+-- the move of a statement leaves no work, unless it takes a step
 statement-falls : (p : Program) (w : World) (x : Statement) → Falls 1 (statement_move p w x)
 statement-falls p w s.Empty = tt
 statement-falls p w (s.Block body) = tt
@@ -275,6 +279,7 @@ statement-falls p w s.NewLine = tt
 statement-falls p w (s.Print xs) = tt
 statement-falls p w (s.Read line words) = read-falls w line (has_room (entries_of line w))
 
+-- the move of what begins leaves less work, unless it takes a step
 begin-falls : (p : Program) (n : ℕ) (w : World) (x : Begin)
     → Falls (begin_work x) (begin_move p n w x)
 begin-falls p n w (f.Evals x) = eval-falls p w x
@@ -288,6 +293,7 @@ begin-falls p n w (f.Prints xs) = prints-fall p w xs
 begin-falls p n w (f.LineDue name) = omega arith
 begin-falls p n w (f.TurnDue l) = turn-falls p w l l.test
 
+-- the move of what gets the value that it wants leaves less work, unless it takes a step
 value-falls : (p : Program) (w : World) (x : Want) (a : ℤ)
     → Falls (want_work x) (value_move p w x a)
 value-falls p w (f.IndexOf name) a = entry-falls w (entry_at (entries_of name w) a)
@@ -326,6 +332,7 @@ truth-falls (f.Branches body other) true = omega arith
 truth-falls (f.Branches body other) false = omega arith
 truth-falls (f.Testing l) b = tested-falls l (loop_goes_on l b)
 
+-- the move of any frame leaves less work than the frame has, unless it takes a step
 pub next-falls : (p : Program) (n : ℕ) (w : World) (x : Frame) (e : Outcome)
     → Falls (work x) (next p n w x e)
 next-falls p n w (Begins x) (Value a) = begin-positive x

@@ -57,6 +57,7 @@ factor-keeps : (p : Program) (w : World) (o : Option ℤ) (xs : Factors)
 factor-keeps p w None xs = tt
 factor-keeps p w (Some a) xs = product-keeps p w a xs
 
+-- the frames of the parts of an expression keep within its depth
 value_parts-keep : (p : Program) (w : World) (x : Expression)
     → Keeping (expression_depth x) (value_parts p w x)
 value_parts-keep p w (v.Number n) = tt
@@ -187,6 +188,7 @@ picked-keeps : (most : ℕ) (body other : Statements) → 2 * statements_depth b
 picked-keeps most body other h k true = (omega (arith, h), tt, tt)
 picked-keeps most body other h k false = (omega (arith, k), tt, tt)
 
+-- the frames of a statement keep within twice its depth
 pub statement-keeps : (p : Program) (w : World) (x : Statement)
     → Keeping (2 * statement_depth x) (statement_move p w x)
 statement-keeps p w s.Empty = tt
@@ -215,6 +217,7 @@ statement-keeps p w s.NewLine = tt
 statement-keeps p w (s.Print xs) = (omega arith, tt, tt)
 statement-keeps p w (s.Read line words) = read-keeps w line (has_room (entries_of line w))
 
+-- the frames of what gets the value that it wants keep within its height
 value-keeps : (p : Program) (w : World) (x : Want) (a : ℤ)
     → Keeping (want_height x) (value_move p w x a)
 value-keeps p w (f.IndexOf name) a = entry-keeps w (entry_at (entries_of name w) a)
@@ -254,6 +257,7 @@ abbrev pub IsNoCall : Frame → Type 0
 IsNoCall (Begins (f.CallDue name values)) = ⊥
 IsNoCall x = ⊤
 
+-- the frames of what begins, and is no call, keep within its height
 begin-keeps : (p : Program) (n : ℕ) (w : World) (x : Begin) → IsNoCall (Begins x)
     → Keeping (begin_height x) (begin_move p n w x)
 begin-keeps p n w (f.Evals x) h = eval-keeps p w x
@@ -381,6 +385,7 @@ data Kind : Frame → Outcome → Type 0 where
   other : {x : Frame} {e : Outcome}
       → ((p : Program) (n : ℕ) (w : World) → Keeping (height x) (next p n w x e)) → Kind x e
 
+-- each frame is a call that is due and gets its outcome, or its moves keep within its height
 kind : (x : Frame) (e : Outcome) → Kind x e
 kind (Begins (f.CallDue name values)) Normal = call
 kind (Begins (f.CallDue name values)) (Value a) = other (λ p n w. tt)
@@ -439,6 +444,7 @@ condition-high (d.All xs) = omega arith
 condition-high (d.Any xs) = omega arith
 condition-high (d.Not x) = omega arith
 
+-- each statement has a depth of 1 at least
 statement-high : (x : Statement) → 1 ≤ statement_depth x
 statement-high s.Empty = omega arith
 statement-high (s.Block body) = omega arith
@@ -459,6 +465,7 @@ statement-high s.NewLine = omega arith
 statement-high (s.Print xs) = omega arith
 statement-high (s.Read line words) = omega arith
 
+-- whatever begins has a height of 1 at least
 begin-high : (x : Begin) → 1 ≤ begin_height x
 begin-high (f.Evals x) = expression-high x
 begin-high (f.CallDue name values) = omega arith
@@ -471,6 +478,7 @@ begin-high (f.Prints xs) = omega arith
 begin-high (f.LineDue name) = omega arith
 begin-high (f.TurnDue l) = omega arith
 
+-- whatever wants a value has a height of 1 at least
 want-high : (w : Want) → 1 ≤ want_height w
 want-high (f.IndexOf name) = omega arith
 want-high (f.Args name values xs) = omega arith

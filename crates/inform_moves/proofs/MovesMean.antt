@@ -100,6 +100,7 @@ module _ (p : Program) (n : ℕ) (y : Frame) where
   factor-means None xs c = refl
   factor-means (Some a) xs c = product-means a xs c
 
+  -- the move to the parts of an expression means what the expression does
   value_parts-mean : (x : Expression) (c : Config)
       → Means (value_parts p c.world x) (eval p (call_at p n) x) c
   unfolding opened
@@ -210,6 +211,7 @@ module _ (p : Program) (n : ℕ) (y : Frame) where
   default-means s.NoDefault c = refl
   default-means (s.SomeDefault body) c = refl
 
+  -- the move to the case that a value picks, or to the default, means what the cases do with it
   cases-mean : (a : ℤ) (xs : Cases) (rest : Default) (c : Config)
       → Means (cases_move p a xs rest) (exec_cases p (call_at p n) a xs (exec_default p (call_at p n) rest)) c
   unfolding opened
@@ -233,6 +235,7 @@ module _ (p : Program) (n : ℕ) (y : Frame) where
     by true = refl
     by false = refl
 
+  -- the move of what gets the value that it wants means what it does with the value
   value-means : (w : Want) (a : ℤ) (c : Config)
       → Means (value_move p c.world w a) (use_value p (call_at p n) w a) c
   unfolding opened
@@ -263,6 +266,7 @@ module _ (p : Program) (n : ℕ) (y : Frame) where
   change-means l None c = refl
   change-means l (Some x) c = refl
 
+  -- the move of what decides by a truth value means what it does with that
   truth-means : (x : Decide) (b : Bool) (c : Config)
       → Means (truth_move x b) (use_truth p (call_at p n) x b) c
   unfolding opened
@@ -312,6 +316,7 @@ module _ (p : Program) (n : ℕ) where
   ticked-means y m (Reads name) c g h = absurd cc
   ticked-means y m (Draws k) c g h = absurd cc
 
+  -- the move by which a call enters its routine means what the call does
   enter-means : (name : List ℕ) (o : Option Routine) (values : List ℤ) (c : Config)
       → tick (Begins (f.CallDue name values)) (enter p (call_at p n) name o values) c
       ≡ move_done p (suc n) (Begins (f.CallDue name values)) (enter_move p c.world name o values) c
@@ -341,6 +346,7 @@ call-means p zero name values c = by c.steps where
 call-means p (suc n) name values c = enter-means p n name (p.routines name) values c
 
 module _ (p : Program) (n : ℕ) where
+  -- the move to the next turn of a loop means what the loop does from there
   turn-means : (l : Loop) (c : Config)
       → turns_of p (call_at p n) l c ≡ move_done p n (Begins (f.TurnDue l)) (turn_move p c.world l l.test) c
   unfolding opened
@@ -391,6 +397,7 @@ module _ (p : Program) (n : ℕ) where
     by None d = call_parts-mean name xs y c
     by (Some all) d = ap (λ r. on_value (Wants f.Forgets) (λ a. gives Normal) r.0 r.1) d
 
+  -- the move of a statement means what the statement does
   statement-means : (x : Statement) (c : Config)
       → exec p (call_at p n) x c ≡ move_done p n (Begins (f.Due x)) (statement_move p c.world x) c
   unfolding opened
@@ -431,6 +438,7 @@ module _ (p : Program) (n : ℕ) where
 
   -- ---- any frame
 
+  -- the move of what begins means what it does from its start
   begin-means : (x : Begin) (c : Config)
       → start p (call_at p n) x c ≡ move_done p n (Begins x) (begin_move p n c.world x) c
   begin-means (f.Evals x) c = eval-means p n _ x c
@@ -444,6 +452,7 @@ module _ (p : Program) (n : ℕ) where
   begin-means (f.LineDue name) c = refl
   begin-means (f.TurnDue l) c = turn-means l c
 
+  -- the move of any frame means what the frame does with the outcome that is handed to it
   pub frame-means : (x : Frame) (e : Outcome) → Settled e → (c : Config)
       → hand p (call_at p n) x e c ≡ move_done p n x (next p n c.world x e) c
   unfolding opened

@@ -54,6 +54,7 @@ factor-quiet : (p : Program) (w : World) (o : Option ℤ) (xs : Factors)
 factor-quiet p w None xs = refl
 factor-quiet p w (Some a) xs = product-quiet p w a xs
 
+-- the move to the parts of an expression needs nothing
 value_parts-quiet : (p : Program) (w : World) (x : Expression)
     → Quiet (value_parts p w x)
 value_parts-quiet p w (v.Number n) = refl
@@ -196,6 +197,7 @@ switch-quiet p w x xs rest =
 pub return-quiet : (p : Program) (w : World) (x : Expression) → Quiet (return_move p w x)
 return-quiet p w x = at_once-all Quiet (immediate_value p w x) _ _ (λ a. refl) refl
 
+-- the move of a statement needs a step
 statement-steps : (p : Program) (w : World) (x : Statement) → need_in (statement_move p w x) ≡ AStep
 statement-steps p w s.Empty = refl
 statement-steps p w (s.Block body) = refl
@@ -220,6 +222,7 @@ statement-steps p w s.NewLine = refl
 statement-steps p w (s.Print xs) = refl
 statement-steps p w (s.Read line words) = read-steps w line (has_room (entries_of line w))
 
+-- the move of what gets the value that it wants needs nothing
 value-quiet : (p : Program) (w : World) (x : Want) (a : ℤ)
     → Quiet (value_move p w x a)
 value-quiet p w (f.IndexOf name) a = entry-quiet w (entry_at (entries_of name w) a)
@@ -254,6 +257,7 @@ truth-quiet (f.Branches body other) true = refl
 truth-quiet (f.Branches body other) false = refl
 truth-quiet (f.Testing l) b = tested-quiet l (loop_goes_on l b)
 
+-- the move of what begins needs what is told by what begins
 begin-needs : (p : Program) (n : ℕ) (w : World) (x : Begin)
     → need_in (begin_move p n w x) ≡ begin_need x
 begin-needs p n w (f.Evals x) = eval-quiet p w x
@@ -267,6 +271,7 @@ begin-needs p n w (f.Prints xs) = prints-quiet p w xs
 begin-needs p n w (f.LineDue name) = refl
 begin-needs p n w (f.TurnDue l) = turn-steps p w l l.test
 
+-- the move of any frame needs what is told by the frame and by what is handed to it
 pub moves_need : MovesNeed
 moves_need p n w (Begins x) (Value a) = refl
 moves_need p n w (Begins x) (Truth b) = refl

@@ -200,6 +200,7 @@ module _ (w : World) where
   call_parts-ready name v.NoArguments = (tt, (tt, tt))
   call_parts-ready name (v.MoreArguments x xs) = (tt, (tt, (tt, tt)))
 
+  -- after the move of a statement a line is due only where its buffer has room
   statement-ready : (p : Program) (x : Statement) → ReadyAfter w (statement_move p w x)
   statement-ready p s.Empty = tt
   statement-ready p (s.Block body) = (tt, tt)
@@ -226,6 +227,7 @@ module _ (w : World) where
   statement-ready p (s.Print xs) = (tt, tt)
   statement-ready p (s.Read line words) = read-ready line (has_room (entries_of line w)) refl
 
+  -- after the move of what gets the value that it wants no line is due without room
   value-ready : (p : Program) (x : Want) (a : ℤ)
       → ReadyAfter w (value_move p w x a)
   value-ready p (f.IndexOf name) a = entry-ready (entry_at (entries_of name w) a)
@@ -260,6 +262,7 @@ module _ (w : World) where
   truth-ready (f.Branches body other) false = (tt, tt)
   truth-ready (f.Testing l) b = tested-ready l (loop_goes_on l b)
 
+  -- after the move of what begins a line is due only where its buffer has room
   begin-ready : (p : Program) (n : ℕ) (x : Begin) → ReadyAfter w (begin_move p n w x)
   begin-ready p n (f.Evals x) = eval-ready p x
   begin-ready p n (f.CallDue name values) = call-ready p n name values
@@ -272,6 +275,7 @@ module _ (w : World) where
   begin-ready p n (f.LineDue name) = tt
   begin-ready p n (f.TurnDue l) = turn-ready p l l.test
 
+  -- after the move of any frame a line is due only where its buffer has room
   next-ready : (p : Program) (n : ℕ) (x : Frame) (e : Outcome) → ReadyAfter w (next p n w x e)
   next-ready p n (Begins x) (Value a) = tt
   next-ready p n (Begins x) (Truth b) = tt

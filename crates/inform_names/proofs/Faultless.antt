@@ -70,6 +70,7 @@ constant_kind (k.Routine locals) e = absurd (cc)
 
 -- ---- directives
 
+-- where a list of directives has no fault, none of them has one at its place in it
 faultless_from : (width : Width) (known : Known) (directives : List DirectiveTree) (at total i : ℕ)
     (directive : DirectiveTree)
     → directives_fault width known at total directives ≡ None
@@ -106,6 +107,7 @@ all_faultless width program none = first_is_none
     (directives_fault width (meanings width program) 0 0 program)
     (main_fault (meanings width program)) none
 
+-- in a program without a fault, no directive has one at its place
 pub faultless : (width : Width) (program : List DirectiveTree) (at : ℕ) (directive : DirectiveTree)
     → name_fault width program ≡ None → slice_get program at ≡ Some directive
     → directive_fault width (meanings width program) at
@@ -149,6 +151,7 @@ name_is_new width program at directive none e =
     ∙ none_there (earlier at (meanings width program (name_of directive)))
     (not_wrong (is_some (earlier at (meanings width program (name_of directive)))) _ once)
 
+-- a name that no directive before it has means that directive, whatever comes after it
 means_itself_from : (width : Width) (directives : List DirectiveTree) (known : Known) (at i : ℕ)
     (directive : DirectiveTree)
     → slice_get directives i ≡ Some directive
@@ -217,6 +220,7 @@ value_word width program at name (c.Name other) worded fine =
     named_word width program at other worded fine
 value_word width program at name (c.Minus n) worded fine = refl
 
+-- a constant without a fault has a value, if those before it have one
 directive_word : (width : Width) (program : List DirectiveTree) (at : ℕ)
     (directive : DirectiveTree) (value : Option ℤ) → Worded width program at
     → inner_fault width (meanings width program) at
@@ -290,6 +294,7 @@ variables_known scope name e is =
 
 -- ---- constants in their places, and lengths
 
+-- a name that may stand for a constant has a value, in a program without a fault
 pub fine_name : (width : Width) (program : List DirectiveTree) (known : Known) (name : List ℕ)
     → name_fault width program ≡ None → known ≡ meanings width program
     → kind_fault is_constant name (known name) ≡ None → IsSome (word_of_meaning (known name))
@@ -329,6 +334,7 @@ right_size total None some e = absurd (cc)
 right_size total (Some (pos n)) some e = (n, refl, grind arith, grind arith)
 right_size total (Some (negsuc n)) some e = absurd (cc)
 
+-- in a program without a fault, an array has a length, of 1 at least and within the limit
 pub arrays_have_lengths : (width : Width) (program : List DirectiveTree) (at : ℕ) (name : List ℕ)
     (words : Bool) (entries : List Const)
     → name_fault width program ≡ None → slice_get program at ≡ Some (d.Array name words entries)
@@ -388,6 +394,7 @@ second_is_none deep main locals body e =
     first_is_none main (option_or locals (option_or body None))
     (rest_is_none deep (option_or main (option_or locals (option_or body None))) e)
 
+-- in a program without a fault, `main` means a routine, and that has no locals
 pub main_is_a_routine : (width : Width) (program : List DirectiveTree)
     → name_fault width program ≡ None
     → (m : Meaning) × (routine : RoutineTree) × (meanings width program main ≡ Some m)
@@ -447,6 +454,7 @@ globals_are_fine width program at name value none e =
     (optional_demands constant_demands value)
     (faultless_inside width program at (d.Global name value) none e)
 
+-- in a program without a fault, nothing is wrong with the entries of an array
 pub entries_are_fine : (width : Width) (program : List DirectiveTree) (at : ℕ) (name : List ℕ)
     (words : Bool) (entries : List Const)
     → name_fault width program ≡ None → slice_get program at ≡ Some (d.Array name words entries)
@@ -468,6 +476,7 @@ last_is_none deep main locals body e =
     (rest_is_none main (option_or locals (option_or body None))
     (rest_is_none deep (option_or main (option_or locals (option_or body None))) e)))
 
+-- in a program without a fault, nothing is wrong in the body of a routine
 pub bodies_are_fine : (width : Width) (program : List DirectiveTree) (at : ℕ)
     (routine : RoutineTree)
     → name_fault width program ≡ None → slice_get program at ≡ Some (d.Routine routine)
@@ -484,6 +493,7 @@ bodies_are_fine width program at routine none e =
 
 -- ---- `main`, where it is found
 
+-- in a program without a fault, the routine that `main` means has no locals
 pub main_has_no_locals : (width : Width) (program : List DirectiveTree) (m : Meaning)
     (r : RoutineTree)
     → name_fault width program ≡ None → meanings width program main ≡ Some m

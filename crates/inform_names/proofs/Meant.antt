@@ -50,6 +50,7 @@ Found width directives known at name m = (i : ℕ) × (directive : DirectiveTree
     × (name_of directive ≡ name)
     × (m.kind ≡ kind_of width (meanings_from width known at (take i directives)) directive)
 
+-- a name of the first directive that means just this one is found there
 found_here : (width : Width) (directive : DirectiveTree) (directives : List DirectiveTree)
     (known : Known) (at : ℕ) (name : List ℕ) (m : Meaning)
     → name_of directive ≡ name → m ≡ own width known at directive
@@ -71,6 +72,7 @@ found_later : (width : Width) (directive : DirectiveTree) (directives : List Dir
 found_later width directive directives known at name m f =
     (suc f.0, f.1, (let e = f.2 in omega (arith, e)), f.3, f.4, f.5)
 
+-- a name that isn't known yet is found at the first directive, if it is its name, or at a later one
 found_by : (width : Width) (directive : DirectiveTree) (directives : List DirectiveTree)
     (known : Known) (at : ℕ) (name : List ℕ) (m : Meaning) (same : Bool)
     → known name ≡ None → meanings_from width (with_directive width known at directive)
@@ -102,6 +104,7 @@ found width (directive ∷ directives) known at name m none e =
     (at + 1) name m later e)
     refl
 
+-- each meaning of a name is that of a directive of the program, which has this name
 pub of_directives : (width : Width) (program : List DirectiveTree) (name : List ℕ) (m : Meaning)
     → meanings width program name ≡ Some m → (directive : DirectiveTree)
     × IsMeaningOf width program name m directive
@@ -118,6 +121,7 @@ of_directives width program name m e =
 
 -- ---- the first directive of a name
 
+-- a name that isn't known yet means the first directive that has it: this one, or else a later one
 at_first : (width : Width) (directives : List DirectiveTree) (known : Known) (at : ℕ)
     (name : List ℕ) (same : Bool)
     → (directive : DirectiveTree)
@@ -170,6 +174,7 @@ earlier_gone at None after = refl
 earlier_gone at (Some m) after =
     ap (λ (b : Bool). cond b (Some m) None) (le-ltb m.at at (after m refl))
 
+-- what is known after a directive is of that directive or of one before it
 before_more_by : (width : Width) (known : Known) (at : ℕ) (directive : DirectiveTree)
     (name : List ℕ) (m : Meaning) (o : Option Meaning)
     → AllBefore known at → known name ≡ o
@@ -211,6 +216,7 @@ at_start width directives known at name (Some k) before is =
     ap (earlier at) (all_stays width directives known at name k is)
     ∙ earlier_stays at (Some k) (λ m e. before name m (is ∙ e))
 
+-- what a name means by some first directives is what it means by all, where that stands among them
 pub earlier_from : (width : Width) (directives : List DirectiveTree) (known : Known) (at n : ℕ)
     (name : List ℕ) → AllBefore known at
     → earlier (at + n) (meanings_from width known at directives name)

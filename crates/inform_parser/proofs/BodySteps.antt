@@ -53,6 +53,7 @@ pub ruleset parts_after = (part_after_head, part_after_said)
 
 -- ---- statements
 
+-- what a statement is read by: one test after another of what stands first
 abbrev pub statement_plan : Plan Statement
 statement_plan =
     next (is_sign Semicolon) (λ _. done s.Empty)

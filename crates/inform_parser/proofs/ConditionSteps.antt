@@ -114,6 +114,7 @@ pub member_mixed : (j : Join) (front : List Condition) (s : Spot) → at_other j
     → read (members_from j front) s ≡ Err (fault Mixed s.rest)
 member_mixed j front s e = mixed_by j front s.rest s.opened e
 
+-- the members of a condition end where neither their own connective nor the other one stands
 last_by : (j : Join) (front : List Condition) (xs : List Lexeme) (n : ℕ) → at_connective j xs ≡ false
     → at_other j xs ≡ false → read (members_from j front) (spot n xs) ≡ Ok (front, spot n xs)
 unfolding read reads step rule member members_from at_connective at_other

@@ -104,6 +104,7 @@ name_is_no_entry name (Character x ∷ rest) h = refl
 name_is_no_entry name (Quoted x ∷ rest) h = refl
 name_is_no_entry name (Sign x ∷ rest) h = h
 
+-- a printed operand doesn't begin as an entry does, where no arrow follows it
 pub part_is_no_entry : (x : Expression) (rest : List Lexeme) → No is_arrow rest
     → begins_entry (value_lexemes true x rest) ≡ false
 part_is_no_entry (v.Number n) rest h = refl

@@ -10,6 +10,7 @@ use Rattle.inform_printer.specs.Laws.{PrintedReadsBack}
 use Rattle.inform_printer.proofs.ShownPrograms.{printed_is_sentence}
 use Rattle.inform_printer.proofs.Writable.{program_written}
 
+-- the printed text of a well-formed program is a text of that program
 pub printed_reads_back : TextReadsBack → PrintedReadsBack
 unfolding printed
 printed_reads_back back p f =

@@ -58,6 +58,7 @@ negation_shown {o = o} {ts = ts} {rest = rest} x h d =
 -- ---- conditions
 
 mutual
+  -- a well-formed condition is spelled as it is printed, where a condition may end after it
   pub condition_shown : (x : Condition) → is_formed_condition x ≡ true → (o : ℕ)
       → o + condition_depth x ≤ 200 → (rest : List Lexeme) → ConditionEnds rest
       → g.Condition within_limit o (guard_of x) (condition_lexemes false x rest) rest
@@ -107,6 +108,7 @@ mutual
       (condition_shown x f (suc o) (inside o (condition_depth x) d) (Sign RightRound ∷ rest)
       (at_bracket rest))
 
+  -- a well-formed chain of conditions is spelled as it is printed, with its connective between them
   chain_shown : (join : Join) (xs : Conditions) → is_formed_chain xs ≡ true → (o : ℕ)
       → o + conditions_depth xs ≤ 200 → (rest : List Lexeme) → ConditionEnds rest
       → g.Condition within_limit o (Tested (together join xs))

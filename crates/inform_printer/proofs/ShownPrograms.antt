@@ -35,6 +35,7 @@ names_shown (name ∷ names) rest = one_more_name (names_shown names rest)
 shallow : (n : ℕ) → leb n DEPTH_LIMIT ≡ true → 0 + 2 * n ≤ 200
 shallow n h = let bound : n ≤ 64 = leb-true n DEPTH_LIMIT h in omega arith
 
+-- a well-formed routine is spelled as it is printed
 routine_shown : (r : RoutineTree) → is_formed_routine r ≡ true → (rest : List Lexeme)
     → Directive within_limit (d.Routine r) (routine_lexemes r rest) rest
 routine_shown r f rest =

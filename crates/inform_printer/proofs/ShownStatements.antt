@@ -32,6 +32,7 @@ use Rattle.inform_printer.proofs.ShownConditions.{condition_shown}
 
 -- ---- changes, items of `print` and choices
 
+-- a well-formed change is spelled as it is printed, where an expression may end after it
 pub change_shown : (x : Assignment) → is_formed_assignment x ≡ true → (o : ℕ)
     → o + assignment_depth x ≤ 200 → (rest : List Lexeme) → ValueEnds rest
     → Change within_limit o x (assignment_lexemes x rest) rest
@@ -117,6 +118,7 @@ change_no_else (s.SetEntry name words index x) rest = refl
 change_no_else (s.Inc name) rest = refl
 change_no_else (s.Dec name) rest = refl
 
+-- no printed statement begins with `else`
 statement_no_else : (x : Statement) (rest : List Lexeme)
     → No (is_word w.Else) (statement_lexemes x rest)
 statement_no_else (s.Assign x) rest = change_no_else x _
@@ -170,6 +172,7 @@ call_as {o = o} {ts = ts} {rest = rest} name xs d =
     subst (λ (ys : Arguments). g.Statement within_limit o (s.Call name ys) ts rest)
     (arguments_back xs) d
 
+-- what spells a conditional statement by the lists of its bodies spells it by its bodies
 if_as : {o : ℕ} {ts rest : List Lexeme} (x : Condition) (xs ys : Statements)
     → g.Statement within_limit o (s.If (condition (guard_of x)) (s.statements (statement_list xs))
     (s.statements (statement_list ys))) ts rest
@@ -226,6 +229,7 @@ switch_as {o = o} {ts = ts} {rest = rest} x xs other d =
 -- ---- statements
 
 mutual
+  -- a well-formed statement is spelled as it is printed, where no `else` follows
   pub statement_shown : (x : Statement) → is_formed_statement x ≡ true → (o : ℕ)
       → o + 2 * statement_depth x ≤ 200 → (rest : List Lexeme) → No (is_word w.Else) rest
       → g.Statement within_limit o x (statement_lexemes x rest) rest
@@ -365,6 +369,7 @@ mutual
       (statements_lexemes xs rest) (statements_no_else xs rest e))
       (statements_shown xs fs.1 o (other_body o (statement_depth x) (statements_depth xs) d) rest e)
 
+  -- well-formed cases of a switch are spelled as they are printed, where no `else` follows
   cases_shown : (xs : Cases) → are_formed_cases xs ≡ true → (o : ℕ) → o + 2 * cases_depth xs ≤ 200
       → (rest : List Lexeme) → No (is_word w.Else) rest
       → g.Cases within_limit o (case_list xs) (cases_lexemes xs rest) rest

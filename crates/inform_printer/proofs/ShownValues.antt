@@ -52,6 +52,7 @@ part_alone : {o : ℕ} (x : Expression) (rest : List Lexeme) → OperandEnds res
     → Unary within_limit o x (value_lexemes true x rest) rest
 part_alone x rest e p = operand (part_is_no_entry x rest e.arrow) p
 
+-- a sum is spelled as it is printed, if its first operand and its terms are
 sum_value : {o : ℕ} (first : Expression) (xs : Terms) (rest : List Lexeme) → has_terms xs ≡ true
     → ValueEnds rest
     → Primary within_limit o first (value_lexemes true first (term_lexemes xs rest))
@@ -66,6 +67,7 @@ sum_value {o = o} first xs rest some e p ds =
     (a_value {xs = term_list xs} (product_alone
     (part_alone first ts after.operand p) after.factor) ds)
 
+-- a product is spelled as it is printed, if its first operand and its factors are
 product_value : {o : ℕ} (first : Expression) (xs : Factors) (rest : List Lexeme)
     → has_factors xs ≡ true → ValueEnds rest
     → Primary within_limit o first (value_lexemes true first (factor_lexemes xs rest))
@@ -99,6 +101,7 @@ at_arguments v.NoArguments rest = (at_bracket rest).test.value
 at_arguments (v.MoreArguments x xs) rest = at_comma _
 
 mutual
+  -- a well-formed expression is spelled as it is printed, where an expression may end after it
   pub value_shown : (x : Expression) → is_formed_expression x ≡ true → (o : ℕ)
       → o + expression_depth x ≤ 200 → (rest : List Lexeme) → ValueEnds rest
       → Value within_limit o x (value_lexemes false x rest) rest
@@ -140,6 +143,7 @@ mutual
       (factors_shown xs gs.1 o (right o (expression_depth first)
       (factors_depth xs) deep) rest e.product)
 
+  -- a well-formed expression is spelled as it is printed as an operand, where no bracket follows
   pub part_shown : (x : Expression) → is_formed_expression x ≡ true → (o : ℕ)
       → o + expression_depth x ≤ 200 → (rest : List Lexeme) → No (is_sign LeftRound) rest
       → Primary within_limit o x (value_lexemes true x rest) rest
@@ -201,6 +205,7 @@ mutual
       (argument_lexemes true xs rest) (at_arguments xs rest))
       (further_shown xs fs.1 o (right o (expression_depth x) (arguments_depth xs) d) rest)
 
+  -- well-formed arguments after the first are spelled as they are printed
   further_shown : (xs : Arguments) → are_formed_arguments xs ≡ true → (o : ℕ)
       → o + arguments_depth xs ≤ 200 → (rest : List Lexeme)
       → FurtherArguments within_limit o (argument_list xs) (argument_lexemes true xs rest)
@@ -213,6 +218,7 @@ mutual
       (argument_lexemes true xs rest) (at_arguments xs rest))
       (further_shown xs fs.1 o (right o (expression_depth x) (arguments_depth xs) d) rest)
 
+  -- well-formed terms are spelled as they are printed, where an expression may end after them
   terms_shown : (xs : Terms) → are_formed_terms xs ≡ true → (o : ℕ) → o + terms_depth xs ≤ 200
       → (rest : List Lexeme) → ValueEnds rest
       → g.Terms within_limit o (term_list xs) (term_lexemes xs rest) rest
@@ -225,6 +231,7 @@ mutual
       (term_lexemes xs rest) after.operand.bracket)) after.factor)
       (terms_shown xs fs.1 o (right o (expression_depth x) (terms_depth xs) d) rest e)
 
+  -- well-formed factors are spelled as they are printed, where a product may end after them
   factors_shown : (xs : Factors) → are_formed_factors xs ≡ true → (o : ℕ)
       → o + factors_depth xs ≤ 200 → (rest : List Lexeme) → ProductEnds rest
       → g.Factors within_limit o (factor_list xs) (factor_lexemes xs rest) rest

@@ -63,6 +63,7 @@ entry_written x f rest h =
     in_brackets (is_minus x) (constant_lexemes x) (constant_written x f) rest h
 
 mutual
+  -- the lexemes of a well-formed expression can be written
   value_written : (part : Bool) (x : Expression) → is_formed_expression x ≡ true
       → Written (value_lexemes part x)
   value_written part (v.Number n) f rest h = also f h
@@ -114,6 +115,7 @@ mutual
 -- ---- conditions
 
 mutual
+  -- the lexemes of a well-formed condition can be written
   condition_written : (member : Bool) (x : Condition) → is_formed_condition x ≡ true
       → Written (condition_lexemes member x)
   condition_written member (c.Compare relation left right) f rest h =
@@ -141,6 +143,7 @@ mutual
 
 -- ---- changes, items of `print` and choices
 
+-- the lexemes of a well-formed change can be written
 change_written : (x : Assignment) → is_formed_assignment x ≡ true → Written (assignment_lexemes x)
 change_written (s.Set name x) f rest h =
     let fs = and_parts (is_name name) (is_formed_expression x) f in
@@ -196,6 +199,7 @@ else_written s.NoStatements lexemes f rest h = h
 else_written (s.MoreStatements x xs) lexemes f rest h = f rest h
 
 mutual
+  -- the lexemes of a well-formed statement can be written
   statement_written : (x : Statement) → is_formed_statement x ≡ true → Written (statement_lexemes x)
   statement_written s.Empty f rest h = also refl h
   statement_written (s.Block body) f rest h = also refl (statements_written body f _ (also refl h))
@@ -306,6 +310,7 @@ routine_written r f rest h =
     also refl (also fs.0 (names_written r.locals gs.0 _
     (also refl (statements_written r.body hs.1 _ (also refl (also refl h))))))
 
+-- the lexemes of a well-formed directive can be written
 directive_written : (x : DirectiveTree) → is_formed_directive x ≡ true
     → Written (directive_lexemes x)
 directive_written (d.Constant name x) f rest h =

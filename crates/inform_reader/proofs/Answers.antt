@@ -48,6 +48,7 @@ pub program_told : t.ProgramIn → (bytes : List ℕ) (tokens : List Token) → 
 program_told law bytes tokens spelled program says =
     (law bytes program).1 (record { tokens = tokens; spelled = spelled; says = says })
 
+-- the first fault of a program's names is told by the answer, unless memory is lacking
 pub names_told : (width : Width) (program : List DirectiveTree) (fault : NameFault) → (fault ≡ n.Memory → ⊥) → IsFirstFault width program fault
     → Tells (f.NotAccepted fault) (accepted_of width (Ok program))
 names_told width program (n.Twice name) other is = (_, ap (program_or_fault program) is, refl)

@@ -226,6 +226,7 @@ choices_formed (gs.one_more_choice x xs) (also f h) =
 -- ---- statements
 
 mutual
+  -- a statement is well formed if a text can say the lexemes that spell it
   statement_formed : {room : ℕ → Bool} {o : ℕ} {x : s.Statement} {ts rest : List Lexeme} → Statement room o x ts rest → Said ts → Forms (is_formed_statement x) rest
   statement_formed gs.empty (also f h) = (refl, h)
   statement_formed (gs.block r xs) (also f h) = let a = statements_formed xs h in (a.0, later a.1)
@@ -322,6 +323,7 @@ IsShallow x = (r : RoutineTree) → x ≡ d.Routine r → routine_depth r ≤ DE
 shallow_is : (n : ℕ) → n ≤ DEPTH_LIMIT → nat_le n DEPTH_LIMIT ≡ true
 shallow_is n h = grind (arith, nat_tests, h)
 
+-- a directive that isn't too deep is well formed if a text can say the lexemes that spell it
 directive_formed : {room : ℕ → Bool} {x : DirectiveTree} {ts rest : List Lexeme} → Directive room x ts rest → Said ts → IsShallow x
     → Forms (is_formed_directive x) rest
 directive_formed (gp.constant x) (also d (also e (also f h))) shallow = let a = constant_formed x h in (both e a.0, later a.1)

@@ -135,6 +135,7 @@ module _ (p : Program) (at after : Point) (x : Said) (m : MovesOn p at after x) 
 
 -- ---- where a line is due
 
+-- a frame that isn't due for a line needs no room for one
 dry-room : (w : World) (x : f.Frame) → IsDry x → HasRoom w x
 dry-room w (f.Begins (f.Evals x)) dry = tt
 dry-room w (f.Begins (f.CallDue name values)) dry = tt
@@ -253,6 +254,7 @@ module _ (means : MovesMean) (p : Program) (at after : Point) where
       → (draws : List ℕ) → LeadsOn p old new at after draws draws 1
   ticks-lead old new x m ticks spoken draws = λ lines known. leads-ticks means p at old new lines known draws after x m ticks spoken
 
+  -- where a draw is due, the run leads to the value that the draw gives, and uses no step
   pub draws-lead : (m value : ℤ) (draw : ℕ) (before now : List ℕ) → IsNext p at (Draws m)
       → before ≡ draw ∷ now → value ≡ draw_within m draw
       → after ≡ record { frames = rest_of at.frames; handed = g.Value value; world = at.world }
@@ -357,6 +359,7 @@ module _ (p : Program) (at : Point) (x : Statement) (xs : Statements) (rest : Li
   done-then after said is =
       moves-by p begun after said (f.Begins (f.Due x)) (f.Begins (f.Blocks xs) ∷ rest) (room_in CALL_LIMIT (f.Begins (f.Blocks xs) ∷ rest)) refl refl is
 
+  -- to take a statement from its block and then to make its own move is one step
   pub statement-steps : MovesNeed → (after : Point) (said : Said)
       → at.frames ≡ f.Begins (f.Blocks (MoreStatements x xs)) ∷ rest → at.handed ≡ g.Normal
       → made after.frames (signal_of after.handed) (done_by after.world said) ≡ made_of at.world (statement_move p at.world x) (f.Begins (f.Blocks xs) ∷ rest)

@@ -32,6 +32,7 @@ pub enters-nothing : (p : Program) (seen : ConsoleView) (at : Point) (draws : Li
 enters-nothing p seen at draws = λ lines known past n few. absurd (omega (arith, few))
 
 module _ (p q : Program) (program : q ≡ p) where
+  -- if some steps enter no routine, and neither do those after them, then all of them enter none
   pub enters-then : (old mid : ConsoleView) (x y : Point) (drawn left : List ℕ) (u v : ℕ)
       → LeadsOn p old mid x y drawn left u → EntersNoneOn p old x u drawn
       → EntersNoneOn q mid y v left → EntersNoneOn p old x (u + v) drawn
@@ -95,6 +96,7 @@ module _ (means : MovesMean) (needs : MovesNeed) (law : OnlyCallsEnter) (p : Pro
 -- the next statement of a block
 module _ (means : MovesMean) (needs : MovesNeed) (law : OnlyCallsEnter) (p : Program) (at : Point)
     (x : Statement) (xs : Statements) (rest : List f.Frame) where
+  -- the step of the next statement of a block enters no routine
   pub enters-statement : at.frames ≡ f.Begins (f.Blocks (MoreStatements x xs)) ∷ rest
       → at.handed ≡ g.Normal → EntersNoneAnyway p at 1
   enters-statement block signal =

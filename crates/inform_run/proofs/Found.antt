@@ -32,6 +32,7 @@ module _ (go : RunsGo) (p : Program) (begun : List f.Frame) (world : World) (old
   abbrev from : ℕ → List (List ℕ) → List ℕ → Config
   from steps lines draws = record { steps = steps; lines = lines; draws = draws; past = []; world = world }
 
+  -- what a run of a machine leaves at its end is what the program leaves from there
   pub found : (steps unused : ℕ) (before now : Supply) (stop : Stop) (frames : List f.Frame) (after : World)
       → now.taken + length now.left ≡ before.taken + length before.left
       → EndsOn p old new (record { frames = begun; handed = g.Normal; world = world }) steps before.left now.left stop frames after unused

@@ -92,6 +92,7 @@ module _ (p : Program) where
         ∙ ap (run_from p at steps lines draws) (sym (append-nil past));
   }
 
+  -- a run that leads to a point, and on to another, leads to that one with the steps of both
   pub leads-then : (old mid new : ConsoleView) (x y z : Point) (lines : List (List ℕ)) (drawn left last : List ℕ) (u v : ℕ)
       → (a : Leads p old mid x y lines drawn left u) → Leads p mid new y z a.rest left last v
       → Leads p old new x z lines drawn last (u + v)
@@ -109,6 +110,7 @@ module _ (p : Program) where
         ∙ ap (run_from p z steps b.rest last) (append_assoc past a.done b.done);
   }
 
+  -- a run that leads to a point, and ends from there, ends so with the steps of both
   pub ends-then : (old mid new : ConsoleView) (x y : Point) (steps : ℕ) (lines : List (List ℕ)) (drawn left last : List ℕ) (stop : Stop) (frames : List f.Frame) (world : World) (u unused : ℕ)
       → (a : Leads p old mid x y lines drawn left u) → Ends p mid new y steps a.rest left last stop frames world unused
       → Ends p old new x (steps + u) lines drawn last stop frames world unused
@@ -167,6 +169,7 @@ Asks AStep x e = e ≡ f.Normal
 Asks (ALine name) x e = (x ≡ Begins (LineDue name)) × (e ≡ f.Normal)
 Asks (ADraw m) x e = (x ≡ Begins (DrawDue m)) × (e ≡ f.Normal)
 
+-- what needs a step, a line or a draw is handed nothing; for a line or a draw its frame is due
 pub asks : (x : f.Frame) (e : Outcome) → Asks (need x e) x e
 asks (Begins (f.Evals x)) f.Normal = tt
 asks (Begins (f.CallDue name values)) f.Normal = refl
@@ -209,6 +212,7 @@ module _ (law : MovesNeed) (p : Program) (at : Point) where
 
 -- the move that takes a line, and the one that takes a draw
 module _ (p : Program) (at : Point) where
+  -- where a line is needed, the next move reads it
   pub line-next : (name : List ℕ) → next_need at ≡ Some (ALine name) → IsNext p at (Reads name)
   line-next name is = by at.frames refl is where
     by : (fs : List f.Frame) → at.frames ≡ fs → first_need fs (signal_of at.handed) ≡ Some (ALine name) → IsNext p at (Reads name)
@@ -223,6 +227,7 @@ module _ (p : Program) (at : Point) where
           is = sym (ap (λ y. next p (room_in CALL_LIMIT xs) at.world y (signal_of at.handed)) a.0 ∙ ap (next p (room_in CALL_LIMIT xs) at.world (Begins (LineDue name))) a.1);
         }
 
+  -- where a draw is needed, the next move takes it
   pub draw-next : (m : ℤ) → next_need at ≡ Some (ADraw m) → IsNext p at (Draws m)
   draw-next m is = by at.frames refl is where
     by : (fs : List f.Frame) → at.frames ≡ fs → first_need fs (signal_of at.handed) ≡ Some (ADraw m) → IsNext p at (Draws m)

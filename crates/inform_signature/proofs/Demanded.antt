@@ -96,6 +96,7 @@ module _ (scope : Scope) (signs : List Sign) (knows : Knows scope.known signs) w
   not_wide W16 n h = grind (arith, h)
   not_wide W32 n h = refl
 
+  -- a demand that the signature meets has no fault
   one : (demand : Demand) → is_met scope.width signs scope.locals demand ≡ true
       → fault_at scope demand ≡ None
   one (q.Number n) h = no_fault (is_wide scope.width n) (wide_number n) (not_wide scope.width n h)

@@ -43,6 +43,7 @@ four_none {a} {b} {c} {e} ha hb hc he = ap (λ o. first_of (o ∷ b ∷ c ∷ e 
 two_none : {a b : Option Fault} → a ≡ None → b ≡ None → first_of (a ∷ b ∷ []) ≡ None
 two_none {a} {b} ha hb = ap (λ o. first_of (o ∷ b ∷ [])) ha ∙ ap (λ o. first_of (o ∷ [])) hb
 
+-- a routine that is sound under a signature has no fault, where the names of that are known
 pub sound_routines_are_faultless : SoundRoutinesAreFaultless
 sound_routines_are_faultless width known signs r knows sound = let
     demands = statements_demands no_loop r.body in
@@ -94,6 +95,7 @@ module _ (first : MeaningsAreFirst) (width : Width) (ds : List DirectiveTree)
 
   -- ---- directives
 
+  -- where no two directives have one name, none has a name that was there before
   not_twice : (at : ℕ) (x : DirectiveTree) → slice_get ds at ≡ Some x
       → twice_fault (meanings width ds) at (name_of x) ≡ None
   not_twice at x there = by (meanings width ds (name_of x))
@@ -129,6 +131,7 @@ module _ (first : MeaningsAreFirst) (width : Width) (ds : List DirectiveTree)
       sound.fine
   inner_fine at total (d.Routine r) sound few = sound
 
+  -- sound directives have no fault, from any of them on, if all entries keep within the limit
   faultless_from : (rest : List DirectiveTree) (at total : ℕ) → drop at ds ≡ rest
       → AllByRecursion (IsSound width known) rest
       → total + total_entries width known rest ≤ ENTRY_LIMIT

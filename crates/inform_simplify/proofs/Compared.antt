@@ -102,6 +102,7 @@ cases_apart (x ∷ xs) (y ∷ ys) e =
 
 -- ---- chains
 
+-- two sums with the same first operand are the same exactly if their terms are
 pub sums_alike : (r : Bool) (a b : Expr) (x y : Box Expr) (xs ys : Vec (SumOp × Expr))
     (u w : Expr)
     → a ≡ ev.Sum x xs → b ≡ ev.Sum y ys → u ≡ x.value → w ≡ y.value
@@ -115,6 +116,7 @@ sums_alike r a b x y xs ys u w p q f g first rest =
     ap expression_of q ∙ expression_of_sum y ys in
     (λ t. let same = rest.0 t in cc, λ e. rest.1 cc)
 
+-- two products with the same first operand are the same exactly if their factors are
 pub products_alike : (r : Bool) (a b : Expr) (x y : Box Expr) (xs ys : Vec (ProdOp × Expr))
     (u w : Expr)
     → a ≡ ev.Product x xs → b ≡ ev.Product y ys → u ≡ x.value → w ≡ y.value

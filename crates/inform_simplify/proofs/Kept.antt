@@ -141,6 +141,7 @@ CasesKept width = Keeps (CasesShorten width) cases
 case_is : (x : Case) → case_of x ≡ (x.choices.items, statements_of x.body.items)
 case_is x = fold_out-Case Statement (List Choice × Statements) statement_step case_step x
 
+-- a case whose body was simplified is added to those that are kept, and those after it are left
 pub case_goes_on : (width : Width) (all : Cases) (kept before : List Case) (x : Case) (after : List Case)
     (x' : Case) (new : List Case) (taken : Vec Stmt) → before ≡ x ∷ after → new ≡ kept ++ (x' ∷ [])
     → x'.choices ≡ x.choices → taken ≡ x.body
@@ -170,6 +171,7 @@ cases_end width all kept left none keeps =
 abbrev pub DirectivesKept : Width → List DirectiveTree → List DirectiveTree → List DirectiveTree → Type 0
 DirectivesKept width = Keeps (ProgramShortens width) (λ xs. xs)
 
+-- a directive that was simplified is added to those that are kept, and those after it are left
 pub directive_goes_on : (width : Width) (all : List DirectiveTree) (kept before : List Directive) (x : Directive) (after : List Directive)
     (x' : Directive) (new : List Directive) → before ≡ x ∷ after → new ≡ kept ++ (x' ∷ [])
     → DirectiveShortens width (directive_of x) (directive_of x')

@@ -33,6 +33,7 @@ module _ (x : Stmt)
     (not_do : (body : Vec Stmt) (test : Cond) → x ≡ sv.Do body test → ⊥)
     (not_for : (head : Box Head) (body : Vec Stmt) → x ≡ sv.For head body → ⊥)
     (not_switch : (y : Expr) (xs : Vec Case) (rest : Option (Vec Stmt)) → x ≡ sv.Switch y xs rest → ⊥) where
+  -- whichever other kind the statement is of, it is a leaf
   other_layer : (layer : Stmt-F Stmt Case) → roll-Stmt layer ≡ x → is_leaf (statement_of x) ≡ true
   other_layer so.Empty e =
       leaf_at so.Empty x e (ap is_leaf (fold-roll-Stmt Statement (List Choice × Statements) statement_step case_step so.Empty))

@@ -54,6 +54,7 @@ module _ (pauses : ℕ → Option Paused) where
     first = record { here = here; before = before };
   }
 
+  -- a run that pauses at a step or later, and never before that step, has a first pause
   first_from : (k from : ℕ) (last : Paused) → ((n : ℕ) → n < from → pauses n ≡ None)
       → pauses (from + k) ≡ Some last → FirstFrom from (from + k)
   first_from zero from last before there = let same : from ≡ from + 0 = omega arith in

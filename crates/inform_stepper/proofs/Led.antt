@@ -154,6 +154,7 @@ module _ (laws : Laws) (old : ConsoleView) (until : Until) (steps : ℕ) (lines 
         (first-here now s.Spent r d ran);
   }
 
+  -- a stepper that stops with no step used, for anything but steps, answers that it stopped so
   pub stops_first : (now : ConsoleView) (stop : Stop) (r : Runner) (d : Supply)
       → (stop ≡ s.Spent → ⊥) → So now (Ok stop) r d 0 → Gone now (Ok (p.Stopped stop)) r d
   stops_first now stop r d other ran =
@@ -252,6 +253,7 @@ module _ (laws : Laws) (old : ConsoleView) (until : Until) (steps : ℕ) (lines 
           unpaused = unpaused-more until r0.used steps run_at (suc n) unpaused (same ∙ is);
         })
 
+  -- a stepper that used all its steps without a pause answers that they are spent
   pub all_used : (now : ConsoleView) (r : Runner) (d : Supply) (n : ℕ) → n ≡ steps → Far now r d n
       → Gone now (Ok (p.Stopped s.Spent)) r d
   all_used now r d n all led = record {
@@ -282,6 +284,7 @@ module _ (laws : Laws) (old : ConsoleView) (until : Until) (steps : ℕ) (lines 
       (sym (ap shown_of past ∙ shown_of-append (run_at n).1.past second.1.past))
       (part_of_more old.history now.history (shown_of (run_at n).1.past) (shown_of second.1.past) part))
 
+  -- a stepper whose run fails before it paused answers a fault
   pub fails : (now : ConsoleView) (fault told : ConsoleFault) (r : Runner) (d : Supply) (n : ℕ)
       → n ≤ steps → Unpaused until r0.used steps run_at n → So now (Err fault) r d n
       → Gone now (Err told) r d

@@ -87,6 +87,7 @@ module _ (laws : Laws) (stays : StoppedStays) (old : ConsoleView) (n steps : ℕ
     none : (at count).1.steps ≡ 0
     all : stopped (at count) ≡ None → count ≡ ahead
 
+  -- the steps that a run takes of so many tell those that it takes of one more
   one-more : (ahead : ℕ) (before : Takes ahead) (stop : Option Paused)
       → stopped (at before.count) ≡ stop → Takes (suc ahead)
   one-more ahead before (Some paused) is = record {
@@ -108,6 +109,7 @@ module _ (laws : Laws) (stays : StoppedStays) (old : ConsoleView) (n steps : ℕ
         all = λ none. refl;
       }
 
+  -- of so many steps that it is given, a run takes some: all, or those until it stops
   takes : (ahead : ℕ) → Takes ahead
   takes zero =
       let g = laws.goes (program_run r0) (begun_in r0) (left_to r0 0 lines d0.left) in

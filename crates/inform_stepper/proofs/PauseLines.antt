@@ -27,6 +27,7 @@ of-globals w (t.Routine x ∷ ds) = of-globals w ds
 abbrev pub said_of : World → Directive → List ℕ
 said_of w d = directive_text w (directive_of d)
 
+-- the heading, what is said of the directives, and the end are the line of a pause
 pub line_parts : (w : World) (given ds : List Directive) (said used : ℕ) → given ≡ ds → said ≡ used
     → says (heading said) ++ (says (flat_map (said_of w) given) ++ says (codes "]\n"))
     ≡ says (pause_line (globals_of (map directive_of ds)) used w)

@@ -130,6 +130,7 @@ module _ (number used steps : ℕ) (run : Run) where
   not-past zero same some none = absurd (omega (arith, some))
   not-past (suc more) same some none = pauses-there more same none
 
+-- no number of steps up to the first pause is past what comes next
 pub reaches : (pausing : Pausing) (used steps : ℕ) (run : Run) (count : ℕ) (paused : Paused)
     → InRange pausing → PausesFirst (pause_at (awaited pausing used) used steps run) count paused
     → (more : ℕ) → more ≤ count → Within pausing used more

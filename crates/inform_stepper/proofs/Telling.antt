@@ -154,6 +154,7 @@ module _ (laws : Laws) (a : Accepted) (pausing : Pausing) (lines : List (List �
       (part_of_more h h' (shown (n + k)) (shown_of (events_after at (n + k)))
       (part-more h h' n k part)))
 
+  -- a run that may fail with a prefix shown of what some steps show may fail so with more steps
   pub fails : (old now : ConsoleView) (fault : ConsoleFault) (r : Runner) (d : Supply) (n steps : ℕ)
       → n ≤ steps → GrewByPrefix old.history now.history (shown n)
       → So old now (Err fault) r d steps

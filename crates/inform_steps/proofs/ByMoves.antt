@@ -53,6 +53,7 @@ module _ (p : Program) (falls : MovesFall) (Q : Of)
   abbrev Fewer : ℕ → Type 0
   Fewer n = (k : ℕ) → suc k ≤ n → (m : ℕ) → Within k m
 
+  -- what holds of each run with fewer steps or less work holds of the run after a move
   after : (n m : ℕ) → Fewer n → Within n m → (x : Frame) (rest : List Frame) (c : Config)
       → c.steps ≤ n → works (x ∷ rest) < suc m → (move : Move) → FallsBelow (work x) move
       → IsSettled (outcome_in move) → After Q rest move c

@@ -209,6 +209,7 @@ module _ (means : MovesMean) (falls : MovesFall) (needs : MovesNeed) (opens : Mo
       (ap (λ n. begun_of (standing p frames c n).0) one-more
       ∙ ap (λ r. begun_of r.0) (stays p frames c n 1 other))
 
+  -- a step that is due, and is no call, enters no routine
   goes_on : (at : Needs (begun_of here.0) AStep) → (CallIsDue (begun_of here.0) → ⊥)
       → newly_entered here later ≡ []
   goes_on at plain =

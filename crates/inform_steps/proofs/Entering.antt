@@ -53,6 +53,7 @@ module _ (p : Program) (frames : List Frame) (c : Config) (first : ℕ) where
       ∙ ap (λ m. entered_in p frames c (first + n)
       ++ newly_entered (standing p frames c (first + n)) (standing p frames c m)) (sym next)
 
+  -- what a run enters is what its first piece enters, and then what is entered with further steps
   join : PiecesJoin → (more : ℕ)
       → entered_in p frames c (first + more) ≡ entered_in p frames c first ++ further more
   join joins zero = ap (entered_in p frames c) (none-more first) ∙ sym (append-nil _)
@@ -68,6 +69,7 @@ module _ (p : Program) (frames : List Frame) (c : Config) (first : ℕ) where
       ∙ ap (λ xs. xs ++ last) (join joins n)
       ∙ append_assoc (entered_in p frames c first) (further n) last
 
+  -- a run that stopped for anything but steps enters nothing more
   none : StoppedStays → (IsSpent from → ⊥) → (more : ℕ)
       → entered_in p frames c (first + more) ≡ entered_in p frames c first
   none stays other zero = ap (entered_in p frames c) (none-more first)

@@ -63,6 +63,7 @@ module _ (p : Program) (k : ℕ) where
             (omega (arith, none));
       })
 
+  -- a piece of a run and the next one are the whole, whatever the first came to
   joined : MovesMean → StopStays → PastCountsForNothing → (e : Outcome) (c : Config) → Stands e c
       → Joins (e, c) (next_piece p (e, c) k) (going_on p k [] [] (e, c))
   joined means stops aside (Value a) c at = over stops f.Quits (Value a) c refl refl
@@ -131,6 +132,7 @@ module _ (p : Program) (k : ℕ) where
       (moved adds n.top n.rest m c
       (needs p (room_in CALL_LIMIT n.rest) c.world n.top f.Normal ∙ n.is) some))
 
+  -- a run that lacks steps has none left, and takes one of those that the next piece is given
   taken : MovesMean → MovesNeed → RunsAdd → (e : Outcome) (c : Config) → Stands e c
       → stop_of e ≡ Lacking Spent
       → (c.steps ≡ 0) × ((next_piece p (e, c) (k + 1)).1.steps ≤ k)

@@ -53,6 +53,7 @@ factor-calm : (p : Program) (w : World) (o : Option ℤ) (xs : Factors)
 factor-calm p w None xs = tt
 factor-calm p w (Some a) xs = product-calm p w a xs
 
+-- the move to the parts of an expression hands on nothing that waits
 value_parts-calm : (p : Program) (w : World) (x : Expression)
     → Calm (value_parts p w x)
 value_parts-calm p w (v.Number n) = tt
@@ -195,6 +196,7 @@ switch-calm p w x xs rest =
 return-calm : (p : Program) (w : World) (x : Expression) → Calm (return_move p w x)
 return-calm p w x = at_once-all Calm (immediate_value p w x) _ _ (λ a. tt) tt
 
+-- the move of a statement hands on nothing that waits
 statement-calm : (p : Program) (w : World) (x : Statement) → Calm (statement_move p w x)
 statement-calm p w s.Empty = tt
 statement-calm p w (s.Block body) = tt
@@ -219,6 +221,7 @@ statement-calm p w s.NewLine = tt
 statement-calm p w (s.Print xs) = tt
 statement-calm p w (s.Read line words) = read-calm w line (has_room (entries_of line w))
 
+-- the move of what gets the value that it wants hands on nothing that waits
 value-calm : (p : Program) (w : World) (x : Want) (a : ℤ)
     → Calm (value_move p w x a)
 value-calm p w (f.IndexOf name) a = entry-calm w (entry_at (entries_of name w) a)
@@ -253,6 +256,7 @@ truth-calm (f.Branches body other) true = tt
 truth-calm (f.Branches body other) false = tt
 truth-calm (f.Testing l) b = tested-calm l (loop_goes_on l b)
 
+-- the move of what begins hands on nothing that waits
 begin-calm : (p : Program) (n : ℕ) (w : World) (x : Begin)
     → Calm (begin_move p n w x)
 begin-calm p n w (f.Evals x) = eval-calm p w x

@@ -127,6 +127,7 @@ line-due (Calling scope) name is = absurd (cc)
 line-due Main name is = absurd (cc)
 line-due (Over halt) name is = absurd (cc)
 
+-- a frame that needs a draw where nothing is handed to it is due for that draw
 draw-due : (x : Frame) (m : ℤ) → need x Normal ≡ ADraw m → x ≡ Begins (f.DrawDue m)
 draw-due (Begins (f.Evals y)) m is = absurd (cc)
 draw-due (Begins (f.CallDue n values)) m is = absurd (cc)

@@ -34,6 +34,7 @@ layout_leaves_no_trace = record {
   says = one_more (constant a_number) no_more;
 }
 
+-- the faults of the examples stand at a token, at the end of the text, and at a bad character
 pub faults_placed : FaultsPlaced
 unfolding token_step symbol_spelled keyword_spelled word_lexeme reads step program rule directive
     global_after

@@ -20,6 +20,7 @@ Right bytes (Ok p) = ProgramText bytes p
 Right bytes (Err f) = FaultyText bytes f
 
 module _ (exact : l.TokensAreExact) (faults : l.FaultIsExact) (read : g.ReadIsSentence) where
+  -- what is read of the tokens of a text is the program of the text, or its fault
   right_sentence : (bytes : List ℕ) (tokens : List Token) → Spelled bytes tokens
       → (o : Answer (List DirectiveTree)) → reads within_limit (lexemes bytes tokens) program 0 ≡ o
       → Right bytes (program_or_fault bytes tokens o)

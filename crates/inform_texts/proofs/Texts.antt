@@ -23,6 +23,7 @@ one_program_a_text tokens one bytes p q a b =
 
 -- ---- a program or a fault
 
+-- a text with tokens has a program if they are a sentence, and a fault if one is read of them
 judged : (bytes : List ℕ) (tokens : List Token) → Spelled bytes tokens
     → ((p : List DirectiveTree) × Sentence within_limit p (lexemes bytes tokens)) ⊎
     ((f : Fault) × (reads within_limit (lexemes bytes tokens) program 0 ≡ Err f))
@@ -67,6 +68,7 @@ is_found : (bytes : List ℕ) (kind : FaultKind) (place : ℕ) (r : Refused byte
     → NoSentence kind place ≡ found bytes r.tokens (fault kind r.rest)
 is_found bytes kind place r = ap (λ (n : ℕ). NoSentence kind n) r.stands
 
+-- two faults of a text are the same, whether of its tokens or of the grammar
 pub one_fault_a_text : l.NeverBoth → l.OneTokenList → l.OneFault → OneFaultAText
 one_fault_a_text never tokens one bytes (NoTokens f) (NoTokens g) a b =
     ap NoTokens (one bytes f g a b)

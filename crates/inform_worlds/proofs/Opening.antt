@@ -80,6 +80,7 @@ module _ (law : MeaningsAreOfDirectives) (width : Width) (program : List Directi
       ap (λ o. main_scope (option_and_then (routine_in (number_of o)) (option_and_then (λ m. slice_get program m.at) o))) is
       ∙ ap (λ o. main_scope (option_and_then (routine_in at) o)) there
 
+  -- first values of globals and arrays, and the scope of `main`, are the world of the opening
   pub opened_world : (globals : List ℤ) (arrays : List (List ℤ)) (scope : Scope) (at : ℕ) (kind : Kind) (r : RoutineTree)
       → globals ≡ map (λ d. unwrap_or (global_in width (meanings width program) d) (pos 0)) program
       → arrays ≡ map (λ d. unwrap_or (array_in width (meanings width program) d) []) program

@@ -31,6 +31,7 @@ place_is name names = from-place name 0 names ∙ plain (place_in name names) wh
   plain None = refl
   plain (Some k) = ap Some (omega arith)
 
+-- what a table has under a name is the value at the place of that name
 pub found_place : (name : List ℕ) (names : List (List ℕ)) (vs : List ℤ)
     → found name (table_of names vs) ≡ option_and_then (slice_get vs) (place_in name names)
 found_place name [] vs = refl
@@ -51,6 +52,7 @@ found_place name (other ∷ names) (v ∷ vs) =
       by true h = refl
       by false h = h ∙ next (place_in name names)
 
+-- a table whose value is set at the place of a name is updated under that name
 pub updated_place : (name : List ℕ) (x : ℤ) (names : List (List ℕ)) (vs : List ℤ)
     → table_of names (set_if_any (place_in name names) x vs) ≡ updated name x (table_of names vs)
 updated_place name x [] vs = refl
