@@ -54,6 +54,7 @@ abbrev name_by : Bool → ℕ → List ℕ
 name_by true k = line_name k
 name_by false k = group_name k
 
+-- numbers, and calls of conditions, opcodes and messages, are no calls of a line or of a group
 passes_calls : (line : Bool) (k : ℕ) (db : Database)
     → PassesCalls W32 db (is_none_of (name_by line k))
 passes_calls true k db = record {

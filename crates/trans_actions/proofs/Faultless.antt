@@ -125,6 +125,7 @@ one_used test (x ∷ xs) n there used = by (nat_eq x n) refl there (one_used tes
   by true is there more = at_first (subst (λ n. test n ≡ true) (sym (same x is)) used)
   by false is there more = further (test x) (more there used)
 
+-- where one of some numbers is used, so is one of a list that has all of them
 among_used : (test : ℕ → Bool) (xs ns : List ℕ) → all_among xs ns ≡ true
     → list_any test ns ≡ true → list_any test xs ≡ true
 among_used test xs [] all used = cc
@@ -225,6 +226,8 @@ module _ (law : SoundRoutinesAreFaultless) (style : Style) (width : Width) (db :
       (list_all (is_sound style width (numbers db)) hs) all in
       (fine_used h parts.0, opcodes_fine_too hs parts.1)
 
+  -- no routine of a condition or an opcode has a fault, where there are fewer than 32,768 items and
+  -- rooms, and the light's number isn't too wide
   helpers_fine : nat_lt (length db.items) 32768 ≡ true → nat_lt (length db.rooms) 32768 ≡ true
       → nat_lt (last_room db) 32768 ≡ true
       → is_narrow width (light_number db.header.light) ≡ true
@@ -301,6 +304,7 @@ module _ (law : SoundRoutinesAreFaultless) (style : Style) (width : Width) (db :
         (none_at_all n (statements_demands no_loop (statements (line_body db (action_at db n))))
         (body_passes n has))
 
+-- no routine of a condition, an opcode or a line has a fault, where what they call is known
 pub actions_are_faultless : LinesHaveWords → SoundRoutinesAreFaultless → ActionsAreFaultless
 actions_are_faultless have_words law style width db known translates granted messages knows = let
     own : EachUsed style db (IsOwnKnown known) = of_helpers style db (IsOwnKnown known)

@@ -79,6 +79,7 @@ test_fine packed h = record {
   shallow = omega arith;
 }
 
+-- the tests of a line's conditions are formed, and at most 5 deep
 tests_fine : (conds : List ℕ) → list_all is_natural conds ≡ true
     → AllFine 5 (map condition_test (filter is_test conds))
 tests_fine [] h = tt
@@ -101,8 +102,10 @@ dropped (suc n) [] h = refl
 dropped (suc n) (p ∷ params) h =
     dropped n params (and_parts (is_number p) (list_all is_number params) h).1
 
+-- the call of a message, which is left out where there is none, is formed and at most 2 deep
 message_fine : (db : Database) (m : ℕ) → KeepsLimits db → AllFine 2 (message_call db m)
 message_fine db m limits = from (nat_lt m (length db.messages)) refl where
+  -- it is so whether there is such a message or not
   from : (b : Bool) → nat_lt m (length db.messages) ≡ b
       → AllFine 2 (if b then call_statement (message_name m) [] ∷ [] else [])
   from true is = (
@@ -115,10 +118,12 @@ message_fine db m limits = from (nat_lt m (length db.messages)) refl where
   )
   from false is = tt
 
+-- the statements of a get are formed, with a depth greater than that of the statements after it
 got_fine : (most more : ℕ) (params : List ℕ) (taken left : List Statement) → 4 ≤ most → most < more
     → list_all is_number params ≡ true → AllFine most taken → AllFine most left
     → AllFine more (get_statements params taken left)
 got_fine most more params taken left enough up small = from taken left where
+  -- the test whether an item was got is formed, with statements for both cases
   parted : (taken left : List Statement) → AllFine most taken → AllFine most left
       → Fine more (s.If (c.Nonzero (call_value (opcode_name get_number)
       (next_parameters 1 params))) (statements taken) (statements left))
@@ -206,6 +211,7 @@ module _ (db : Database) (limits : KeepsLimits db) where
 
 -- ---- a line
 
+-- the two opcode numbers in each natural number are natural
 numbers_natural : (pairs : List ℕ) → list_all is_natural pairs ≡ true
     → list_all is_natural (flat_map (λ pair. pair / 150 ∷ pair % 150 ∷ []) pairs) ≡ true
 numbers_natural [] h = refl
@@ -224,6 +230,7 @@ numbers_few : (pairs : List ℕ)
 numbers_few [] = refl
 numbers_few (pair ∷ pairs) = omega (arith, numbers_few pairs)
 
+-- the parameters among natural conditions can be written as numbers
 parameters_small : (conds : List ℕ) → list_all is_natural conds ≡ true
     → list_all is_number (map argument_of (filter (λ c. condition_code c == 0) conds)) ≡ true
 parameters_small [] h = refl
@@ -254,6 +261,7 @@ pairs_are a = length a.pairs == 2 && list_all is_natural a.pairs
 abbrev lists_are : Action → Bool
 lists_are a = list_all is_natural a.conds && pairs_are a
 
+-- a line of a file has natural conditions, and two natural numbers for its opcodes
 pub natural_line : (a : Action) → is_action a ≡ true → Natural a
 natural_line a h = record { conds = three.0; two = is_two four.0; pairs = four.1 } where
   one : (length a.conds == 5) && lists_are a ≡ true
@@ -269,6 +277,7 @@ natural_line a h = record { conds = three.0; two = is_two four.0; pairs = four.1
   is_two : (length a.pairs == 2) ≡ true → length a.pairs ≡ 2
   is_two h = grind (arith, h)
 
+-- the body of a line's routine is formed, and at most 8 deep
 pub body_fine : (db : Database) (a : Action) → KeepsLimits db → Natural a → AllFine 8
     (line_body db a)
 body_fine db a limits h = joined 8 (map condition_test (filter is_test a.conds)) _
@@ -287,6 +296,7 @@ line_formed db k a limits h small = both _ _ (line_named k small) (both _ _
     (grind (arith, all_shallow 8 (line_body db a) (body_fine db a limits h)))
     (all_formed 8 (line_body db a) (body_fine db a limits h)))
 
+-- the routines of lines from a number on are well formed, where none is numbered 5,000 or more
 lines_formed : (db : Database) → KeepsLimits db → (k : ℕ) (actions : List Action)
     → k + length actions ≤ 5000 → list_all is_action actions ≡ true
     → is_well_formed (lines_from db k actions) ≡ true
@@ -316,6 +326,7 @@ module _ (names : List (List ℕ)) (given : List ℕ) where
   abbrev is_formed_row : Row → Bool
   is_formed_row row = is_formed_directive (d.Routine (row_routine names given row))
 
+  -- where all routines of a table are well formed, so are those that are used
   used_formed : (test : ℕ → Bool) (helpers : List Helper) → RowsFormed (map (λ h. h.1) helpers)
       → RowsFormed (used_rows test helpers)
   used_formed test [] all = refl
@@ -380,6 +391,8 @@ header_light h all = (and_parts (is_whole h.light) (list_all is_whole (h.home �
   three : list_all is_whole (h.light ∷ h.home ∷ []) ≡ true
   three = (and_parts (is_whole h.treasures) (list_all is_whole (h.light ∷ h.home ∷ [])) two).1
 
+-- the routines of conditions and opcodes are well formed, where the numbers of the database that
+-- they hold can be written
 helpers_formed : (style : Style) (db : Database) → is_number (length db.items) ≡ true
     → is_number (length db.rooms) ≡ true → is_number (last_room db) ≡ true
     → is_number (light_number db.header.light) ≡ true

@@ -52,6 +52,7 @@ module _ {style : Style} {db : Database} {p : Program} (known : Known style db p
       → list_any (uses kinds.Opcode db) move_numbers ≡ true
   moving n i at used = some_is (uses kinds.Opcode db) move_numbers i at used
 
+  -- 53: an item goes to the room where the player is
   pub opcode_53 : OpcodeSpec style db p 53
   unfolding body_of action_names digits
   opcode_53 used called_here a b s noun w d room stands =
@@ -65,6 +66,7 @@ module _ {style : Style} {db : Database} {p : Program} (known : Known style db p
       (next (call_alone (argument (local refl) (argument (global refl stands.ready.shows.room_is)
       (called m.does)))) end) at_end)) m.leaves)
 
+  -- 55: an item goes to place 0
   pub opcode_55 : OpcodeSpec style db p 55
   unfolding body_of action_names digits
   opcode_55 used called_here a b s noun w d room stands =
@@ -78,6 +80,7 @@ module _ {style : Style} {db : Database} {p : Program} (known : Known style db p
       (next (call_alone (argument (local refl) (argument number (called m.does)))) end) at_end))
       m.leaves)
 
+  -- 59: an item goes to place 0, as by 55
   pub opcode_59 : OpcodeSpec style db p 59
   unfolding body_of action_names digits
   opcode_59 used called_here a b s noun w d room stands =
@@ -91,6 +94,7 @@ module _ {style : Style} {db : Database} {p : Program} (known : Known style db p
       (next (call_alone (argument (local refl) (argument number (called m.does)))) end) at_end))
       m.leaves)
 
+  -- 74: an item goes to place 255, so that it is carried
   pub opcode_74 : OpcodeSpec style db p 74
   unfolding body_of action_names digits
   opcode_74 used called_here a b s noun w d room stands =
@@ -104,6 +108,7 @@ module _ {style : Style} {db : Database} {p : Program} (known : Known style db p
       (next (call_alone (argument (local refl) (argument number (called m.does)))) end) at_end))
       m.leaves)
 
+  -- 75: an item goes to the place of another
   pub opcode_75 : OpcodeSpec style db p 75
   unfolding body_of action_names digits
   opcode_75 used called_here a b s noun w d room stands =
@@ -296,6 +301,7 @@ module _ {style : Style} {db : Database} {p : Program} (known : Known style db p
         (subst (λ z. negsuc 0 ≤ℤ z) (sym is)
         (least_light stands.ready.fits.light.0 stands.ready.fits.light.1)))
 
+  -- 69: the light lasts as long as at first, flag 16 is cleared, and item 9 is carried
   pub opcode_69 : OpcodeSpec style db p 69
   unfolding body_of action_names digits
   opcode_69 used called_here a b s noun w d room stands = two_less (λ d. CallActs None db p d

@@ -129,6 +129,7 @@ module _ {style : Style} {db : Database} {p : Program} (known : Known style db p
   abbrev tests_then : List ℕ → List Statement → Statements
   tests_then cs ys = statements (map condition_test (filter is_test cs) ++ ys)
 
+  -- where all conditions hold, the statements after their tests are run
   tests_hold : (cs : List ℕ) → AllByRecursion CanTest cs → list_all (condition_holds db s) cs ≡ true
       → (ys : List Statement) {e : Outcome} {last : Scope} {w' : Stage} {m : ℕ}
       → Runs p d (statements ys) scope w e last w' m
@@ -146,6 +147,7 @@ module _ {style : Style} {db : Database} {p : Program} (known : Known style db p
         by true is more = within (omega arith) more
         by false is more = within (omega arith) (holds_then c can.0 is parts.0 more)
 
+  -- where a condition fails, the tests return 0 and change nothing
   tests_fail : (cs : List ℕ) → AllByRecursion CanTest cs
       → list_all (condition_holds db s) cs ≡ false → (ys : List Statement)
       → Runs p d (tests_then cs ys) scope w (Returns (pos 0)) scope w (length cs * test_steps db)
@@ -228,6 +230,7 @@ some_body [] [] last k = refl
 
 -- ---- how much a line has
 
+-- a line of a file has five conditions and four opcode numbers
 sizes_of : (a : Action) → is_action a ≡ true
     → (length a.conds ≡ 5) × (length (opcode_numbers a) ≡ 4)
 sizes_of a h = (same 5 (length a.conds) conds.0, opcodes_long) where
@@ -416,6 +419,7 @@ module _ {style : Style} {db : Database} {p : Program} (known : Known style db p
 many : {db : Database} → KeepsLimits db → length db.actions ≤ 5000
 many {db} limits = few_of_list 5000 db.actions limits.sizes.actions
 
+-- a program that has the routines of lines meets the specification of lines
 pub line_spec : {style : Style} {db : Database} {p : Program} → Known style db p
     → AllByRecursion (HasWords p.width) db.actions
     → ((name : List ℕ) (at : ℕ) → p.notes name at ≡ line_number name) → LinesAreNumbered

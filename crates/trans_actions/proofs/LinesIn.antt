@@ -116,6 +116,7 @@ lower_apart db m n (a ∷ actions) less fits = by (is_zero_action a)
         more,
       )
 
+-- the routines of lines from a number on have distinct names
 pub lines_distinct : (db : Database) (n : ℕ) (actions : List Action)
     → n + length actions ≤ 2 ^ 63 → Distinct (lines_from db n actions)
 lines_distinct db n [] fits = tt

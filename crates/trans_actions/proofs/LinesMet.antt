@@ -41,6 +41,8 @@ rows_held : (p : Program) (names : List (List ℕ)) (given : List ℕ) (xs ys : 
 rows_held p names given xs ys h =
     subst (Holds p) (map-append (λ row. Routine (row_routine names given row)) xs ys) h
 
+-- where a program serves the routines of lines, those that they call meet their specifications, and
+-- messages are said, each line meets its specification
 pub lines_meet_specs : Laws → LinesAreNumbered → LinesMeetSpecs
 lines_meet_specs laws numbered style width db p translates serves helpers texts messages =
     line_spec (record {

@@ -144,6 +144,7 @@ module _ {style : Style} {db : Database} {p : Program} (known : Known style db p
           stands.ready.shows.places_are)) fits (sym (append-nil w.past));
     }
 
+  -- `move_item` moves an item as the rules do, and does nothing for one that isn't there
   pub moves : list_any (uses kinds.Opcode db) move_numbers ≡ true → (d : ℕ) → Fits db (moved s a b)
       → Moves db p (suc d) a b noun w (moved s a b)
   unfolding body_of action_names

@@ -58,6 +58,7 @@ module _ {style : Style} {db : Database} {p : Program} (known : Known style db p
   none : OpcodeSpec style db p 73
   none used called_too = cc
 
+  -- the routine of each opcode from 53 to 89 meets its specification
   all_specs : AllFrom (OpcodeSpec style db p) 53 37
   all_specs = (
     opcode_53 known,
@@ -188,6 +189,7 @@ is_get _ = false
 abbrev IsNoGet : ℕ → Type 0
 IsNoGet n = is_get (opcode_of n) ≡ true → ⊥
 
+-- no number from 53 to 89 means a get
 no_others : AllFrom IsNoGet 53 37
 no_others = (
   λ h. cc,
@@ -296,6 +298,7 @@ no_others = (
   ),
 )
 
+-- 52 alone means a get
 get_number_is : (n : ℕ) → is_get (opcode_of n) ≡ true → n ≡ 52
 get_number_is n h = by (nat_eq n 0) (nat_lt n 52) (nat_lt n 90) (nat_lt n 102) refl refl refl refl h
   where

@@ -47,6 +47,7 @@ refill_named style (negsuc n) = refl
 abbrev HelperNamed : DirectiveTree → Type 0
 HelperNamed x = is_helper_name (name_of x) ≡ true
 
+-- each routine of a condition or an opcode has a name of these routines, but none of a line
 helpers_named : (style : Style) (db : Database)
     → AllByRecursion HelperNamed (helper_directives style db)
 helpers_named style db = each_helper style db HelperNamed (record {

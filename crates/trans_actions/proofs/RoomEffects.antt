@@ -208,6 +208,7 @@ module _ {style : Style} {db : Database} {p : Program} (known : Known style db p
       (flag_left s noun w stands 0 false
       (known.laws.opcode_fits db (Flags ClearZero) a b s known.limits stands.ready.fits)))
 
+  -- 58: a flag below 32 is set
   pub opcode_58 : OpcodeSpec style db p 58
   unfolding body_of action_names digits
   opcode_58 used called_here a b s noun w d room stands = one_less (λ d. CallActs None db p d
@@ -230,6 +231,7 @@ module _ {style : Style} {db : Database} {p : Program} (known : Known style db p
             (next (if_false (compare (local refl) number there) end) end) at_end))
             (nothing_left stands)
 
+  -- 60: a flag below 32 is cleared
   pub opcode_60 : OpcodeSpec style db p 60
   unfolding body_of action_names digits
   opcode_60 used called_here a b s noun w d room stands = one_less (λ d. CallActs None db p d

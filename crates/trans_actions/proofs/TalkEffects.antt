@@ -137,6 +137,7 @@ module _ {style : Style} {db : Database} {p : Program} (known : Known style db p
       (noun_is_said known s noun w stands
       (saying_noun 84 0 refl used) k)) (said_left noun stands))
 
+  -- 85: the noun is said, and then the end of a line
   pub opcode_85 : OpcodeSpec style db p 85
   unfolding body_of action_names digits text_of
   opcode_85 used called_here a b s noun w d room stands = two_less (λ d. CallActs None db p d
@@ -152,6 +153,7 @@ module _ {style : Style} {db : Database} {p : Program} (known : Known style db p
 
   -- ---- endings
 
+  -- 63: the text that the game is over is said, and the game ends with 1 in `over`
   pub opcode_63 : OpcodeSpec style db p 63
   unfolding body_of action_names digits
   opcode_63 used called_here a b s noun w d room stands = one_less
@@ -171,6 +173,7 @@ module _ {style : Style} {db : Database} {p : Program} (known : Known style db p
         };
       })
 
+  -- 65: the score is said, and where all treasures are stored, the game ends with 3 in `over`
   pub opcode_65 : OpcodeSpec style db p 65
   unfolding body_of action_names digits
   opcode_65 used called_here a b s noun w d room stands = one_less (λ d. CallActs

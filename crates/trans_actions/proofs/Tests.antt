@@ -290,6 +290,7 @@ module _ {style : Style} {db : Database} {p : Program} (known : Known style db p
 
   -- ---- all of them, by their numbers
 
+  -- the routine of each condition from 1 to 19 meets its specification
   pub condition_specs : AllFrom (ConditionSpec db p) 1 19
   condition_specs = (
     cond_1,

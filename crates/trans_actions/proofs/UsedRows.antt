@@ -94,6 +94,7 @@ module _ (style : Style) (db : Database) (P : DirectiveTree → Type 0) where
       (each_used names given P (uses Opcode db) opcodes h.opcodes)
       (each_used names given P (uses Opcode db) (refill db.header.light) h.refill))
 
+  -- what holds of all these directives holds of each routine of a table that is used
   pub of_helpers : AllByRecursion P (helper_directives style db) → EachUsed
   of_helpers h = let names = action_names style in let given = numbers db in
       let others = last_rows names given P used_conditions
@@ -220,6 +221,7 @@ unfolding action_names
 opcodes_refill style db (pos n) = refl
 opcodes_refill style db (negsuc n) = refl
 
+-- the routines of conditions and opcodes have distinct names
 pub helpers_distinct : (style : Style) (db : Database) → Distinct (helper_directives style db)
 helpers_distinct style db = subst Distinct (sym all_are) (joined_distinct style db first
     (second ++ third)

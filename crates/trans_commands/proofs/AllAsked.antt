@@ -24,6 +24,7 @@ use Rattle.trans_commands.proofs.Known.{Known}
 
 -- ---- bytes in a buffer
 
+-- byte j of a part of a buffer that begins at `at` is byte `at + j` of the buffer
 byte_at : (all : List ℤ) (at n j k : ℕ) → j < n → at + j ≡ k
     → slice_get (take n (drop at all)) j ≡ slice_get all k
 byte_at all at zero j k less is = absurd (omega (arith, less))

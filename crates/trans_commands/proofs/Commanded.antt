@@ -62,6 +62,7 @@ module _ {style : Style} {db : Database} {p : Program} (known : Known style db p
     direction_is true h = grind (arith, h)
     direction_is false h = grind (arith, h, some)
 
+  -- where the verb is go, `command` does what the rules do, with a noun or without one
   goes : nat_eq verb go_verb ≡ true → (noun : Option ℕ)
       → w.globals (codes "nnum") ≡ Some (pos (or_zero noun)) → IsNoun db noun
       → Commands (going (in_style style db) typed noun s)
@@ -101,6 +102,7 @@ module _ {style : Style} {db : Database} {p : Program} (known : Known style db p
         (is_going is) (obey_acts known s typed w stands go_verb
         (Some noun) going_some there d room)))))
 
+  -- `command` does what the rules do with the verb and the noun
   command_acts : (noun : Option ℕ) → w.globals (codes "nnum") ≡ Some (pos (or_zero noun))
       → IsNoun db noun → Commands (command_result (in_style style db) typed verb noun s)
   unfolding body_of
@@ -146,6 +148,8 @@ command_spec {style} {db} {p} known verb noun s typed w d room some there verb_i
     (acts_within (command_fits db (is_there 255 db.items known.limits.sizes.items))
     (command_acts known s typed w stands verb some verb_is k few noun noun_is there)))
 
+-- where a program serves the routines of commands, and the search and the routines of items meet
+-- their specifications, `command` meets its specification
 pub commands_meet_specs : Laws → CommandsMeetSpecs
 commands_meet_specs laws style width db p translates serves helpers searches = command_spec (record {
   limits = translates.limits;

@@ -239,6 +239,8 @@ module _ {style : Style} {db : Database} {p : Program} (known : Known style db p
 
   -- ---- all turns
 
+  -- the loop over the items from one on gets or drops each as the rules do, in at most `item_steps`
+  -- steps for each
   pub turns_from : (rest : List Item) (i : ℕ) (m : Bool) (s : State) (w : Stage)
       → StandsFor db s typed w → drop i db.items ≡ rest → i + length rest ≡ length db.items
       → ItemsAct i m w (all_items t (in_style style db) typed i rest s)

@@ -51,6 +51,8 @@ module _ {style : Style} {db : Database} {p : Program} (known : Known style db p
     last : ℕ
     turns : Loops p (suc d) find_loop (at_item c i) w (found_outcome o) (at_item c last) w most
 
+  -- from an item on, the loop finds the first at hand that is of a class, in at most eight steps
+  -- for each item and one more
   find_from : (c i : ℕ) (rest : List Item) → drop i db.items ≡ rest
       → i + length rest ≡ length db.items
       → Finds c i (classed db t s c i rest) (8 * length rest + 1)
@@ -140,6 +142,7 @@ module _ {style : Style} {db : Database} {p : Program} (known : Known style db p
       (if_false (compare (local refl) number (eq_is c 0 ∙ some)) end)
       (returns (for (set_variable number refl) finds.turns))) by_return)
 
+  -- by the class of a noun, `find_item` finds the item that the rules find by the noun's word
   pub find_item : (noun : ℕ) → 1 ≤ noun → noun < length db.words
       → Gives (class_of_noun db (root db noun))
       (item_named t db.header.length (root db noun) 0 db.items s)

@@ -107,6 +107,8 @@ module _ {style : Style} {db : Database} {p : Program} (known : Known style db p
       (pos (verb_for t) ∷ pos i ∷ []) w sought.value.state sought.events ending (next_steps db)
   NextActs found b = NextLeaves b
 
+  -- where the search doesn't end the game, `move_next` refuses a get with full hands, and otherwise
+  -- moves the item
   after_search : (v : ℤ) → CallLeaves p (suc (suc d)) (codes "search") searched_values w v db
       sought.value.state typed sought.events (search_steps db) → (b : Bool)
       → is_refused t db sought.value.state ≡ b → NextLeaves b
@@ -156,6 +158,7 @@ module _ {style : Style} {db : Database} {p : Program} (known : Known style db p
             (left_then twice (put_left known s1 typed w2 twice.stands t i less)));
       }
 
+  -- `move_next` does what the rules do at the turn of an item, whatever the search for it finds
   pub move_next : (b : Bool) → is_refused t db sought.value.state ≡ b
       → NextActs sought.value.found b
   unfolding body_of

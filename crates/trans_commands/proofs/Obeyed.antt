@@ -54,6 +54,7 @@ module _ {style : Style} {db : Database} {p : Program} (known : Known style db p
   more_room : 100 ≤ suc d
   more_room = omega (arith, room)
 
+  -- `transfer` gets or drops all items, or one, as the rules do
   pub transfer_acts : (noun : Option ℕ) → IsNoun db noun
       → let r = transfer t (in_style style db) typed noun s in CallActs r.value.over db p
       (suc (suc (suc (suc (suc d))))) (codes "transfer")
@@ -187,6 +188,7 @@ module _ {style : Style} {db : Database} {p : Program} (known : Known style db p
           (this_holds (compare (local refl) number (eq_is verb 18 ∙ h)))))
       by false false g h = refused_by g h
 
+  -- `obey` does what the rules do with a verb and a noun, whatever the search finds
   pub obey_acts : Obeys (by_actions (in_style style db) typed verb noun s)
   unfolding body_of
   obey_acts = by searched.value.found (known.searches verb noun s typed w

@@ -38,6 +38,8 @@ module _ {style : Style} {db : Database} {p : Program} (known : Known style db p
 
   -- ---- at hand
 
+  -- `at_hand` tells whether an item is there to be got, or is carried and can be dropped, in at
+  -- most three steps
   pub at_hand : (t : Transfer) (i d : ℕ) → i < length db.items → Does p (suc d) (codes "at_hand")
       (pos (verb_for t) ∷ pos i ∷ []) w (pos (bit (is_at_hand t s i))) w 3
   unfolding body_of
@@ -69,6 +71,8 @@ module _ {style : Style} {db : Database} {p : Program} (known : Known style db p
 
   -- ---- to be taken with all others
 
+  -- `can_take` tells whether an item is at hand and has a word by which it is taken, in at most six
+  -- steps
   pub can_take : (t : Transfer) (i d : ℕ) (item : Item) (rest : List Item) → i < length db.items
       → drop i db.items ≡ item ∷ rest → Does p (suc (suc d)) (codes "can_take")
       (pos (verb_for t) ∷ pos i ∷ []) w (pos (bit (is_taken t i item s))) w 6
@@ -97,6 +101,7 @@ module _ {style : Style} {db : Database} {p : Program} (known : Known style db p
 
   -- ---- full hands
 
+  -- `is_refused` tells whether hands are full at a get, and nothing is refused at a drop
   pub refused : (t : Transfer) (d : ℕ) → text_room ≤ d → Does p (suc d) (codes "is_refused")
       (pos (verb_for t) ∷ []) w (pos (bit (is_refused t db s))) w (text_steps db + 3)
   unfolding body_of
@@ -126,6 +131,8 @@ module _ {style : Style} {db : Database} {p : Program} (known : Known style db p
   abbrev pub put_stage : Transfer → ℕ → Stage
   put_stage t i = with_global (codes "redraw") (pos 1) (placed_stage t i)
 
+  -- `put_item` puts an item where it goes and sets the mark to describe the room, in at most three
+  -- steps
   pub put_item : (t : Transfer) (i d : ℕ) → i < length db.items → Does p (suc d) (codes "put_item")
       (pos (verb_for t) ∷ pos i ∷ []) w (pos 1) (put_stage t i) 3
   unfolding body_of
@@ -140,6 +147,7 @@ module _ {style : Style} {db : Database} {p : Program} (known : Known style db p
       (place_at s.places.items stands.ready.shows.guard i (has_place i less))))) end))
       (next (assign (set_variable number (ap is_some stands.ready.shows.mark_is))) end)) at_end)
 
+  -- the stage after `put_item` stands for the state in which the item was transferred
   pub put_left : (t : Transfer) (i : ℕ) → i < length db.items
       → StageLeft db (transferred t i s) typed [] w (put_stage t i)
   put_left t i less = record {

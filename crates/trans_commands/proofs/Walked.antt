@@ -44,6 +44,7 @@ module _ {style : Style} {db : Database} {p : Program} (known : Known style db p
     (typed : List ℕ) where
   -- ---- no exit
 
+  -- `no_way` says that there is no exit, and in the dark it ends the game with a broken neck
   no_way_by : (w : Stage) → StandsFor db s typed w → (d : ℕ) → text_room ≤ d → (b : Bool)
       → is_dark s ≡ b → let t = no_way style b s in CallActs t.value.over db p (suc d)
       (codes "no_way") [] w typed t.value.state t.events (text_steps db + 6)

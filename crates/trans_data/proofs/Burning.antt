@@ -62,6 +62,7 @@ module _ (style : Style) (db : Database) (limits : KeepsLimits db) (p : Program)
   abbrev w2 : Stage
   w2 = said text w1
 
+  -- the stage after the text shows the state in which the light has fallen
   shows2 : Shows s1 w2
   shows2 = record {
     room_is = shows1.room_is;

@@ -11,6 +11,7 @@ use Rattle.trans_data.proofs.Rated.{score_does}
 use Rattle.trans_data.proofs.LightWords.{light_word}
 use Rattle.trans_data.proofs.Burning.{burn_does}
 
+-- where a program serves them, the routines of texts and of the light meet their specifications
 pub data_meets_specs : DataMeetsSpecs
 data_meets_specs style width db p translates serves =
     let has = all_of_them style db width p serves in

@@ -50,6 +50,7 @@ use Rattle.trans_data.proofs.Listed.{separator_said, said_by, last_said, in_turn
 no_room : Room
 no_room = record { exits = []; text = [] }
 
+-- each room of a file has six exits
 six_exits : (rooms : List Room) → list_all is_room rooms ≡ true → (j : ℕ) → j < length rooms
     → length (slice_index_or rooms j (record { exits = []; text = [] })).exits ≡ 6
 six_exits [] all j less = absurd (omega (arith, less))
@@ -62,6 +63,7 @@ six_exits (room ∷ rooms) all (suc j) less =
     six_exits rooms (and_parts (is_room room) (list_all is_room rooms) all).1 j
     (omega (arith, less))
 
+-- the table of exits has six entries for each room, where each room has six exits
 many_exits : (db : Database) (rooms : List Room)
     → ((j : ℕ) → j < length rooms
     → length (slice_index_or rooms j (record { exits = []; text = [] })).exits ≡ 6)
@@ -198,6 +200,7 @@ module _ (style : Style) (db : Database) (limits : KeepsLimits db) (p : Program)
               (next (if_false (exit is) end) end)
               (increment refl (counted_up p.width i (omega (arith, less)))) (more n w here there))
 
+  -- `list_exits` says the names of the room's exits with separators, in at most 64 steps
   pub exits_do : (d : ℕ) (w : Stage) → w.globals (codes "here") ≡ Some (pos s.room)
       → w.arrays (codes "exits") ≡ Some (naturals (exits db))
       → Does p (suc (suc d)) (codes "list_exits") [] w

@@ -32,6 +32,7 @@ item_does style db p d k w limits has few =
     (omega (arith, few, many_texts db))
     (omega (arith, few_items db limits, many_texts db)))
 
+-- where a program serves them, the routines of items and places meet their specifications
 pub helpers_meet_specs : HelpersMeetSpecs
 helpers_meet_specs style width db p translates serves =
     let has = all_of_them style db width p serves in

@@ -49,6 +49,7 @@ one_less n = omega (arith, ints)
 same_less : (z : ℤ) → z +ℤ negsuc 0 ≡ z -ℤ pos 1
 same_less z = omega (arith, ints)
 
+-- to take one from a natural number that is at most a word of a width wraps nothing
 wrapped_less : (width : Width) (n : ℕ) (most : ℤ) → pos n ≤ℤ most → is_word_of width most ≡ true
     → word_sum width (pos n) (negsuc 0) ≡ pos n +ℤ negsuc 0
 wrapped_less W16 zero most few word =

@@ -47,6 +47,7 @@ abbrev pub separated : List ℕ → t.Statement
 separated separator = t.If (c.Nonzero (v.Name (codes "n")))
     (t.statements (t.Print (t.Text separator ∷ []) ∷ [])) t.NoStatements
 
+-- the statement says the separator where `n` isn't 0, in at most two steps
 pub separator_said : {p : Program} {d : ℕ} {s : Scope} (separator : List ℕ) (n : ℕ) (w : Stage)
     → found (codes "n") s.locals ≡ Some (pos n)
     → Executes p d (separated separator) s w Normal s

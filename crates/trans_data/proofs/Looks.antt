@@ -162,6 +162,7 @@ module _ (style : Style) (db : Database) (limits : KeepsLimits db) (p : Program)
         ∙ some_there x xs))
         (next (call_alone (argument number (called lists))) end))
 
+  -- `look` says what is seen in the room, or that it is too dark
   pub look_does : (d : ℕ) (w : Stage) → Shows s w → HasTables db w
       → Does p (suc (suc (suc (suc d)))) (codes "look") [] w (pos 1)
       (said (looked (in_style style db) s) w) (13 * length db.items + 120)
@@ -203,6 +204,7 @@ module _ (style : Style) (db : Database) (limits : KeepsLimits db) (p : Program)
               ∙ said_three (described style (room_at db s.room).text)
               (exits_listed (exit_names db s.room)) (items_seen style (items_at db s s.room)) w
 
+  -- `inventory` says what is carried
   pub inventory_does : (d : ℕ) (w : Stage) → Shows s w
       → Does p (suc (suc (suc d))) (codes "inventory") [] w (pos 1)
       (said (inventory (in_style style db) s) w) (13 * length db.items + 30)

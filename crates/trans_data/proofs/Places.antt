@@ -68,6 +68,7 @@ module _ (style : Style) (db : Database) (limits : KeepsLimits db) (p : Program)
   small : length db.items < 32768
   small = omega (arith, few_items db limits)
 
+  -- `place` returns the place of an item, in at most three steps
   pub place_does : (d item : ℕ)
       → Does p (suc d) (codes "place") (pos item ∷ []) w (pos (place_of s item)) w 3
   unfolding body_of routine_names numbers
@@ -87,6 +88,7 @@ module _ (style : Style) (db : Database) (limits : KeepsLimits db) (p : Program)
         (compare (local refl) (valued (small_number p.width small) number) h) end)
         (returns return_false)) by_return))
 
+  -- `near` tells whether an item is carried or in the room, in at most eight steps
   pub near_does : (d item : ℕ)
       → Does p (suc (suc d)) (codes "near") (pos item ∷ []) w (pos (bit (is_near s item))) w 8
   unfolding body_of routine_names numbers
@@ -117,6 +119,7 @@ module _ (style : Style) (db : Database) (limits : KeepsLimits db) (p : Program)
         (eq_is (place_of s item) s.room ∙ k)) none_holds))) end)
         (returns return_false))) by_return)
 
+  -- `dark` tells whether it is dark, in at most 14 steps
   pub dark_does : (d : ℕ)
       → Does p (suc (suc (suc d))) (codes "dark") [] w (pos (bit (is_dark s))) w 14
   unfolding body_of routine_names numbers
@@ -218,6 +221,8 @@ module _ (style : Style) (db : Database) (limits : KeepsLimits db) (p : Program)
     few_items db limits,
   )
 
+  -- `full` tells whether as many items are carried as can be, in at most three steps for each item
+  -- and nine more
   pub full_does : (d : ℕ) → Does p (suc (suc (suc d))) (codes "full") [] w
       (pos (bit (is_full db s))) w (3 * length db.items + 9)
   unfolding body_of routine_names numbers

@@ -21,6 +21,7 @@ use Rattle.trans_data.specs.Routines.{routine_names, table_rows, chosen_rows, fi
 use Rattle.trans_data.specs.Texts.{text_routine, message_directives, item_texts, room_texts, spoken_directives, text_directives}
 use Rattle.trans_data.specs.Laws.{PartsAreServed}
 
+-- a program that serves two lists of directives serves each of them
 pub parts_are_served : PartsAreServed
 parts_are_served width xs ys p h = (
   record {
@@ -74,6 +75,7 @@ pub record HasAll (style : Style) (db : Database) (p : Program) : Type 0 where
   pub say_room : Has p (text_routine (codes "say_room") (room_texts style db))
   pub messages : Holds p (message_directives 0 db.messages)
 
+-- a program that serves the routines of texts has each of them
 pub all_of_them : (style : Style) (db : Database) (width : Width) (p : Program)
     → Serves width (text_directives style db) p → HasAll style db p
 unfolding table_rows routine_names

@@ -81,6 +81,7 @@ message_is db m less = ap (λ (b : Bool). if b then slice_index_or db.messages m
     ∷ [] else [])
     (sym (under m (length db.messages) less))
 
+-- the routine of a message says it, and the end of a line, in at most two steps
 pub message_does : (db : Database) (p : Program) (d m : ℕ) (w : Stage)
     → ((name : List ℕ) (at : ℕ) → p.notes name at ≡ line_number name)
     → Holds p (message_directives 0 db.messages) → m < length db.messages

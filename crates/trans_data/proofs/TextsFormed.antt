@@ -45,6 +45,7 @@ module _ (a b c d e : ℕ) (count : is_number a ≡ true) (carry : is_number b �
   table_formed true counted vanish = rw (count, carry, home, all) refl
   table_formed false counted vanish = rw (count, carry, home, all) refl
 
+  -- the routines that are chosen by the treasures and the style are well formed, whichever they are
   chosen_formed : (style : Style) (neg counted vanish : Bool) → is_well_formed (rows_directives
       (routine_names style) (a ∷ b ∷ c ∷ d ∷ e ∷ [])
       ((14, 20 ∷ [], if neg then LESS_HUNDREDTHS else HUNDREDTHS)
@@ -63,6 +64,8 @@ module _ (a b c d e : ℕ) (count : is_number a ≡ true) (carry : is_number b �
 small_number : (n : ℕ) → n < 32768 → is_number n ≡ true
 small_number n h = grind (arith, h)
 
+-- the routines of the table, and those that are chosen, are well formed for a database that keeps
+-- its limits
 fixed_formed : (style : Style) (db : Database) → KeepsLimits db
     → is_well_formed (fixed_directives style db) ≡ true
 unfolding numbers
@@ -206,6 +209,7 @@ messages_formed m (x ∷ xs) few h = both_true
     (messages_formed (m + 1) xs (omega (arith, few))
     (and_parts (is_file_text x) (list_all is_file_text xs) h).1)
 
+-- all routines of texts are well formed for a database that keeps its limits
 pub texts_formed : TextsFormed
 texts_formed style db limits = two_lists is_formed_directive (fixed_directives style db)
     (spoken_directives style db) (fixed_formed style db limits)

@@ -29,6 +29,7 @@ module _ (name : List ℕ) where
   abbrev calls_in_cases : Enclosure → Cases → ℕ
   calls_in_cases e cases = demands_calls name (cases_demands e cases)
 
+  -- the case of a verb calls a name as often as groups of that verb have it
   pub tries_calls : (e : Enclosure) (verb : ℕ) (gs : List Group)
       → calls_in e (statements (verb_tries verb gs)) ≡ at_verb name verb gs
   tries_calls e verb [] = refl

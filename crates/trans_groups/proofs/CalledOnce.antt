@@ -104,6 +104,8 @@ record Once (verb k : ℕ) (actions : List Action) (g : Group) : Type 0 where
   upper : g.head < k + length actions
   calls : at_verb (group_name g.head) verb (groups_of k actions) ≡ bit (verb_of g.vocab == verb)
 
+-- a group among those of the lines from one on has its head among these lines, and is called once,
+-- at its own verb
 once : (verb k : ℕ) (actions : List Action) (g : Group) (at : ℕ)
     → slice_get (groups_of k actions) at ≡ Some g → k + length actions ≤ 2 ^ 63
     → Once verb k actions g
@@ -178,6 +180,7 @@ there_has (x ∷ gs) (suc at) g there = later (verb_of x.vocab == verb_of g.voca
       later true h = refl
       later false h = h
 
+-- the search, the automatic step and the groups have one call of each group
 pub groups_are_called_once : GroupsAreCalledOnce
 groups_are_called_once db limits g there =
     by (verb_of g.vocab == 0) refl where

@@ -26,6 +26,7 @@ abbrev pub VerbsAreWords : Program → List Group → Type 0
 VerbsAreWords p gs =
     AllByRecursion (λ g. number_word p.width (verb_of g.vocab) ≡ pos (verb_of g.vocab)) gs
 
+-- the verbs of the groups are their own words, where the numbers of the lines are words
 pub verbs_are_words : (p : Program) → NumbersAreTheirWords → (k : ℕ) (actions : List Action)
     → AllByRecursion (HasWords p.width) actions → VerbsAreWords p (groups_of k actions)
 verbs_are_words p own k [] words = tt

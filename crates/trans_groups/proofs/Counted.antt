@@ -49,6 +49,7 @@ module _ (db : Database) where
   fewer : (n k y : ℕ) → n * y ≤ (n + k) * y
   fewer n k y = omega arith
 
+  -- all groups are tried, and ten more steps are taken, within the steps of a search
   pub enough_steps : tries_steps db (groups db) + 10 ≤ search_steps db
   enough_steps = omega (arith, tries_few (groups db), more, all_few (length db.actions) rest) where
     rest : ℕ

@@ -190,6 +190,7 @@ module _ (game : Game) (p : Program) (d : ℕ) (room : group_room ≤ d) (scope 
         chosen draw draws more parts.1 meets (nat_le draw (noun_of g.vocab))
         (tested w draw draws g.vocab there parts.0 (nat_le draw (noun_of g.vocab)) refl)
 
+  -- the chances of these groups do what the automatic step of the rules does with them
   chances_do : (gs : List Group) → AllByRecursion (GroupSpec game p) gs → ActsAll gs
   chances_do [] meets s w draws there fair stands = record {
     acts = record {
@@ -219,6 +220,7 @@ module _ (game : Game) (p : Program) (d : ℕ) (room : group_room ≤ d) (scope 
 abbrev without_noun : Stage → Stage
 without_noun w = with_global (codes "nb") (pos 0) w
 
+-- a stage that stands for a state stands for it with no noun typed, where `nb` is 0
 no_noun : {db : Database} {s : State} {noun : List ℕ} {w : Stage} → StandsFor db s noun w
     → StandsFor db s [] (without_noun w)
 no_noun h = let working = h.ready.working in record {
@@ -257,6 +259,7 @@ module _ (db : Database) (p : Program) (has : Has p (automatic_routine (groups d
   abbrev scope : Scope
   scope = record { directive = has.at; locals = [] }
 
+  -- `automatic` halts as its chances do, whether they come through, wait for a draw or end the game
   halts : (halt : Halt) (t : Traced Step AutoOutcome)
       → StepActsBy halt db p d (statements (chances (groups db))) scope (without_noun w)
       t.value.state
@@ -293,6 +296,7 @@ module _ (db : Database) (p : Program) (has : Has p (automatic_routine (groups d
     over_is = r.over_is;
   }
 
+-- where a program serves the automatic step, it meets its specification if each group does
 pub automatic_meets_spec : AutomaticMeetsSpec
 automatic_meets_spec style width db p serves meets s noun w d room fair stands =
     let t = automatic (in_style style db) (groups db) s w.draws in

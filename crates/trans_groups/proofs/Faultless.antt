@@ -211,6 +211,7 @@ module _ (width : Width) (known : Known) where
   calls_fine scope is own e (n ∷ ks) called =
       rw (is, own, called.0, calls_fine scope is own e ks called.1) refl
 
+  -- the routine of a group has no fault, where those of its lines are known
   parts_fine : (more : Bool) (head : ℕ) (tail : List ℕ)
       → is_formed_directive (Routine (head_routine more head tail)) ≡ true
       → CallFine known (line_name head) → LinesCalled tail
@@ -264,6 +265,7 @@ module _ (width : Width) (known : Known) where
 
 -- ---- all of them
 
+-- no verb of a group is too wide, where the numbers of the lines are words of the width
 verbs_fit : (width : Width) (n : ℕ) (actions : List Action)
     → AllByRecursion (HasWords width) actions
     → AllByRecursion (λ g. is_wide width (verb_of g.vocab) ≡ false) (groups_of n actions)
@@ -280,6 +282,8 @@ verbs_fit width n (a ∷ actions) words =
       by true more = more
       by false more = (word_wide width (verb_of a.vocab) words.0.verb, more)
 
+-- the search, the automatic step and the routines of groups have no fault, where the routines of
+-- lines and what they call among themselves are known
 pub trying_is_faultless : LinesHaveWords → TryingIsFaultless
 trying_is_faultless have_words width db known translates global lines knows = (
   search_fine width known (groups db) formed.0 called

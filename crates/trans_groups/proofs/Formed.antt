@@ -90,6 +90,7 @@ record CanName (g : Group) : Type 0 where
   head : g.head < 10000
   verb : is_number (verb_of g.vocab) ≡ true
 
+-- what the case of a verb tries is formed, and at most 5 deep
 tries_fine : (verb : ℕ) (gs : List Group) → AllByRecursion CanName gs → Fine (verb_tries verb gs)
 tries_fine verb [] can = record { formed = refl; low = omega arith }
 tries_fine verb (g ∷ gs) can =
@@ -110,6 +111,7 @@ tries_fine verb (g ∷ gs) can =
       }
       by false none more = more
 
+-- the chances of the automatic step are formed, and at most 5 deep
 chances_fine : (gs : List Group) → AllByRecursion CanName gs → Fine (chances gs)
 chances_fine [] can = record { formed = refl; low = omega arith }
 chances_fine (g ∷ gs) can = by (verb_of g.vocab == 0) (chances_fine gs can.1) where
@@ -138,6 +140,7 @@ automatic_formed gs can = let fine = chances_fine gs can in
 -- ---- cases
 
 module _ (all : List Group) (can_all : AllByRecursion CanName all) where
+  -- the cases of the search are formed, and at most 5 deep
   cases_formed : (gs : List Group) → AllByRecursion CanName gs
       → (are_formed_cases (verb_cases all gs) ≡ true) × (cases_depth (verb_cases all gs) ≤ 5)
   cases_formed [] can = (refl, omega arith)
@@ -180,6 +183,7 @@ calls_fine (k ∷ ks) can = let more = calls_fine ks can.1 in record {
   low = low_next _ _ (omega arith) more.low;
 }
 
+-- the routine of a group is formed, where its lines are numbered below 10,000
 parts_formed : (more : Bool) (head : ℕ) (tail : List ℕ) → head < 10000
     → AllByRecursion (λ k. k < 10000) tail
     → is_formed_routine (record {
@@ -205,6 +209,7 @@ parts_formed false head tail small can = rw (group_named head small, line_named 
 line_few : {db : Database} → KeepsLimits db → length db.actions ≤ 5000
 line_few {db} limits = few 5000 db.actions limits.sizes.actions
 
+-- each group among the lines of a file can be named, and its verb is a number
 can_name : {db : Database} → KeepsLimits db → (k : ℕ) (actions : List Action)
     → list_all is_action actions ≡ true → k + length actions ≤ 5000
     → AllByRecursion CanName (groups_of k actions)

@@ -83,6 +83,7 @@ module _ (game : Game) (p : Program) (meets : LineSpec game p) (g : Group)
     body = (routine_by g.head false []).body;
   })
 
+  -- where its line returns a value, the routine of a head alone returns it, and all is left as then
   alone_leaves : Alone → {v : ℤ}
       → CallLeaves p d (line_name g.head) [] w v game.db t.value.state noun t.events
       (line_steps game.db)
@@ -95,6 +96,8 @@ module _ (game : Game) (p : Program) (meets : LineSpec game p) (g : Group)
     leaves = x.leaves;
   }
 
+  -- the routine of a head alone does what the rules do, whatever its line comes to, where a line
+  -- that goes on has no others to try
   alone : Alone → (t.value.ran ≡ Passed true → tried_of game.db g.tail ≡ []) → (ran : Ran)
       → t.value.ran ≡ ran → HeadRan ran
       → let r = after_head ran game noun g.tail t in Acts r.value.ran r

@@ -65,6 +65,7 @@ lower_apart db m k (a ∷ actions) less fits = by (nat_eq a.vocab 0)
         more,
       )
 
+-- the routines of the groups from a line on have distinct names
 heads_distinct : (db : Database) (k : ℕ) (actions : List Action) → k + length actions ≤ 2 ^ 63
     → Distinct (routines db (groups_of k actions))
 heads_distinct db k [] fits = tt

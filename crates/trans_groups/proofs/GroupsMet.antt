@@ -30,6 +30,7 @@ pub groups_meet_specs : GroupsMeetSpecs
 groups_meet_specs style width db p translates serves meets = specs_of (in_style style db) p meets
     serves.notes_lines (groups db) (groups_stand db 0 db.actions refl) serves.holds
 
+-- where each line meets its specification, so do the groups, the automatic step and the search
 pub trying_meets_specs : GroupsMeetSpecs → AutomaticMeetsSpec → SearchMeetsSpec → TryingMeetsSpecs
 trying_meets_specs groups automatic search style width db p translates serves meets =
     let each = groups style width db p translates (record {

@@ -19,6 +19,7 @@ module _ (db : Database) where
   abbrev pub tried_of : List ℕ → List ℕ
   tried_of tail = filter (λ k. not (is_zero_action (action_at db k))) tail
 
+  -- the lines that are tried after a head are those of its tail that aren't all zeros
   tried_are : (k : ℕ) (actions : List Action) → drop k db.actions ≡ actions
       → tried_from k actions ≡ tried_of (tail_of k actions)
   tried_are k [] is = refl
@@ -41,6 +42,7 @@ module _ (db : Database) where
             (k ∷ tried_of (tail_of (k + 1) actions)) (tried_of (tail_of (k + 1) actions)))
             (ap is_zero_action at.1 ∙ own))
 
+  -- the routines of the heads from a line on are those of the groups from it on
   heads_are : (k : ℕ) (actions : List Action) → drop k db.actions ≡ actions
       → heads_from k actions ≡ map (λ g. Routine (group_routine db g)) (groups_of k actions)
   heads_are k [] is = refl
@@ -80,6 +82,7 @@ pub record GroupStands (db : Database) (g : Group) : Type 0 where
   pub tail : AllByRecursion (λ k. k < length db.actions) g.tail
 
 module _ (db : Database) where
+  -- each line of a tail is a line of the database
   tail_stands : (k : ℕ) (actions : List Action) → drop k db.actions ≡ actions
       → AllByRecursion (λ k. k < length db.actions) (tail_of k actions)
   tail_stands k [] is = tt
@@ -94,6 +97,7 @@ module _ (db : Database) where
     by true more = (at.0, more)
     by false more = tt
 
+  -- the head of each group has a line's routine, and its tail has lines of the database
   pub groups_stand : (k : ℕ) (actions : List Action) → drop k db.actions ≡ actions
       → AllByRecursion (GroupStands db) (groups_of k actions)
   groups_stand k [] is = tt

@@ -102,6 +102,7 @@ module _ (actions : List Action) where
   abbrev put : (ℕ → Option ℕ) → ℕ → ℕ → ℕ → Option ℕ
   put firsts own k verb = if own == verb then Some k else firsts verb
 
+  -- an index of the lines from one on becomes one from the line before on, with that line's entries
   pub index_step : (line : ℕ) (before after : ℕ → Option ℕ) (nexts : List (Option ℕ))
       (next : Option ℕ) → 0 < line → line - 1 < length actions
       → IsIndexFrom actions line before nexts → HasFirsts actions (line - 1) after

@@ -102,6 +102,7 @@ module _ (game : Game) (p : Program) (has : Has p (search_routine (groups game.d
   finds room false none = subst (λ r. Finds r.value.found r)
       (sym (none_found game typed verb noun (groups game.db) s none)) (none_has none)
 
+-- where a program serves the search, it meets its specification if each group does
 pub search_meets_spec : NumbersAreTheirWords → LinesHaveWords → SearchMeetsSpec
 search_meets_spec their_words have_words style width db p translates serves meets verb noun s typed w d
     room some is_noun stands =

@@ -66,6 +66,7 @@ pub past_of : (past : List Step) {mid last : List Step} (a b : List Step) → mi
 past_of past a b first later = later ∙ ap (λ xs. xs ++ b) first ∙ append_assoc past a b
 
 module _ {db : Database} {p : Program} {d : ℕ} {scope : Scope} where
+  -- what the automatic step does in at most n steps, it does in at most any greater number
   pub step_within : {halt : Halt} {block : Statements} {w : Stage} {s : State} {draws : List ℕ}
       {steps : List Step} {n most : ℕ} → n ≤ most
       → StepActs halt db p d block scope w s draws steps n

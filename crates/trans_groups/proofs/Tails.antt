@@ -68,6 +68,7 @@ abbrev pub calls_of : List ℕ → Statements
 calls_of ks = statements (map (λ k. call_statement (line_name k) []) ks)
 
 module _ {db : Database} {p : Program} {d : ℕ} {noun : List ℕ} {scope : Scope} where
+  -- what calls of lines do in at most n steps, they do in at most any greater number
   pub passes_within : {over : Option ℕ} {block : Statements} {w : Stage} {s : State}
       {steps : List Step} {n most : ℕ} → n ≤ most
       → BlockPasses over db p d block scope w noun s steps n

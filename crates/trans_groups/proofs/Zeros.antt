@@ -46,6 +46,7 @@ module _ (game : Game) (noun : List ℕ) where
       s ≡ traced [] (goes_on s)) (sym (zero_is pair parts.0))
       (ap (λ t. after [] (after [] t)) (nothing_done pairs parts.1 _ s))
 
+  -- a line of zeros passes, changes nothing, and isn't noted
   pub zero_line : (k : ℕ) (s : State) → is_zero_action (action_at game.db k) ≡ true
       → try_action game noun k s ≡ traced [] (record { state = s; ran = Passed false })
   zero_line k s h = let a = action_at game.db k in

@@ -283,6 +283,7 @@ module _ (distinct_law : ProgramsAreDistinct) (first : SignatureIsKnown)
       (sound_faultless faultless width known signs knows) ds
       (each_passes (is_sound width signs) ds sound)
 
+  -- no routine of the program has a fault
   no_fault_there : AllByRecursion (IsFaultless width known) routines
   no_fault_there = of_both (IsFaultless width known) (text_directives style db)
       (word_directives db ++ playing_routines style db from)
@@ -308,6 +309,7 @@ module _ (distinct_law : ProgramsAreDistinct) (first : SignatureIsKnown)
       → total_entries width known program ≤ 4000000
   few_is h = omega (arith, h)
 
+  -- no fault is found in the program
   program_accepted : name_fault width program ≡ None
   program_accepted = accepted width program (record {
     distinct = distinct;

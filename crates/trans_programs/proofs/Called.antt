@@ -81,6 +81,7 @@ unfolding body_of routine_names table_rows
 table_calls true k style given = refl
 table_calls false k style given = refl
 
+-- the routines that are chosen by the treasures and the style call no line and no group
 chosen_calls : (line : Bool) (k : ℕ) (style : Style) (given : List ℕ) (less counted vanish : Bool)
     → program_calls (name_by line k)
     (rows_directives (routine_names style) given (chosen_by less counted vanish)) ≡ 0

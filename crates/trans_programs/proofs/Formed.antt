@@ -41,6 +41,7 @@ rounds_formed (Some s) = refl
 
 module _ (tables : DataFormed) (texts : TextsFormed) (readers : ReaderIsFormed)
     (lines : ActionsFormed) (trying : TryingFormed) (commands : CommandsFormed) where
+  -- all routines of a game are well formed, for a database that keeps its limits
   routines_formed : (style : Style) (db : Database) (from : Option State) → KeepsLimits db
       → is_well_formed (game_routines style db from) ≡ true
   routines_formed style db from limits = let begin = opening_position from in

@@ -75,6 +75,7 @@ unfolding rounds_asking
 rounds_are from =
     each_passes (λ x. not (is_declaration x)) (round_directives (opening_position from)) refl
 
+-- each directive after the tables is a routine
 pub routines_only : (style : Style) (db : Database) (from : Option State)
     → AllByRecursion IsRoutine (game_routines style db from)
 routines_only style db from = of_both IsRoutine (text_directives style db)

@@ -83,6 +83,7 @@ module _ (style : Style) (db : Database) (from : Option State) where
     in_trying : IsIn x (trying_directives db) → Place x
     in_turns : IsIn x (turns_on style db from) → Place x
 
+  -- each directive of the program is in one of its parts
   place_of : (x : DirectiveTree) → IsIn x (game_program style db from) → Place x
   place_of x there = by_tables (in_either (tables_on style db from)
       (from_messages style db from) at.0 at.1) where
@@ -146,6 +147,7 @@ module _ (words : ReaderCallsItself) (names : ActionsAreNamed) (lines : LinesAre
   abbrev program : List DirectiveTree
   program = game_program style db from
 
+  -- wherever it stands, a routine with the name of a line is that of a line of the database
   line_alone : (k : ℕ) (r : RoutineTree) → r.name ≡ line_name k → Place style db from (Routine r)
       → IsLine db r
   line_alone k r is (in_tables h) = absurd (no_line (tables_on style db from) k r h
@@ -160,6 +162,7 @@ module _ (words : ReaderCallsItself) (names : ActionsAreNamed) (lines : LinesAre
   line_alone k r is (in_turns h) = absurd (no_line (turns_on style db from) k r h
       (turns_apart style db from).0 is)
 
+  -- wherever it stands, a routine with the name of a group is that of a group of the database
   group_alone : (k : ℕ) (r : RoutineTree) → r.name ≡ group_name k
       → Place style db from (Routine r) → IsGroup db r
   group_alone k r is (in_tables h) = absurd (no_group (tables_on style db from) k r h
@@ -184,6 +187,7 @@ module _ (words : ReaderCallsItself) (names : ActionsAreNamed) (lines : LinesAre
       (none_in_each (line_name k) ds none) there.1 in
       omega (arith, own, calls)
 
+  -- wherever it stands, a routine that calls a line is that of a group of the database
   caller : (k : ℕ) (r : RoutineTree) → 0 < routine_calls (line_name k) r
       → Place style db from (Routine r) → IsGroup db r
   caller k r calls (in_tables h) = absurd (calls_none k r (tables_on style db from)
@@ -198,6 +202,7 @@ module _ (words : ReaderCallsItself) (names : ActionsAreNamed) (lines : LinesAre
   caller k r calls (in_turns h) = absurd (calls_none k r (turns_on style db from)
       (after_call true k style db from) h calls)
 
+  -- each group is called at one place of the program
   called : (g : Group) → IsIn g (groups db) → program_calls (group_name g.head) program ≡ 1
   called g there = subst (λ ds. program_calls name ds ≡ 1) (parts_are style db from) (omega (
     arith,
@@ -216,6 +221,7 @@ module _ (words : ReaderCallsItself) (names : ActionsAreNamed) (lines : LinesAre
     name : List ℕ
     name = group_name g.head
 
+-- the program of a game has its shape, for a database that keeps its limits
 pub programs_are_shaped : ReaderCallsItself → ActionsAreNamed → LinesAreThere → LinesAlone
     → ActionsCallNone → GroupsAreThere → GroupsAlone → GroupsAreCalledOnce → GroupsCallLines
     → ProgramsAreShaped

@@ -60,6 +60,7 @@ module _ (width : Width) where
   unfolding body_of routine_names table_rows rounds_asking
   rows_sound style db s begin items carry home size all h1 h2 h3 h4 = rw (h1, h2, h3, h4) refl
 
+  -- the routines that are chosen by the treasures and the style are sound, whichever they are
   chosen_sound : (style : Style) (db : Database) (s : State) (begin : Position)
       (items carry home size all : ℕ) (less counted vanish : Bool) → is_small size ≡ true
       → are_sound width (signature (named style db s begin)) (rows_directives (routine_names style)
@@ -81,6 +82,7 @@ module _ (width : Width) where
   unfolding body_of routine_names table_rows rounds_asking
   line_sound style db s begin = refl
 
+  -- the routines that read one column of words are sound, where their numbers are small
   column_sound : (style : Style) (db : Database) (s : State) (begin : Position) (column : Column)
       (size entries a b c d e f g : ℕ) → is_small size ≡ true → is_small entries ≡ true
       → is_small a ≡ true → is_small b ≡ true → is_small c ≡ true → is_small d ≡ true

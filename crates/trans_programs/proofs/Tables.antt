@@ -115,6 +115,7 @@ below_more : (xs : List ℕ) → Below 256 xs → Below 32768 xs
 below_more [] h = tt
 below_more (x ∷ xs) h = (omega (arith, h.0), below_more xs h.1)
 
+-- the table of exits has at most six entries for each room
 few_exits : (db : Database) (rooms : List Room) → list_all is_room rooms ≡ true
     → length (flat_map (exits_of_room db) rooms) ≤ length rooms * 6
 few_exits db [] all = omega arith
@@ -173,6 +174,7 @@ module _ (width : Width) (db : Database) (limits : KeepsLimits db) where
       (there_map f db.items (items_there db limits))
       (omega (arith, few 255 db.items limits.sizes.items, length-map db.items f)) below
 
+  -- the letters of a column's words are a table without a fault
   letters_table : (name : List ℕ) (column : Column) → is_name name ≡ true
       → IsFineTable width (bytes name (word_letters db column))
   letters_table name column formed = (
@@ -198,6 +200,7 @@ module _ (width : Width) (db : Database) (limits : KeepsLimits db) where
       (omega (arith, as_many_bases (entries_of db column), words_few db limits column))
       (below_bases 32768 small (entries_of db column) (omega (arith, words_few db limits column)))
 
+  -- each array that is the same for all states is a table without a fault
   all_fixed : AllByRecursion (IsFineTable width) (fixed_arrays db)
   all_fixed = also (items_table (codes "start") place_of_item refl
       (below_places db.items limits.entries.items))

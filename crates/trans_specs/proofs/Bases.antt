@@ -55,6 +55,7 @@ module _ (entries : List (List ℕ)) where
     nearest = λ j after few. absurd (omega (arith, after, few));
   }
 
+  -- after an entry whose base is known, the table of bases has each base entry of the rules
   walk : (rest : List (List ℕ)) (base : Option ℕ) (i n k : ℕ) → drop (suc i) entries ≡ rest
       → BaseAt base i → n < length rest → k ≡ suc i + n
       → BaseIs entries k (slice_index (bases_from base (suc i) rest) n)

@@ -57,6 +57,7 @@ module _ (m : ℕ) (some : 2 ≤ m) where
 
   -- ---- base entries
 
+  -- the base entries are below a bound, where the entries' numbers and the base before them are
   pub below_bases_from : (base : Option ℕ) (k : ℕ) (entries : List (List ℕ))
       → k + length entries ≤ m → or_zero base < m → Below m (bases_from base k entries)
   below_bases_from base k [] fits h = tt
@@ -88,6 +89,8 @@ module _ (m : ℕ) (some : 2 ≤ m) where
       from true more = omega (arith, fits)
       from false more = more
 
+  -- the entry that a word names, or 0, is below a bound, where the entries' numbers and the base
+  -- before them are
   pub below_entry : (size : ℕ) (word : List ℕ) (base : Option ℕ) (k : ℕ)
       (entries : List (List ℕ)) → k + length entries ≤ m → or_zero base < m
       → or_zero (entry_from size word base k entries) < m

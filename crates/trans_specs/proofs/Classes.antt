@@ -23,6 +23,7 @@ module _ (t : List ℕ → Bool) where
     number : j ≡ i + at
     passes : t entry ≡ true
 
+  -- where a position is found, the entry at it passes the test
   hit : (i : ℕ) (xs : List (List ℕ)) (j : ℕ) → position_from t i xs ≡ Some j → IsHit i xs j
   hit i [] j h = cc
   hit i (x ∷ xs) j h = from (t x) refl (hit (i + 1) xs j) h where
@@ -47,6 +48,7 @@ module _ (t : List ℕ → Bool) where
         passes = r.passes;
       }
 
+  -- where an entry passes the test, the position that is found isn't 0
   some_hit : (i : ℕ) (xs : List (List ℕ)) (at : ℕ) (x : List ℕ) → 1 ≤ i
       → slice_get xs at ≡ Some x → t x ≡ true → 1 ≤ or_zero (position_from t i xs)
   some_hit i [] at x one there passes = cc
@@ -138,6 +140,7 @@ module _ (db : Database) (k : ℕ) (one : 1 ≤ k) (less : k < length (entries_o
       (and_parts (is_class entry) (not (is_empty entry) && bytes_eq (letters size entry) key)
       h).1).1
 
+  -- a word that has the class of the noun has the noun's letters
   same_letters : (word : List ℕ) → class_of db word ≡ class_of db noun
       → letters size word ≡ letters size noun
   same_letters word e = sym (letters_are (letters size word) hw.entry hw.passes)

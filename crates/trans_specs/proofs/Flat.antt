@@ -46,6 +46,7 @@ flat_at none f size (x ∷ xs) rest (suc k) i each less few =
 
 -- ---- exits
 
+-- each room of a file has six exits
 six_exits : (rooms : List Room) → list_all is_room rooms ≡ true → (j : ℕ) → j < length rooms
     → length (slice_index_or rooms j (record { exits = []; text = [] })).exits ≡ 6
 six_exits [] all j less = absurd (omega (arith, less))
@@ -85,6 +86,7 @@ letters_few size word = omega (
   taken (suc n) [] = omega arith
   taken (suc n) (x ∷ xs) = omega (arith, taken n xs)
 
+-- the printed letters of a word that is no longer than a size are as many as the size
 letters_long : (size : ℕ) (word : List ℕ) → length word ≤ size
     → length (printed_letters size word) ≡ size
 letters_long size word few = from (list_all is_ascii_graphic word) where

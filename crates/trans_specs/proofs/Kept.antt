@@ -53,6 +53,7 @@ kept_said bytes w = record {
 
 -- ---- the globals of a state
 
+-- all is kept but what shows the room
 pub kept_here : (z : ℤ) (w : Stage) → Kept w (with_global (codes "here") z w)
 kept_here z w = record {
   tables = λ db t. t;
@@ -65,6 +66,7 @@ kept_here z w = record {
   arrays_stay = λ name other. refl;
 }
 
+-- all is kept but what shows the saved room
 pub kept_saved : (z : ℤ) (w : Stage) → Kept w (with_global (codes "saved") z w)
 kept_saved z w = record {
   tables = λ db t. t;
@@ -77,6 +79,7 @@ kept_saved z w = record {
   arrays_stay = λ name other. refl;
 }
 
+-- all is kept but what shows the counter
 pub kept_cur : (z : ℤ) (w : Stage) → Kept w (with_global (codes "cur") z w)
 kept_cur z w = record {
   tables = λ db t. t;
@@ -89,6 +92,7 @@ kept_cur z w = record {
   arrays_stay = λ name other. refl;
 }
 
+-- all is kept but what shows how long the light lasts
 pub kept_light : (z : ℤ) (w : Stage) → Kept w (with_global (codes "light") z w)
 kept_light z w = record {
   tables = λ db t. t;
@@ -101,6 +105,7 @@ kept_light z w = record {
   arrays_stay = λ name other. refl;
 }
 
+-- all is kept but what shows whether the room has to be described
 pub kept_redraw : (z : ℤ) (w : Stage) → Kept w (with_global (codes "redraw") z w)
 kept_redraw z w = record {
   tables = λ db t. t;
@@ -115,6 +120,7 @@ kept_redraw z w = record {
 
 -- ---- the arrays of a state
 
+-- all is kept but what shows the places of the items
 pub kept_item : (zs : List ℤ) (w : Stage) → Kept w (with_array (codes "item") zs w)
 kept_item zs w = record {
   tables = λ db t. t;
@@ -127,6 +133,7 @@ kept_item zs w = record {
       ap (λ (b : Bool). if b then Some zs else w.arrays name) other.0;
 }
 
+-- all is kept but what shows the flags
 pub kept_flag : (zs : List ℤ) (w : Stage) → Kept w (with_array (codes "flag") zs w)
 kept_flag zs w = record {
   tables = λ db t. t;
@@ -139,6 +146,7 @@ kept_flag zs w = record {
       ap (λ (b : Bool). if b then Some zs else w.arrays name) other.1.0;
 }
 
+-- all is kept but what shows the backup counters
 pub kept_ctr : (zs : List ℤ) (w : Stage) → Kept w (with_array (codes "ctr") zs w)
 kept_ctr zs w = record {
   tables = λ db t. t;
@@ -151,6 +159,7 @@ kept_ctr zs w = record {
       ap (λ (b : Bool). if b then Some zs else w.arrays name) other.1.1.0;
 }
 
+-- all is kept but what shows the backup rooms
 pub kept_rsave : (zs : List ℤ) (w : Stage) → Kept w (with_array (codes "rsave") zs w)
 kept_rsave zs w = record {
   tables = λ db t. t;

@@ -32,6 +32,7 @@ there_map f xs h = omega (arith, h, length-map xs f)
 there_first : {X : Type 0} (xs ys : List X) → IsThere xs → IsThere (xs ++ ys)
 there_first xs ys h = omega (arith, h, length-append xs ys)
 
+-- the table of exits has an entry, where there is a room
 pub there_exits : (db : Database) (rooms : List Room) → IsThere rooms
     → list_all is_room rooms ≡ true → IsThere (flat_map (exits_of_room db) rooms)
 there_exits db [] h all = absurd (omega (arith, h))

@@ -59,6 +59,7 @@ module _ (width : Width) (ds : List DirectiveTree) (lines : List (List ℕ)) (dr
     same_past : play.events ≡ (run_of width ds line_notes steps lines draws).1.past
     same_past = sym (ap (λ (w : Stage). w.past) stopped.stage ∙ past)
 
+-- where `main` meets its specification, the run of the program is the play, with its notes
 pub main_is_enough : OpeningOpens → RunStops → MainIsEnough
 main_is_enough opens stops style width db from others t fits distinct main lines draws steps typed
     fair few = done (main (opening_state db from) []

@@ -82,6 +82,7 @@ below_beyond rooms (pos n) h = below_choice 32768 small (nat_lt 0 n && nat_lt n 
     inside k = grind (arith, h, (and_parts (nat_lt 0 n) (nat_lt n rooms) k).1)
 below_beyond rooms (negsuc n) h = omega arith
 
+-- the items of a file begin at places below 32,768
 pub below_places : (items : List Item) → list_all is_item items ≡ true
     → Below 32768 (map place_of_item items)
 below_places [] h = tt

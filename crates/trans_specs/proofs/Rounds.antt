@@ -56,6 +56,7 @@ module _ (game : Game) where
   answered Line r lines ds es fs h = goes_on Line r lines ds es fs h
   answered (Over ending) r lines ds es fs h = goes_on (Over ending) r lines ds es fs h
 
+  -- with a line to take, the play from a position on is one round, and then the others
   by_position : (line : List ℕ) (lines : List (List ℕ)) (t : Traced Step RoundEnd)
       → t.value.position ≢ Fresh
       → ((p : Position) (r : State) (ds : List ℕ) → IsRounds p r lines ds) → (p : Position)

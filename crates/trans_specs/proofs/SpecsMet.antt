@@ -47,6 +47,7 @@ module _ (db : Database) (p : Program) (m : ℕ) (less : m < length db.messages)
       ∙ ap (λ bytes. said bytes w) message_is)
       (routine has (next (print (print_text print_nothing)) (next new_line end)) at_end)
 
+-- a program whose routine of a message is the translated one says it as specified
 pub messages_are_said : MessagesAreSaid
 messages_are_said game p notes only m less has s noun w d room stands =
     one_less (λ d. CallSays p d (message_name m) [] w (said_message game.db m)
@@ -64,6 +65,7 @@ messages_are_said game p notes only m less has s noun w d room stands =
 
 -- ---- a line
 
+-- where messages are said as specified, line 2 of `chance` meets its specification
 pub chance_line_is_done : ChanceLineIsDone
 unfolding text_of
 chance_line_is_done style p notes messages has s noun w d room stands =

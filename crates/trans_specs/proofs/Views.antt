@@ -40,6 +40,7 @@ without_guard (x ∷ y ∷ xs) guard = ap (◌∷◌ x) (without_guard (y ∷ xs
 
 -- ---- two states that a stage shows
 
+-- two states that one stage shows are the same
 one_state : (s t : State) (w : Stage) → Shows s w → Shows t w → s ≡ t
 one_state s t w h k = λ i. record {
   room = room i;

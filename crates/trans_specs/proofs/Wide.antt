@@ -53,6 +53,7 @@ opcodes_fit k j (pair ∷ rest) h = (
   opcodes_fit k (j + 2) rest (and_parts (is_natural pair) _ h).1,
 )
 
+-- no number of a line is too wide
 action_fits : (k : ℕ) (a : Action) → is_action a ≡ true → NoneWide (placed_action k a)
 action_fits k a h = (
   part_fits (Verb k) a.vocab 150 vocab.0,
@@ -77,6 +78,7 @@ actions_fit k (a ∷ rest) h = both (placed_action k a) (placed_actions (k + 1) 
     (action_fits k a (and_parts (is_action a) (list_all is_action rest) h).0)
     (actions_fit (k + 1) rest (and_parts (is_action a) (list_all is_action rest) h).1)
 
+-- no number of a header is too wide
 header_fits : (h : Header) → are_header_numbers h ≡ true → NoneWide ((Carry, h.carry)
     ∷ (Treasures, h.treasures) ∷ (Light, h.light) ∷ (Home, h.home) ∷ [])
 header_fits h all = (

@@ -8,6 +8,7 @@ use Rattle.trans_specs.specs.Tables.{bit}
 use Rattle.trans_specs.specs.Views.{naturals, Shows}
 use Rattle.trans_specs.specs.Writes.{GlobalsWritten, EntriesWritten}
 
+-- where a global is written, the stage shows the state with that part of it changed
 pub globals_written : GlobalsWritten
 globals_written = record {
   room = λ r s w h. record {
@@ -89,6 +90,7 @@ flag_set : (flags : List Bool) (n : ℕ) (on : Bool)
 flag_set flags n on = sym (ap (map pos) (map-set bit flags n on)
     ∙ map-set pos (map bit flags) n (bit on))
 
+-- where an entry of `item` is written, the stage shows the state with the item at that place
 place : (s : State) (w : Stage) (item at : ℕ) (entries : List ℤ) → Shows s w
     → item < length s.places.items → w.arrays (codes "item") ≡ Some entries
     → Shows (with_place s item at) (with_array (codes "item") (set entries item (pos at)) w)
@@ -107,6 +109,7 @@ place s w item at entries h less there = record {
   rooms_are = h.rooms_are;
 }
 
+-- where an entry of `flag` is written, the stage shows the state with the flag so
 flag : (s : State) (w : Stage) (n : ℕ) (on : Bool) (entries : List ℤ) → Shows s w
     → w.arrays (codes "flag") ≡ Some entries
     → Shows (with_flag s n on) (with_array (codes "flag") (set entries n (pos (bit on))) w)
@@ -125,6 +128,7 @@ flag s w n on entries h there = record {
   rooms_are = h.rooms_are;
 }
 
+-- where an entry of `ctr` is written, the stage shows the state with that backup counter
 backup_counter : (s : State) (w : Stage) (p : ℕ) (z : ℤ) (entries : List ℤ) → Shows s w
     → w.arrays (codes "ctr") ≡ Some entries
     → Shows (record s { counters = set s.counters p z })
@@ -143,6 +147,7 @@ backup_counter s w p z entries h there = record {
   rooms_are = h.rooms_are;
 }
 
+-- where an entry of `rsave` is written, the stage shows the state with that backup room
 backup_room : (s : State) (w : Stage) (p r : ℕ) (entries : List ℤ) → Shows s w
     → w.arrays (codes "rsave") ≡ Some entries
     → Shows (record s { rooms = set s.rooms p r })

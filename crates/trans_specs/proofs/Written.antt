@@ -25,6 +25,7 @@ signed_small count n h = ap (signed count) (mod-eq_of_lt (omega (arith, h)))
       lower : nat_lt (n * 2) count ≡ true
       lower = grind (arith, h)
 
+-- a negative number down to half the count, written as a word, is itself as a signed number
 signed_negative : (count n : ℕ) → (n + 1) * 2 ≤ count
     → signed count ((count - (n + 1) % count) % count) ≡ negsuc n
 signed_negative count n h = ap (λ (k : ℕ). signed count ((count - k) % count)) own

@@ -93,6 +93,7 @@ module _ (game : Game) (p : Program) (asked : ℕ) (has : HasRound p asked)
       (later (λ e s'. next (call_alone (called (look s noun w stands))))
       (handed_up in_block (step_stops (handed_up in_call_alone (called_stops x))))))
 
+  -- where the automatic step comes through, `advance` describes the room if it has to, and prompts
   through : (o : AutoOutcome) (es : List Step)
       → AutomaticDone p d (codes "automatic") first game.db (traced es o) (search_steps game.db)
       → AdvanceDone p (suc d) w game.db
@@ -121,6 +122,7 @@ module _ (game : Game) (p : Program) (asked : ℕ) (has : HasRound p asked)
     over_stays = x.leaves.over_stays;
   }
 
+  -- `advance` does what the rules do up to the prompt, however the automatic step halts
   by_halt : (halt : Halt) (o : AutoOutcome) (es : List Step)
       → AutomaticHalts halt p d (codes "automatic") first game.db (traced es o)
       (search_steps game.db)

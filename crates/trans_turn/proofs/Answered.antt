@@ -236,6 +236,7 @@ module _ (game : Game) (p : Program) (asked : ℕ) (has : HasRound p asked)
 
   -- ---- whatever was heard
 
+  -- `answer` does what the rules do, whatever was heard
   by : (first : Option Span) (h : Heard) → (split line).first ≡ first → IsHeard game.db first h
       → IsTyped line
       → reads.after.globals (codes "vnum") ≡ Some (pos (verb_heard h))

@@ -123,6 +123,7 @@ module _ (p : Program) (asked : ℕ) (has : Has p (written asked ASK [] ASKING))
   abbrev empty : ℤ → List ℤ → Stage
   empty b xs = with_array (codes "buf") (emptied xs) (half b xs)
 
+  -- where a line is left, `ask` reads it into an emptied buffer, in at most three steps
   asks_by : (line : List ℕ) (lines : List (List ℕ)) → w.lines ≡ line ∷ lines → length line ≤ 120
       → (xs : List ℤ) → Long xs → w.arrays (codes "buf") ≡ Some xs
       → LineAsked p d db s w line lines
@@ -165,6 +166,7 @@ module _ (p : Program) (asked : ℕ) (has : Has p (written asked ASK [] ASKING))
       asks_by line lines left typed.short working.buffer
       (long_buffer working.buffer working.buffer_long) working.buffer_is
 
+  -- where no line is left, `ask` waits for one, in at most three steps
   awaits_by : w.lines ≡ [] → (xs : List ℤ) → Long xs → w.arrays (codes "buf") ≡ Some xs
       → LineAwaited p d s w
   unfolding body_of

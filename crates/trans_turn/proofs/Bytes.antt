@@ -50,6 +50,7 @@ pub record WordThere (word : List ℕ) (at : ℕ) (entries : List ℤ) : Type 0 
   pub there : (j b : ℕ) → slice_get word j ≡ Some b → slice_get entries (at + j) ≡ Some (pos b)
   pub small : (j b : ℕ) → slice_get word j ≡ Some b → b < 256
 
+-- the bytes of a word of a typed line are entries of the buffer, from two after its start on
 pub word_there : (line : List ℕ) (start size : ℕ) (entries : List ℤ) → IsTyped line
     → take (length line) (drop 2 entries) ≡ naturals line
     → WordThere (take size (drop start line)) (start + 2) entries

@@ -29,6 +29,7 @@ described game s w = with_global (codes "redraw") (pos 0) (said (look_due game s
 
 module _ (game : Game) (p : Program) (asked : ℕ) (looks : LookSpec game p (codes "look"))
     (has : Has p (written asked DESCRIBE [] DESCRIBING)) where
+  -- `describe` says what a look says where the mark is set, and takes the mark away
   pub describes : (s : State) (noun : List ℕ) (w : Stage) (d : ℕ) → text_room ≤ d
       → StandsFor game.db s noun w
       → Does p (suc d) (codes "describe") [] w (pos 1) (described game s w) (text_steps game.db + 4)

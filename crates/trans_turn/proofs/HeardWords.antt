@@ -52,6 +52,7 @@ module _ (law : WordNamesLeastMatch) (db : Database) where
   second_is line (Some span) = noun_is Nouns (word_at line span)
       (which db Nouns (word_at line span)) refl
 
+  -- by what the first word names, a command is heard, or that word is unknown
   by_words : (line word : List ℕ) (span : Span) (second : Option Span) (noun verb : Option ℕ)
       → which db Nouns word ≡ noun → which db Verbs word ≡ verb
       → IsHeard db (Some span)
@@ -96,6 +97,7 @@ pub record IsWord (line : List ℕ) (span : Span) : Type 0 where
 abbrev is_solid : ℕ → Bool
 is_solid byte = not (is_space byte)
 
+-- a span that is found from a start on is that of a word of the line
 from_span : (line : List ℕ) (start : ℕ) → start ≤ length line → (b : Bool)
     → (prefix_len is_solid (drop start line) == 0) ≡ b → (span : Span)
     → (if b then None else Some (start, prefix_len is_solid (drop start line))) ≡ Some span

@@ -27,6 +27,7 @@ pub record HasRound (p : Program) (asked : ℕ) : Type 0 where
   pub round : Has p (written asked ROUND (ASKED ∷ []) ROUNDING)
   pub main : Has p (written asked MAIN [] PLAYING)
 
+-- a program that serves the directives of a round has each of its routines
 pub has_round : {width : Width} (begin : Position) {p : Program}
     → Serves width (round_directives begin) p → HasRound p (first_asked begin)
 unfolding rounds_asking

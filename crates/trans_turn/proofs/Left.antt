@@ -40,6 +40,7 @@ module _ (game : Game) where
   answer_left Line s lines ds h = h
   answer_left (Over ending) s lines ds h = h
 
+  -- with a line to take, a round leaves no more lines than there were, and typed ones if all were
   by_position : (position : Position) (line : List ℕ) (lines : List (List ℕ))
       (t : Traced Step RoundEnd)
       → ((p : Position) (s : State) (ds : List ℕ)
@@ -80,6 +81,7 @@ module _ (game : Game) where
   took_after Line s line lines ds h is = omega (arith, h is)
   took_after (Over ending) s line lines ds h is = omega (arith, h is)
 
+  -- with a line to take, a round after which another follows takes at least one
   took_at : (position : Position) (line : List ℕ) (lines : List (List ℕ)) (t : Traced Step RoundEnd)
       → t.value.position ≢ Fresh
       → ((p : Position) (s : State) (ds : List ℕ) → Took lines (round game p s lines ds))
@@ -125,6 +127,7 @@ module _ (game : Game) where
   fair_after Line s lines ds fair h = h
   fair_after (Over ending) s lines ds fair h = h
 
+  -- with a line to take, the draws that are left after a round are draws still
   fair_at : (position : Position) (line : List ℕ) (lines : List (List ℕ)) (t : Traced Step RoundEnd)
       → AllDraws t.value.draws
       → ((p : Position) (s : State) (ds : List ℕ) → AllDraws ds → Fair (round game p s lines ds))

@@ -116,6 +116,7 @@ module _ (game : Game) (p : Program) (part : Part) (scope : Scope) (w : Stage) (
     (done : t.value.position ≡ Fresh → RoundDone p CALL_LIMIT (codes "round") values w game.db t n
     → PartPlays p part scope w
     (after t.events (go game Fresh t.value.state t.value.lines t.value.draws)) m) where
+  -- however the round ends, the part plays it, and the rounds after it where others come
   pub by_round : (position : Position) → t.value.position ≡ position
       → RoundOutcome position p CALL_LIMIT (codes "round") values w game.db t n
       → PartPlays p part scope w (next_round position game t) m

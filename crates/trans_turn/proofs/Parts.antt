@@ -89,6 +89,7 @@ module _ {p : Program} {d : ℕ} {part whole : Part} {s : Scope} {w w1 : Stage} 
     over_stays = x.over_stays ∙ over;
   }
 
+  -- what becomes of the part becomes of the whole, with the steps before it
   pub then_part : (position : Position) (db : Database) (t : Traced Step PlayEnd)
       → PartOutcome position p d part s w1 db t n
       → PartOutcome position p d whole s w db (after es t) m
@@ -116,6 +117,7 @@ module _ {p : Program} {d : ℕ} {part whole : Part} {s : Scope} {w w1 : Stage} 
 
 -- ---- a routine by its body
 
+-- what becomes of the body becomes of the routine
 pub by_body : {p : Program} (d : ℕ) {r : RoutineTree} (has : Has p r) (values : List ℤ)
     (w : Stage) (n : ℕ) (position : Position) (db : Database) (t : Traced Step PlayEnd)
     → PartOutcome position p d (TheBlock r.body) (scope_of (routine_at has.at r) values) w db t n

@@ -61,6 +61,7 @@ module _ (p : Program) (d r : ℕ) (word : List ℕ) (at : ℕ) (entries : List 
       (small_sum p.width at i (omega (arith, small, few)))) h.buf_is
       (there.there i b (at_rest word i left))) print_nothing))
 
+  -- the loop says the bytes of the word that are left, in at most two steps for each and one more
   loop : (rest : List ℕ) (i : ℕ) → drop i word ≡ rest → i + length rest ≡ length word → (w : Stage)
       → HasWord w → Loops p d word_loop (at_byte r i) w Normal (at_byte r (length word))
       (said rest w) (2 * length rest + 1)

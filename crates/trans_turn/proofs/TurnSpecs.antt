@@ -21,6 +21,8 @@ pub turn_then : {X : Type 0} (f : X → DirectiveTree) (trying commands rounds :
 turn_then f trying commands rounds of_trying of_commands of_rounds playing all h1 h2 h3 h4 h5 =
     h5 ∙ rw (h4, h1, h2, h3) refl
 
+-- where a program serves the routines of a turn, and lines and words meet their specifications, so
+-- do its rounds
 pub turn_meets_specs : PartsAreServed → HelpersMeetSpecs → DataMeetsSpecs → TryingMeetsSpecs → CommandsMeetSpecs → RoundsMeetSpecs
     → TurnMeetsSpecs
 turn_meets_specs parts helpers texts trying commands rounds style width db begin opening p translates

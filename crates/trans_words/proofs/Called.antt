@@ -3,6 +3,7 @@ use Rattle.std.proofs.Common.{refl}
 use Rattle.inform_codes.specs.Grown.{body_of}
 use Rattle.trans_words.specs.Laws.{ReaderCallsItself}
 
+-- the routines of the word reader call no routine but their own
 pub reader_calls_itself : ReaderCallsItself
 unfolding body_of
 reader_calls_itself db name h = rw (

@@ -192,6 +192,8 @@ module _ (p : Program) (w : Stage) (b : ℕ) (ws : List ℕ) (typed : is_word (b
 
   -- ---- the entries that are left
 
+  -- from an entry on, the loop finds the base entry that the rules find, in at most `entry_steps`
+  -- for each entry and two more
   loop : (entries : List (List ℕ)) (base : Option ℕ) (k : ℕ)
       → drop (size * k) (word_letters db column) ≡ letters_of entries
       → drop k (word_bases db column) ≡ bases_from base k entries ++ 0 ∷ []
@@ -221,6 +223,7 @@ module _ (p : Program) (w : Stage) (b : ℕ) (ws : List ℕ) (typed : is_word (b
         letters_here = letters_left ∙ append_assoc (entry_letters size text)
             (flat_map (entry_letters size) entries) (0 ∷ [])
 
+  -- the routine of a column returns the base entry that the word names, or 0
   find_some : Does p (suc d) (find_name column) (pos a ∷ pos (length word) ∷ []) w
       (pos (or_zero (which db column word))) w (find_steps size (length db.words))
   find_some = from (which db column word) (loop rest None 1

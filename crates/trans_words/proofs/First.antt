@@ -135,6 +135,7 @@ module _ (p : Program) (w : Stage) (b : ℕ) (typed : is_word (b ∷ []) ≡ tru
       ⊎ (Leads p (suc d) (TheCases (pos b) xs s.NoDefault) letter_scope w Normal
       letter_scope w 0 × (text ≡ b ∷ []))
 
+  -- with one more case, that of a letter, its text is picked where that letter was typed
   one_case : (letter : ℕ) (text other : List ℕ) (xs : Cases) → letter < 32768 → Picks xs other
       → Picks (letter_case letter (or_zero (which db column text)) xs)
       (if bytes_eq (b ∷ []) (letter ∷ []) then text else other)
@@ -172,6 +173,7 @@ module _ (p : Program) (w : Stage) (b : ℕ) (typed : is_word (b ∷ []) ≡ tru
   test = second_of_both (compare (local refl) number refl)
       (compare (local refl) number (eq_is m 0 ∙ alone))
 
+  -- for a letter alone, the routine returns what the word that it stands for names
   pub letter_is : Does p (suc (suc d)) (first_name column)
       (pos a ∷ pos 1 ∷ pos m ∷ []) w (pos (or_zero (which db column (whole_word (b ∷ []))))) w
       (first_steps db.header.length (length db.words))
@@ -215,6 +217,7 @@ alone_is p w (b ∷ c ∷ rest) typed a m is has_word db limits column tables ha
     (not_one p w (b ∷ c ∷ rest) typed a m has_word db limits column tables has d
     (two_are_more (length rest)))
 
+-- the routine returns what the first word names, which may be a letter that stands for a word
 pub first_is : (p : Program) (w : Stage) (word : List ℕ) → is_word word ≡ true → (a m : ℕ)
     → HasWord word a (w.arrays (codes "buf")) → (db : Database) → KeepsLimits db
     → (column : Column)

@@ -28,6 +28,7 @@ noun_by x v y = if nat_eq v 0 then 0 else if is_direction x then x else y
 
 -- ---- what is named is an entry from 1 on
 
+-- the base entry that a word names is 1 at least, where the entries are numbered from 1 on
 counted_from : (size : ℕ) (word : List ℕ) (base : Option ℕ) (k : ℕ) (entries : List (List ℕ))
     → 1 ≤ k → IfSome base (λ n. 1 ≤ n) → IfSome (entry_from size word base k entries) (λ n. 1 ≤ n)
 counted_from size word base k [] one h = tt
@@ -55,6 +56,7 @@ named_counts db column word = counted_from db.header.length word None 1
 
 -- ---- by cases
 
+-- the verb that is heard is go for a direction, and else what the first word names as a verb
 verb_is : (span : Span) (x v y : Option ℕ) → verb_heard (by_direction x (by_verb span v y))
     ≡ verb_by (or_zero x) (or_zero v)
 verb_is span None None y = refl
@@ -73,6 +75,8 @@ verb_is span (Some x) (Some v) y = from (is_direction x) where
 some_not_none : (n : ℕ) → 1 ≤ n → nat_eq n 0 ≡ false
 some_not_none n h = grind (arith, h)
 
+-- the noun that is heard is none without a verb, and else the direction, or what the second word
+-- names
 noun_is : (span : Span) (x v y : Option ℕ) → IfSome v (λ n. 1 ≤ n)
     → noun_heard (by_direction x (by_verb span v y))
     ≡ noun_by (or_zero x) (verb_by (or_zero x) (or_zero v)) (or_zero y)
@@ -173,6 +177,7 @@ module _ (db : Database) (limits : KeepsLimits db) (line : List ℕ)
         ∙ verb_is (start line lower, size line lower) (which db Nouns first) (which db Verbs first)
         (noun_named db line second)
 
+  -- the noun that is heard in a line is told by what its two words name
   pub noun_of_line : noun_heard (heard db line) ≡ line_noun
   noun_of_line = ap noun_heard places ∙ from (size line lower == 0) refl where
     from : (t : Bool) → (size line lower == 0) ≡ t → noun_heard (heard_words db line

@@ -39,6 +39,7 @@ held serves r other h = record {
   unseen = serves.notes_lines r.name h.0 ∙ other;
 }
 
+-- a program that serves the directives of words has each routine of the reader
 pub has_reader : (width : Width) (db : Database) (p : Program)
     → Serves width (word_directives db) p → HasReader db p
 unfolding body_of

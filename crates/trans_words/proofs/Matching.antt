@@ -85,6 +85,8 @@ zeros_agree (suc n) [] h = refl
 zeros_agree (suc n) (b ∷ word) h = ap (λ (t : Bool). t && agree (replicate n 0) word)
     (typed_some b (and_parts (is_word_byte b) (is_word word) h).0)
 
+-- letters that are filled up with zeros agree with a word exactly where the word, cut to that
+-- length, is these letters
 key_agrees : (key word : List ℕ) (n : ℕ) → list_all is_ascii_graphic key ≡ true
     → is_word word ≡ true
     → agree (key ++ replicate n 0) word ≡ bytes_eq key (take (plus (length key) n) word)

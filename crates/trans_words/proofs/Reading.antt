@@ -161,6 +161,7 @@ module _ (p : Program) (db : Database) (limits : KeepsLimits db) (has : HasReade
       → HasColumn db column (w.arrays (word_array column)) (w.arrays (base_array column))
   tables = columns db w ready.tables
 
+  -- `hear` leaves the two words of the line and what they name, within the steps of the reader
   hear_is : (d : ℕ) → Does p (suc (suc (suc (suc d)))) (codes "hear") [] w (pos 1) left
       (reader_steps db)
   hear_is d = does_within (omega (arith, enough)) (routine has.hear
@@ -229,6 +230,7 @@ module _ (p : Program) (db : Database) (limits : KeepsLimits db) (has : HasReade
     from true is = ap (λ (k : ℕ). Some (pos k)) (long ∙ l.is_zero n is)
     from false is = (ap (λ (k : ℕ). Some (pos k)) place, ap (λ (k : ℕ). Some (pos k)) long)
 
+  -- the stage after `hear` is ready for the same state
   still_ready : Ready db s left
   still_ready = record {
     shows = ready.shows;
@@ -248,6 +250,7 @@ module _ (p : Program) (db : Database) (limits : KeepsLimits db) (has : HasReade
     };
   }
 
+  -- the stage after `hear` stands for the same state, with the second word as the noun
   stands : StandsFor db s noun left
   stands = record {
     ready = still_ready;
@@ -260,6 +263,7 @@ module _ (p : Program) (db : Database) (limits : KeepsLimits db) (has : HasReade
     };
   }
 
+  -- what `hear` leaves is what the rules hear in the line
   words_read : WordsRead db s line w left
   words_read = record {
     verb_is = ap (λ (n : ℕ). Some (pos n))

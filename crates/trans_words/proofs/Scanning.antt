@@ -43,6 +43,8 @@ module _ (p : Program) (w : Stage) (line : List ℕ)
     locals = (codes "i", pos i) ∷ (codes "e", pos line_end) ∷ [];
   }
 
+  -- the loop ends after the bytes that pass, in at most two steps for each byte that is left and
+  -- one more
   loop : (rest : List ℕ) (at i m : ℕ) → drop at line ≡ rest → i ≡ 2 + at
       → i + prefix_len passes rest ≡ m → at + length rest ≡ length line
       → Loops p d (after_loop op) (scope i) w Normal (scope m) w (2 * length rest + 1)

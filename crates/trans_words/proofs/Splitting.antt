@@ -36,6 +36,7 @@ in_word_is b line other = from (b == space) other line where
   from true h k = cc
   from false h k = k
 
+-- what is taken of typed bytes up to the end of the word is a word
 word_bytes : (xs : List ℕ) → list_all is_line_byte xs ≡ true
     → is_word (take (word_size xs) xs) ≡ true
 word_bytes [] h = refl
@@ -93,6 +94,7 @@ module _ (line : List ℕ) (lower : list_all is_line_byte line ≡ true) where
   pub first_is : (split line).first ≡ span_of start size
   first_is = ap (λ (n : ℕ). span_of n (word_size (drop n line))) (zero-add start)
 
+  -- the second word of the line is the one after the first and the spaces that follow it
   pub second_is : (split line).second ≡ span_of later later_size
   second_is = ap (word_after line) first_is ∙ from (size == 0) refl where
     none : drop start line ≡ [] → drop later line ≡ []

@@ -199,6 +199,7 @@ heard_noun_routine = routine (codes "heard_noun")
 abbrev pub after : List ℕ → Expression → Expression
 after f x = call f (x ∷ name (codes "e") ∷ [])
 
+-- `hear`: where the two words of the line stand, and what they name
 abbrev pub hear_routine : RoutineTree
 hear_routine = routine (codes "hear") (codes "e" ∷ codes "i" ∷ codes "x" ∷ [])
     (set (codes "e") (sum (byte (codes "buf") (v.Number 1)) (v.Number 2))

@@ -146,6 +146,7 @@ module _ (holds : ProgramHolds) (notes : NotesCountForNothing) (entries : Entere
       (both_hold p (text_directives style db) turning of_texts of_turn)) lines_do
       (words db p width translates.limits (serves (word_directives db) of_words))).all_rounds
 
+  -- the run of the program is the play, for all typed lines and draws, with steps that are enough
   pub always_alike : AlwaysAlike style width db from ds
   always_alike lines draws steps typed fair enough = let
       noted : NotedAlike width ds steps lines draws
