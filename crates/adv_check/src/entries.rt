@@ -6,9 +6,9 @@ ghost use Rattle.scott_types.specs.Action.{opcode_numbers, parameters};
 ghost use Rattle.adv_check.specs.Faults.{condition_fault, opcode_faults, exit_fault};
 ghost use Rattle.adv_check.specs.Sites.{Site, action_sites, room_sites, item_sites, each_from, warnings_of};
 
+use crate::adding::{add, add_part};
 use crate::faults::{condition_fault, exit_fault, naming_fault, opcode_fault};
 use crate::findings::{Fault, Part, Warning};
-use crate::adding::{add, add_part};
 use adv_io::Memory;
 use arrayvec::ArrayVec;
 use scott_types::action_lines::{opcode_numbers, parameters};

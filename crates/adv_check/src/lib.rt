@@ -6,9 +6,9 @@
 pub mod findings;
 
 // What is wrong with one number, and with each entry of the lists.
+mod adding;
 mod entries;
 mod faults;
-mod adding;
 
 // All warnings, and the text of the report.
 mod reporting;

@@ -1,6 +1,6 @@
 -- Lists of entries: fed with a line for each, a list has an entry for each, and means what they
 -- mean.
-use Rattle.std.proofs.Common.{◌≡◌, ℕ, zero, suc, ◌+◌, ◌≤◌, ◌<◌, Bool, false, cond, leb, List, [], ◌∷◌, ◌++◌, map, length, Result, Ok, refl, sym, ap, subst, ◌∙◌, append_assoc, arith, length-append}
+use Rattle.std.proofs.Common.{◌≡◌, ℕ, zero, suc, ◌+◌, ◌≤◌, ◌<◌, Bool, true, false, cond, leb, List, [], ◌∷◌, ◌++◌, map, length, Result, Ok, refl, sym, ap, subst, ◌∙◌, append_assoc, arith, length-append}
 use Rattle.std.specs.List.{AllByRecursion}
 use Rattle.std.proofs.lemmas.Bool.{cond-true, le-leb}
 use Rattle.std.proofs.lemmas.List.{append-nil}
@@ -15,6 +15,7 @@ use Rattle.adv_compiler.specs.Faults.{◌>>=◌ as ◌onto◌}
 use Rattle.adv_compiler.specs.Lists.{each, some, list_of}
 use Rattle.adv_decompiler.specs.Layout.{Lead, spaced, below, Chunk, mark, section}
 use Rattle.adv_decompiler.specs.Plain.{lines_from, lines_of}
+use Rattle.adv_decompiler.proofs.Apart.{laid, laid-lines}
 use Rattle.adv_decompiler.proofs.Feeding.{Fed, fed_then, fed_done, fed_weaken}
 use Rattle.adv_decompiler.proofs.Names.{name-same}
 
@@ -95,24 +96,42 @@ module _ {X Y E : Type 0} (one : ℕ → At E → Result Y Fault) (view : X → 
   some_there end [] h = absurd (omega arith)
   some_there end (x ∷ xs) h = refl
 
-  pub list_means : (xs : List X) (list : Entries E) → 1 ≤ length xs → length xs ≤ highest + 1 → length xs ≤ bound → AllByRecursion Q xs → Each R 0 xs list.entries
+  entries_mean : (xs : List X) (list : Entries E) → 1 ≤ length xs → length xs ≤ highest + 1 → length xs ≤ bound → AllByRecursion Q xs → Each R 0 xs list.entries
       → list_of one highest list ≡ Ok (map view xs)
-  list_means xs list there few bounded all h =
+  entries_mean xs list there few bounded all h =
       ap (λ (r : Result (List Y) Fault). r onto some list.end) (each_means xs list.entries [] 0 refl (omega arith) (omega arith) all h)
       ∙ some_there list.end xs there
 
--- ---- a list under its word
+-- ---- a list whose elements are written line by line
 
-module _ {X E : Type 0} (piece : ℕ → Token → Plan E) (Q : X → Type 0) (line : ℕ → X → List Chunk) (R : ℕ → X → At E → Type 0) (highest : ℕ)
-    (each_fed : (k : ℕ) (x : X) → k < highest → Q x → EntryFed piece (line k x) (R k x)) where
-  pub listing_fed : (name : List ℕ) (xs : List X) → length xs ≤ highest → length xs < 18446744073709551615 → AllByRecursion Q xs
-      → Fed (listing name piece) (section below name (lines_of line xs)) (λ es. Each R 0 xs es.entries)
+-- what holds of it: some elements are there and not too many, each passes, and the line of one that
+-- passes is read by the piece as an entry of which R holds, and stands apart
+pub record Listed {X E : Type 0} (piece : ℕ → Token → Plan E) (Q : X → Type 0) (line : ℕ → X → List Chunk) (R : ℕ → X → At E → Type 0) (xs : List X) : Type 0 where
+  pub some : 1 ≤ length xs
+  pub few : length xs ≤ 5000
+  pub all : AllByRecursion Q xs
+  pub fed : (k : ℕ) (x : X) → k < length xs → Q x → EntryFed piece (line k x) (R k x)
+  pub apart : (k : ℕ) (x : X) → k < length xs → Q x → laid false (line k x) ≡ true
+
+module _ {X E : Type 0} {piece : ℕ → Token → Plan E} {Q : X → Type 0} {line : ℕ → X → List Chunk} {R : ℕ → X → At E → Type 0} {xs : List X} (listed : Listed piece Q line R xs) where
+  -- under its word it is read
+  pub listing_fed : (name : List ℕ) → Fed (listing name piece) (section below name (lines_of line xs)) (λ es. Each R 0 xs es.entries)
   unfolding listing braced key symbol any_token
-  listing_fed name xs few short all at =
+  listing_fed name at =
       subst
       (λ (b : Bool). Fed (cond b (done tt) (refuse at) >>= λ u. braced piece) (mark spaced 123 ∷ (lines_of line xs ++ mark below 125 ∷ []))
       (λ es. Each R 0 xs es.entries)) (sym (name-same name))
-      (λ at_brace. fed_many piece Q line R highest each_fed below xs few short all)
+      (λ at_brace. fed_many piece Q line R (length xs) listed.fed below xs (omega arith) (omega (arith, listed.few)) listed.all)
+
+  -- its lines stand apart
+  pub lines_laid : laid false (lines_of line xs) ≡ true
+  lines_laid = laid-lines Q line (length xs) listed.apart xs 0 (omega arith) listed.all
+
+  -- it means its elements, as they are viewed
+  module _ {Y : Type 0} (one : ℕ → At E → Result Y Fault) (view : X → Y) (highest : ℕ) (few : length xs ≤ highest + 1) where
+    pub list_means : ((k : ℕ) (x : X) (e : At E) → k < length xs → Q x → R k x e → one k e ≡ Ok (view x))
+        → (list : Entries E) → Each R 0 xs list.entries → list_of one highest list ≡ Ok (map view xs)
+    list_means means list h = entries_mean one view Q R highest (length xs) means xs list listed.some few (omega arith) listed.all h
 
 pub each-length : {X E : Type 0} (R : ℕ → X → At E → Type 0) (xs : List X) (entries : List (At E)) (k : ℕ) → Each R k xs entries → length entries ≡ length xs
 each-length R [] [] k h = refl

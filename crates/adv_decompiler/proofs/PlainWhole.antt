@@ -43,10 +43,10 @@ use Rattle.adv_decompiler.specs.References.{sizes_of, room_name}
 use Rattle.adv_decompiler.specs.Lines.{action_line}
 use Rattle.adv_decompiler.specs.Plain.{header_lines, word_line, room_line, message_line, item_line, trailer_line, lines_of, chunks, plain}
 use Rattle.adv_decompiler.specs.Laws.{ReadsBack}
-use Rattle.adv_decompiler.proofs.Apart.{laid, laid-append, laid-lines, all-by}
+use Rattle.adv_decompiler.proofs.Apart.{laid, laid-append, all-by}
 use Rattle.adv_decompiler.proofs.Feeding.{Fed, fed_then, WrittenLaws, read_fed}
 use Rattle.adv_decompiler.proofs.Finding.{Finds, AreFew}
-use Rattle.adv_decompiler.proofs.Listing.{Each, list_means, listing_fed, each-length}
+use Rattle.adv_decompiler.proofs.Listing.{Each, Listed, listing_fed, lines_laid, list_means, each-length}
 use Rattle.adv_decompiler.proofs.Titles.{found_from, none_found}
 use Rattle.adv_decompiler.proofs.PlainEntries.{WordMeans, word_fed, word_means, MessageMeans, message_fed, message_means, RoomMeans, room_fed, room_means, ItemMeans, item_fed, item_means}
 use Rattle.adv_decompiler.proofs.WrittenLimits.{IsGood, good}
@@ -72,6 +72,51 @@ module _ (db : Database) (limits : KeepsLimits db) (within_limits : Limited db) 
 
   abbrev LineEntry : ℕ → Action × List ℕ → At LinePart → Type 0
   LineEntry k pair e = LineMeans sizes few pair.0 pair.1 e
+
+  words_listed : Listed word_part (Passes is_word) (word_line sizes) WordMeans db.words
+  words_listed = record {
+    some = within_limits.words_few.0;
+    few = omega (arith, within_limits.words_few.1);
+    all = within_limits.words_right;
+    fed = λ k w low ok. word_fed sizes k w;
+    apart = λ k w low ok. word_laid sizes few k w ok;
+  }
+
+  rooms_listed : Listed room_part (Passes is_room) (room_line sizes) (RoomMeans sizes few) db.rooms
+  rooms_listed = record {
+    some = within_limits.rooms_few.0;
+    few = omega (arith, within_limits.rooms_few.1);
+    all = within_limits.rooms_right;
+    fed = λ k r low ok. room_fed sizes few k r low ok;
+    apart = λ k r low ok. room_laid sizes few k r low ok;
+  }
+
+  messages_listed : Listed message_part (Passes is_file_text) (message_line sizes) MessageMeans db.messages
+  messages_listed = record {
+    some = within_limits.messages_few.0;
+    few = omega (arith, within_limits.messages_few.1);
+    all = within_limits.messages_right;
+    fed = λ k m low ok. message_fed sizes few k m low;
+    apart = λ k m low ok. message_laid sizes few k m low ok;
+  }
+
+  items_listed : Listed item_part (Passes is_item) (item_line sizes) (ItemMeans sizes few) db.items
+  items_listed = record {
+    some = within_limits.items_few.0;
+    few = omega (arith, within_limits.items_few.1);
+    all = within_limits.items_right;
+    fed = λ k i low ok. item_fed sizes few k i low ok;
+    apart = λ k i low ok. item_laid sizes few k i low ok;
+  }
+
+  lines_listed : Listed line_part IsLine (action_line sizes) LineEntry pairs
+  lines_listed = record {
+    some = within_limits.lines_few.0;
+    few = within_limits.lines_few.1;
+    all = within_limits.lines_right;
+    fed = λ k p low ok. action_fed sizes few k p.0 p.1 ok.0;
+    apart = λ k p low ok. action_laid sizes few k p.0 p.1 ok.0 ok.1;
+  }
 
   comments_are : (xs : List (Action × List ℕ)) (entries : List (At LinePart)) (k : ℕ) → Each LineEntry k xs entries
       → map (λ e. e.what.comment) entries ≡ map (λ (p : Action × List ℕ). p.1) xs
@@ -158,33 +203,28 @@ module _ (db : Database) (limits : KeepsLimits db) (within_limits : Limited db) 
 
     words_are : list_of (means.word known) 999 words ≡ Ok db.words
     words_are =
-        list_means (means.word known) (λ w. w) (Passes is_word) WordMeans 999 1000 (λ k w e low ok h. word_means known k w e h) db.words words within_limits.words_few.0
-        within_limits.words_few.1 within_limits.words_few.1 within_limits.words_right read.words_mean
+        list_means words_listed (means.word known) (λ w. w) 999 within_limits.words_few.1 (λ k w e low ok h. word_means known k w e h) words read.words_mean
         ∙ ap (λ (ws : List Word). Ok ws) (map-id db.words)
 
     rooms_are : list_of (means.room known) 254 rooms ≡ Ok db.rooms
     rooms_are =
-        list_means (means.room known) (λ r. r) (Passes is_room) (RoomMeans sizes few) 254 (length db.rooms)
-        (λ k r e low ok h. room_means sizes few known finds k r e low h) db.rooms rooms within_limits.rooms_few.0 within_limits.rooms_few.1 (omega arith) within_limits.rooms_right read.rooms_mean
+        list_means rooms_listed (means.room known) (λ r. r) 254 within_limits.rooms_few.1 (λ k r e low ok h. room_means sizes few known finds k r e low h) rooms read.rooms_mean
         ∙ ap (λ (rs : List Room). Ok rs) (map-id db.rooms)
 
     messages_are : list_of (means.message known) 999 messages ≡ Ok db.messages
     messages_are =
-        list_means (means.message known) (λ m. m) (Passes is_file_text) MessageMeans 999 (length db.messages)
-        (λ k m e low ok h. message_means sizes few known finds k m e low h) db.messages messages within_limits.messages_few.0 within_limits.messages_few.1 (omega arith) within_limits.messages_right
+        list_means messages_listed (means.message known) (λ m. m) 999 within_limits.messages_few.1 (λ k m e low ok h. message_means sizes few known finds k m e low h) messages
         read.messages_mean
         ∙ ap (λ (ms : List (List ℕ)). Ok ms) (map-id db.messages)
 
     items_are : list_of (means.item known) 254 items ≡ Ok db.items
     items_are =
-        list_means (means.item known) (λ i. i) (Passes is_item) (ItemMeans sizes few) 254 (length db.items)
-        (λ k i e low ok h. item_means sizes few known finds k i e low h) db.items items within_limits.items_few.0 within_limits.items_few.1 (omega arith) within_limits.items_right read.items_mean
+        list_means items_listed (means.item known) (λ i. i) 254 within_limits.items_few.1 (λ k i e low ok h. item_means sizes few known finds k i e low h) items read.items_mean
         ∙ ap (λ (is : List Item). Ok is) (map-id db.items)
 
     lines_are : list_of (line known) 4999 lines ≡ Ok db.actions
     lines_are =
-        list_means (line known) (λ p. p.0) IsLine LineEntry 4999 5000 (λ k p e low ok h. action_means sizes few known finds k p.0 p.1 e ok.0 h) pairs lines
-        within_limits.lines_few.0 within_limits.lines_few.1 within_limits.lines_few.1 within_limits.lines_right read.lines_mean
+        list_means lines_listed (line known) (λ p. p.0) 4999 within_limits.lines_few.1 (λ k p e low ok h. action_means sizes few known finds k p.0 p.1 e ok.0 h) lines read.lines_mean
         ∙ ap (λ (actions : List Action). Ok actions) (firsts-zip db.actions db.comments limits.commented)
 
     whole_means : meant tree ≡ Ok db
@@ -241,24 +281,19 @@ module _ (db : Database) (limits : KeepsLimits db) (within_limits : Limited db) 
   lists_fed first hf =
       fed_then (λ es. Each WordMeans 0 db.words es.entries) Means (listing (codes "words") word_part) _
       (section_of (codes "words") (lines_of (word_line sizes) db.words)) _
-      (listing_fed word_part (Passes is_word) (word_line sizes) WordMeans 1000 (λ k w low ok. word_fed sizes k w) (codes "words") db.words within_limits.words_few.1
-      (omega (arith, within_limits.words_few.1)) within_limits.words_right) (λ words hw.
+      (listing_fed words_listed (codes "words")) (λ words hw.
       fed_then (λ es. Each (RoomMeans sizes few) 0 db.rooms es.entries) Means (listing (codes "rooms") room_part) _
       (section_of (codes "rooms") (lines_of (room_line sizes) db.rooms)) _
-      (listing_fed room_part (Passes is_room) (room_line sizes) (RoomMeans sizes few) (length db.rooms) (λ k r low ok. room_fed sizes few k r low ok) (codes "rooms")
-      db.rooms (omega arith) (omega (arith, within_limits.rooms_few.1)) within_limits.rooms_right) (λ rooms hr.
+      (listing_fed rooms_listed (codes "rooms")) (λ rooms hr.
       fed_then (λ es. Each MessageMeans 0 db.messages es.entries) Means (listing (codes "messages") message_part) _
       (section_of (codes "messages") (lines_of (message_line sizes) db.messages)) _
-      (listing_fed message_part (Passes is_file_text) (message_line sizes) MessageMeans (length db.messages) (λ k m low ok. message_fed sizes few k m low)
-      (codes "messages") db.messages (omega arith) (omega (arith, within_limits.messages_few.1)) within_limits.messages_right) (λ messages hm.
+      (listing_fed messages_listed (codes "messages")) (λ messages hm.
       fed_then (λ es. Each (ItemMeans sizes few) 0 db.items es.entries) Means (listing (codes "items") item_part) _
       (section_of (codes "items") (lines_of (item_line sizes) db.items)) _
-      (listing_fed item_part (Passes is_item) (item_line sizes) (ItemMeans sizes few) (length db.items) (λ k i low ok. item_fed sizes few k i low ok) (codes "items")
-      db.items (omega arith) (omega (arith, within_limits.items_few.1)) within_limits.items_right) (λ items hi.
+      (listing_fed items_listed (codes "items")) (λ items hi.
       fed_then (λ es. Each LineEntry 0 pairs es.entries) Means (listing (codes "lines") line_part) _
       (section_of (codes "lines") (lines_of (action_line sizes) pairs)) _
-      (listing_fed line_part IsLine (action_line sizes) LineEntry 5000 (λ k p low ok. action_fed sizes few k p.0 p.1 ok.0) (codes "lines") pairs within_limits.lines_few.1
-      (omega (arith, within_limits.lines_few.1)) within_limits.lines_right) (λ lines hl.
+      (listing_fed lines_listed (codes "lines")) (λ lines hl.
       fed_then (λ numbers. numbers ≡ db.trailer.version ∷ db.trailer.adventure ∷ db.trailer.third ∷ []) Means trailer _
       (section_of (codes "trailer") (trailer_line db.trailer)) (chunk below token.End ∷ []) (trailer_fed db.trailer) (λ numbers hn at.
       whole_means first words rooms messages items lines numbers
@@ -280,15 +315,15 @@ module _ (db : Database) (limits : KeepsLimits db) (within_limits : Limited db) 
   text_laid =
       let start : db.header.start ≤ 255 = omega (arith, limits.header.start_there, within_limits.rooms_few.1) in
       let words = section-laid (codes "words") (lines_of (word_line sizes) db.words) refl
-      (laid-lines (Passes is_word) (word_line sizes) 1000 (λ k w low ok. word_laid sizes few k w ok) db.words 0 (omega (arith, within_limits.words_few.1)) within_limits.words_right) in
+      (lines_laid words_listed) in
       let rooms = section-laid (codes "rooms") (lines_of (room_line sizes) db.rooms) refl
-      (laid-lines (Passes is_room) (room_line sizes) (length db.rooms) (λ k r low ok. room_laid sizes few k r low ok) db.rooms 0 (omega arith) within_limits.rooms_right) in
+      (lines_laid rooms_listed) in
       let messages = section-laid (codes "messages") (lines_of (message_line sizes) db.messages) refl
-      (laid-lines (Passes is_file_text) (message_line sizes) (length db.messages) (λ k m low ok. message_laid sizes few k m low ok) db.messages 0 (omega arith) within_limits.messages_right) in
+      (lines_laid messages_listed) in
       let items = section-laid (codes "items") (lines_of (item_line sizes) db.items) refl
-      (laid-lines (Passes is_item) (item_line sizes) (length db.items) (λ k i low ok. item_laid sizes few k i low ok) db.items 0 (omega arith) within_limits.items_right) in
+      (lines_laid items_listed) in
       let lines = section-laid (codes "lines") (lines_of (action_line sizes) pairs) refl
-      (laid-lines IsLine (action_line sizes) 5000 (λ k p low ok. action_laid sizes few k p.0 p.1 ok.0 ok.1) pairs 0 (omega (arith, within_limits.lines_few.1)) within_limits.lines_right) in
+      (lines_laid lines_listed) in
       let w = section_of (codes "words") (lines_of (word_line sizes) db.words) in
       let r = section_of (codes "rooms") (lines_of (room_line sizes) db.rooms) in
       let m = section_of (codes "messages") (lines_of (message_line sizes) db.messages) in

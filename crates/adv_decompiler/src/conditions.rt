@@ -21,7 +21,13 @@ fn put_condition(alloc: Global, out: &mut Vec<u8>, sizes: &Sizes, packed: u32) -
     out.push(b' ')?;
     out.extend_from_slice(condition_word(code))?;
     out.push(b' ')?;
-    put_thing(alloc, out, sizes, Condition::of(code).names(), argument_of(packed))?;
+    put_thing(
+        alloc,
+        out,
+        sizes,
+        Condition::of(code).names(),
+        argument_of(packed),
+    )?;
     out.push(b';')?;
     Ok(())
 }

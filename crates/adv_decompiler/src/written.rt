@@ -13,7 +13,10 @@ pub fn tests_first(conds: &[u32]) -> usize
     ensures value { result ≡ tests_first conds.now }
     ensures within { result ≤ length conds.now }
 {
-    conds.iter().take_while(|c| !(condition_code(**c) == 0)).count()
+    conds
+        .iter()
+        .take_while(|c| !(condition_code(**c) == 0))
+        .count()
 }
 
 // How many parameters the opcode of a number takes.

@@ -67,7 +67,12 @@ pub fn holds(db: &Db, state: &State, argument: u32, code: u8) -> bool
 fn condition_holds(db: &Db, state: &State, packed: u32) -> bool
     ensures { result ≡ condition_holds db.now state.now packed }
 {
-    test(db, state, argument_of(packed), Condition::of(condition_code(packed)))
+    test(
+        db,
+        state,
+        argument_of(packed),
+        Condition::of(condition_code(packed)),
+    )
 }
 
 /// Whether all conditions of a line hold.

@@ -1,5 +1,5 @@
 //! What is done up to the prompt.
-ghost use Rattle.std.specs.Prelude.{◌≡◌, ◌+◌, ◌++◌, IfOk, OnOk, [], length};
+ghost use Rattle.std.specs.Prelude.{◌≡◌, ◌+◌, ◌++◌, IfOk, [], length};
 ghost use Rattle.adv_draws.specs.Supply.{supplied};
 ghost use Rattle.adv_io.specs.Console.{Speaks};
 ghost use Rattle.scott_types.specs.State.{Fits};
@@ -9,7 +9,6 @@ ghost use Rattle.scott_rules.specs.Rounds.{look_due, unmarked, prompted, to_prom
 ghost use Rattle.scott_types.specs.declared.phrases.Phrase.TheVariants.{Prompt};
 ghost use Rattle.scott_types.specs.declared.endings.Position.TheVariants.{Fresh};
 ghost use Rattle.scott_types.specs.Phrase.{text_of};
-ghost use Rattle.scott_turn.specs.Tried.{tallied};
 ghost use Rattle.scott_turn.specs.Done.{Does, Shows};
 
 use crate::automatic::automatic;

@@ -1,11 +1,8 @@
 //! Getting and dropping all: a walk over the items.
-ghost use Rattle.std.specs.Prelude.{◌≡◌, ◌<◌, IfOk, [], true, false, if◌then◌else◌, OnOk};
-ghost use Rattle.adv_io.specs.Console.{Speaks};
+ghost use Rattle.std.specs.Prelude.{◌≡◌, ◌<◌, [], true, false, if◌then◌else◌};
 ghost use Rattle.scott_types.specs.State.{Fits};
 ghost use Rattle.scott_rules.specs.Transfer.{none_taken, all_items, is_too_dark, all_from, all_transferred};
-ghost use Rattle.adv_io.specs.Steps.{shown_of};
 ghost use Rattle.scott_turn.specs.ItemTurns.{item_turn, ends_all, over_in, is_taken_by};
-ghost use Rattle.scott_turn.specs.Tried.{tallied};
 ghost use Rattle.scott_turn.specs.Done.{Does};
 
 use crate::games::Game;

@@ -1,5 +1,5 @@
 //! The answer to a line.
-ghost use Rattle.std.specs.Prelude.{◌≡◌, ◌++◌, IfOk, OnOk, [], List, ℕ};
+ghost use Rattle.std.specs.Prelude.{◌≡◌, ◌++◌, IfOk, [], List, ℕ};
 ghost use Rattle.adv_io.specs.Console.{Speaks};
 ghost use Rattle.adv_io.specs.History.{says};
 ghost use Rattle.scott_types.specs.declared.phrases.Phrase.TheVariants.{Prompt};
@@ -8,8 +8,6 @@ ghost use Rattle.scott_types.specs.State.{Fits};
 ghost use Rattle.scott_rules.specs.Commands.{heard};
 ghost use Rattle.scott_rules.specs.Rounds.{turn_ended, command_done, command_result, asked_again, unknown_word, by_heard};
 ghost use Rattle.scott_vocab.specs.Heard.{IsEntry};
-ghost use Rattle.adv_io.specs.Steps.{shown_of};
-ghost use Rattle.scott_turn.specs.Tried.{tallied};
 ghost use Rattle.scott_turn.specs.Done.{Does, Shows};
 
 use crate::commands::do_command;

@@ -1,15 +1,12 @@
 //! The automatic step: the groups of verb 0, each where a draw lets it in.
-ghost use Rattle.std.specs.Prelude.{◌≡◌, ◌+◌, ◌<◌, ◌==◌, nat_le, IfOk, OnOk, [], length};
+ghost use Rattle.std.specs.Prelude.{◌≡◌, ◌+◌, ◌<◌, ◌==◌, nat_le, [], length};
 ghost use Rattle.adv_draws.specs.Supply.{supplied};
 ghost use Rattle.scott_types.specs.Database.{action_at};
-ghost use Rattle.adv_io.specs.Console.{Speaks};
 ghost use Rattle.scott_types.specs.State.{Fits};
 ghost use Rattle.scott_types.specs.Action.{noun_of};
 ghost use Rattle.scott_rules.specs.Groups.{over_of, group_tried, groups_from, automatic};
-ghost use Rattle.adv_io.specs.Steps.{shown_of};
 ghost use Rattle.scott_turn.specs.Heads.{group_at};
 ghost use Rattle.scott_turn.specs.Turns.{halt_of, entered, auto_turn, goes_through};
-ghost use Rattle.scott_turn.specs.Tried.{tallied};
 ghost use Rattle.scott_turn.specs.Done.{Does};
 
 use crate::games::Game;

@@ -1,12 +1,10 @@
 //! Getting and dropping one item.
-ghost use Rattle.std.specs.Prelude.{◌≡◌, ◌<◌, ◌≤◌, ◌&&◌, not, IfOk, IfSome, length};
-ghost use Rattle.adv_io.specs.Console.{Speaks};
+ghost use Rattle.std.specs.Prelude.{◌≡◌, ◌<◌, ◌≤◌, ◌&&◌, not, IfSome, length};
 ghost use Rattle.scott_types.specs.ItemText.{get_word};
 ghost use Rattle.scott_types.specs.State.{Fits};
 ghost use Rattle.scott_rules.specs.Words.{is_empty, is_typed, root};
 ghost use Rattle.scott_rules.specs.Transfer.{is_at_hand, item_named, one_moved, one_from, one_transferred};
 ghost use Rattle.scott_vocab.specs.Heard.{IsEntry};
-ghost use Rattle.adv_io.specs.Steps.{shown_of};
 ghost use Rattle.scott_turn.specs.ItemTurns.{IsItem};
 ghost use Rattle.scott_turn.specs.Done.{Shows};
 

@@ -1,12 +1,9 @@
 //! To do a command.
-ghost use Rattle.std.specs.Prelude.{◌≡◌, IfOk, codes, bytes_eq, OnOk};
-ghost use Rattle.adv_io.specs.Console.{Speaks};
+ghost use Rattle.std.specs.Prelude.{◌≡◌, codes, bytes_eq};
 ghost use Rattle.scott_types.specs.State.{Fits};
 ghost use Rattle.scott_rules.specs.Transfer.{is_all, transfer as got_or_dropped};
 ghost use Rattle.scott_rules.specs.Rounds.{not_done, unmatched, by_found, by_actions, going, command_result};
 ghost use Rattle.scott_vocab.specs.Heard.{IsEntry};
-ghost use Rattle.adv_io.specs.Steps.{shown_of};
-ghost use Rattle.scott_turn.specs.Tried.{tallied};
 ghost use Rattle.scott_turn.specs.Done.{Does};
 
 use crate::all_items::transfer_all;

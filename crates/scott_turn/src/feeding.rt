@@ -5,7 +5,6 @@ ghost use Rattle.adv_io.specs.Console.{Speaks};
 ghost use Rattle.scott_types.specs.State.{Fits};
 ghost use Rattle.scott_rules.specs.Play.{go};
 ghost use Rattle.scott_turn.specs.Rounds.{is_prompt};
-ghost use Rattle.adv_io.specs.Steps.{shown_of};
 ghost use Rattle.scott_turn.specs.Fed.{given, said, after_line};
 ghost use Rattle.scott_turn.specs.Tried.{tallied};
 ghost use Rattle.scott_turn.specs.Done.{Does};

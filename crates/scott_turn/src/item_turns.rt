@@ -1,5 +1,5 @@
 //! Getting and dropping all: the turn of one item.
-ghost use Rattle.std.specs.Prelude.{◌≡◌, ◌<◌, ◌++◌, IfOk, length, true, if◌then◌else◌, OnOk};
+ghost use Rattle.std.specs.Prelude.{◌≡◌, ◌<◌, ◌++◌, IfOk, length, true, if◌then◌else◌};
 ghost use Rattle.scott_types.specs.Database.{item_at};
 ghost use Rattle.adv_io.specs.History.{says};
 ghost use Rattle.adv_io.specs.Console.{Speaks};
@@ -9,9 +9,7 @@ ghost use Rattle.scott_types.specs.Phrase.{text_of, text_in};
 ghost use Rattle.scott_types.specs.State.{Fits};
 ghost use Rattle.scott_rules.specs.Words.{which};
 ghost use Rattle.scott_rules.specs.Transfer.{verb_for, is_taken, is_refused};
-ghost use Rattle.adv_io.specs.Steps.{shown_of};
 ghost use Rattle.scott_turn.specs.ItemTurns.{moved_or_not, ending_in, item_actions, after_actions, item_turn};
-ghost use Rattle.scott_turn.specs.Tried.{tallied};
 ghost use Rattle.scott_turn.specs.Done.{Does, Shows};
 
 use crate::games::Game;

@@ -1,15 +1,12 @@
 //! The search for a command's group.
-ghost use Rattle.std.specs.Prelude.{◌≡◌, ◌+◌, ◌<◌, IfOk, OnOk, length};
+ghost use Rattle.std.specs.Prelude.{◌≡◌, ◌+◌, ◌<◌, length};
 ghost use Rattle.scott_types.specs.Database.{action_at};
-ghost use Rattle.adv_io.specs.Console.{Speaks};
 ghost use Rattle.scott_types.specs.State.{Fits};
 ghost use Rattle.scott_types.specs.Action.{noun_of};
 ghost use Rattle.scott_rules.specs.Groups.{group_tried, groups};
 ghost use Rattle.scott_rules.specs.Search.{is_for_noun, search_result};
-ghost use Rattle.adv_io.specs.Steps.{shown_of};
 ghost use Rattle.scott_turn.specs.Heads.{group_at};
 ghost use Rattle.scott_turn.specs.Turns.{found_of, search_turn, ends_search, at_least};
-ghost use Rattle.scott_turn.specs.Tried.{tallied};
 ghost use Rattle.scott_turn.specs.Done.{Does};
 
 use crate::games::Game;

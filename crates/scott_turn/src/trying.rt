@@ -1,13 +1,11 @@
 //! To try a group: its head, and the tail where the head goes on.
-ghost use Rattle.std.specs.Prelude.{◌≡◌, ◌+◌, ◌<◌, IfOk, OnOk, length};
-ghost use Rattle.adv_io.specs.Console.{Speaks};
+ghost use Rattle.std.specs.Prelude.{◌≡◌, ◌+◌, ◌<◌, length};
 ghost use Rattle.scott_types.specs.State.{Fits};
 ghost use Rattle.std.specs.List.{list_all};
 ghost use Rattle.scott_types.specs.Action.{is_zero, is_zero_action};
 ghost use Rattle.scott_types.specs.Database.{action_at};
 ghost use Rattle.scott_rules.specs.Actions.{note_of, try_action};
 ghost use Rattle.scott_rules.specs.Groups.{over_of, tail_action, tail_tried, passed_or_over, group_tried};
-ghost use Rattle.adv_io.specs.Steps.{shown_of};
 ghost use Rattle.scott_turn.specs.Heads.{tail_from, group_at};
 ghost use Rattle.scott_turn.specs.Tried.{tallied};
 ghost use Rattle.scott_turn.specs.Done.{Does};

@@ -1,6 +1,5 @@
 //! Moving from room to room.
-ghost use Rattle.std.specs.Prelude.{◌≡◌, ◌-◌, IfOk, IsTrue, length, [], if◌then◌else◌};
-ghost use Rattle.adv_io.specs.Console.{Speaks};
+ghost use Rattle.std.specs.Prelude.{◌≡◌, ◌-◌, IsTrue, length, [], if◌then◌else◌};
 ghost use Rattle.scott_types.specs.declared.phrases.Phrase.TheVariants.{DarkMove};
 ghost use Rattle.scott_types.specs.Database.{room_at};
 ghost use Rattle.scott_types.specs.Phrase.{text_of};
@@ -8,7 +7,6 @@ ghost use Rattle.scott_types.specs.Room.{exit_of};
 ghost use Rattle.scott_types.specs.State.{Fits, is_dark};
 ghost use Rattle.scott_rules.specs.Commands.{is_direction};
 ghost use Rattle.scott_rules.specs.Rounds.{way, walk_result};
-ghost use Rattle.adv_io.specs.Steps.{shown_of};
 ghost use Rattle.scott_turn.specs.Done.{Shows};
 ghost use Rattle.scott_turn.specs.Ways.{way_text, way_over};
 ghost use Rattle.scott_types.specs.declared.styles.Style.{Style as AnyStyle};
