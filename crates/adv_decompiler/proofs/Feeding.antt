@@ -7,7 +7,7 @@ use Rattle.std.proofs.lemmas.Bool.{and_parts, and_from, or_cases}
 use Rattle.std.proofs.lemmas.List.{take_at, drop_at}
 use Rattle.std.proofs.lemmas.Int.{ints}
 use Rattle.adv_io.specs.Text.{newline, is_text, is_text_byte}
-use Rattle.adv_text.specs.Reading.{Spot, spot}
+use Rattle.adv_text.specs.Reading.{Input, input}
 use Rattle.adv_text.specs.Spelling.{NoDigit, NoQuote}
 use Rattle.adv_text.specs.Laws.{Fits32, WrittenNumberIsSpelled, WrittenStringIsSpelled}
 use Rattle.scott_types.specs.Limits.{is_file_text, is_file_byte, is_number}
@@ -147,49 +147,49 @@ module _ (laws : WrittenLaws) where
   spells (token.Mark b) bytes w h = (mark-kind b bytes w, refl, refl)
   spells token.End bytes w h = absurd (cc)
 
-  abbrev Read : {X : Type 0} → Plan X → (X → Type 0) → Spot → Type 0
-  Read {X} p P s = (x : X) × (after : Spot) × Spelled p x s after × P x
+  abbrev Read : {X : Type 0} → Plan X → (X → Type 0) → Input → Type 0
+  Read {X} p P s = (x : X) × (after : Input) × Spelled p x s after × P x
 
   -- what is fed to a plan and stands apart is read by it
   read_chunk : {X : Type 0} (P : X → Type 0) (more : ℕ → Token → Plan X) (lead : Lead) (t : Token) (bytes : List ℕ) (at : ℕ)
       → is_written t ≡ true → EndsHere t bytes
-      → Read (more (at + length (lead_text lead)) t) P (spot (at + length (lead_text lead) + length (token_text t)) bytes)
-      → Read (next more) P (spot at (lead_text lead ++ (token_text t ++ bytes)))
+      → Read (more (at + length (lead_text lead)) t) P (input (at + length (lead_text lead) + length (token_text t)) bytes)
+      → Read (next more) P (input at (lead_text lead ++ (token_text t ++ bytes)))
   read_chunk {X} P more lead t bytes at w ends read =
-      let start : Spot = spot at (lead_text lead ++ (token_text t ++ bytes)) in
-      let there : Spot = spot (at + length (lead_text lead)) (token_text t ++ bytes) in
-      let behind : Spot = spot (at + length (lead_text lead) + length (token_text t)) bytes in
+      let start : Input = input at (lead_text lead ++ (token_text t ++ bytes)) in
+      let there : Input = input (at + length (lead_text lead)) (token_text t ++ bytes) in
+      let behind : Input = input (at + length (lead_text lead) + length (token_text t)) bytes in
       let gone : gap false start.rest ≡ length (lead_text lead) = lead-gap lead t bytes w in
       let past : past_gap start ≡ there =
-      ap (λ (n : ℕ). spot (at + n) (drop n start.rest)) gone
-      ∙ ap (λ (rest : List ℕ). spot (at + length (lead_text lead)) rest) (drop_at (lead_text lead) (token_text t ++ bytes) (length (lead_text lead)) refl) in
+      ap (λ (n : ℕ). input (at + n) (drop n start.rest)) gone
+      ∙ ap (λ (rest : List ℕ). input (at + length (lead_text lead)) rest) (drop_at (lead_text lead) (token_text t ++ bytes) (length (lead_text lead)) refl) in
       let to : TokenTo there t behind = (spells t bytes w ends, omega (arith, length-append (token_text t) bytes)) in
-      subst (λ (s : Spot). (x : X) × (after : Spot) × ((u : Token) × (rest : Spot) × TokenTo s u rest × Spelled (more s.at u) x rest after) × P x)
+      subst (λ (s : Input). (x : X) × (after : Input) × ((u : Token) × (rest : Input) × TokenTo s u rest × Spelled (more s.at u) x rest after) × P x)
       (sym past) (read.0, read.1, (t, behind, to, read.2), read.3)
 
-  read_end : {X : Type 0} (P : X → Type 0) (p : Plan X) (s : Spot) → Fed p [] P → Read p P s
+  read_end : {X : Type 0} (P : X → Type 0) (p : Plan X) (s : Input) → Fed p [] P → Read p P s
   read_end P (done x) s h = (x, s, (refl, refl), h)
   read_end P (refuse at) s h = absurd h
   read_end P (next more) s h = absurd h
 
   -- the end of a text, after its last line feed
-  read_last : {X : Type 0} (P : X → Type 0) (p : Plan X) (at : ℕ) → Fed p (chunk below token.End ∷ []) P → Read p P (spot at (newline ∷ []))
+  read_last : {X : Type 0} (P : X → Type 0) (p : Plan X) (at : ℕ) → Fed p (chunk below token.End ∷ []) P → Read p P (input at (newline ∷ []))
   read_last P (done x) at h = absurd h
   read_last P (refuse place) at h = absurd h
   read_last P (next more) at h =
-      let last = read_end P (more (at + 1) token.End) (spot (at + 1) []) (h (at + 1)) in
-      (last.0, last.1, (token.End, spot (at + 1) [], ((refl, refl), refl), last.2), last.3)
+      let last = read_end P (more (at + 1) token.End) (input (at + 1) []) (h (at + 1)) in
+      (last.0, last.1, (token.End, input (at + 1) [], ((refl, refl), refl), last.2), last.3)
 
   -- a text whose tokens stand apart is read to its end by a plan that they feed
   pub read_fed : {X : Type 0} (P : X → Type 0) (p : Plan X) (chunks : List Chunk) (free : Bool) (at : ℕ)
-      → Fed p (chunks ++ chunk below token.End ∷ []) P → laid free chunks ≡ true → Read p P (spot at (ended chunks))
+      → Fed p (chunks ++ chunk below token.End ∷ []) P → laid free chunks ≡ true → Read p P (input at (ended chunks))
   read_fed P p [] free at h l = read_last P p at h
   read_fed P (done x) (c ∷ chunks) free at h l = absurd h
   read_fed P (refuse place) (c ∷ chunks) free at h l = absurd h
   read_fed P (next more) (c ∷ chunks) free at h l =
       let one = and_parts (is_written c.token) _ l in
       let two = and_parts (opens c || free) (laid (is_a_mark c.token) chunks) one.1 in
-      subst (λ (bytes : List ℕ). Read (next more) P (spot at bytes)) (sym (ended-cons c chunks))
+      subst (λ (bytes : List ℕ). Read (next more) P (input at bytes)) (sym (ended-cons c chunks))
       (read_chunk P more c.lead c.token (ended chunks) at one.0 (ends_here c.token chunks two.1)
       (read_fed P (more (at + length (lead_text c.lead)) c.token) chunks (is_a_mark c.token) (at + length (lead_text c.lead) + length (token_text c.token))
       (h (at + length (lead_text c.lead))) two.1))

@@ -4,7 +4,7 @@ use Rattle.std.specs.Prelude.{IsTrue, option_and_then, Result}
 use Rattle.std.specs.List.{list_all}
 use Rattle.std.proofs.lemmas.Bool.{eqb-true, eq-eqb, and_parts, and_from}
 use Rattle.adv_io.specs.Text.{newline, space}
-use Rattle.adv_text.specs.Reading.{Spot, spot, Fault, number_at}
+use Rattle.adv_text.specs.Reading.{Input, input, Fault, number_at}
 use Rattle.adv_text.specs.Writing.{number_text}
 use Rattle.adv_text.specs.Spelling.{NoDigit}
 use Rattle.adv_text.specs.Laws.{Fits32, SpelledNumberIsRead, WrittenNumberIsSpelled}
@@ -89,7 +89,7 @@ ended-some x y bytes rest e =
 
 module _ (spelled : SpelledNumberIsRead) (written : WrittenNumberIsSpelled) (least most : ℤ) where
   -- a number that is accepted is within its limits, and stands there in its one spelling
-  exact-some : (digits : List ℕ) (found : Result (ℤ × Spot) Fault) (z : ℤ) (rest : List ℕ)
+  exact-some : (digits : List ℕ) (found : Result (ℤ × Input) Fault) (z : ℤ) (rest : List ℕ)
       → exact least most digits found ≡ Some (z, rest)
       → IsTrue (is_within least most z) × (digits ≡ number_text z ++ rest)
   exact-some digits (Err fault) z rest e = absurd (cc)
@@ -113,15 +113,15 @@ module _ (spelled : SpelledNumberIsRead) (written : WrittenNumberIsSpelled) (lea
       → IsTrue (is_within least most z) × (bytes ≡ labelled [] z ++ rest)
   number-sound bytes z rest e =
       let found = onto_text-some (space ∷ []) bytes
-      (λ digits. exact least most digits (number_at (spot 0 digits))) z rest e in
-      let last = exact-some found.0 (number_at (spot 0 found.0)) z rest found.2 in
+      (λ digits. exact least most digits (number_at (input 0 digits))) z rest e in
+      let last = exact-some found.0 (number_at (input 0 found.0)) z rest found.2 in
       (last.0, found.1 ∙ ap (λ d. space ∷ d) last.1)
 
   number-complete : (z : ℤ) (rest : List ℕ) → IsTrue (is_within least most z) → Fits32 z
       → NoDigit rest
       → number_in least most (labelled [] z ++ rest) ≡ Some (z, rest)
   number-complete z rest there fits no_digit =
-      let read = spelled (spot 0 (number_text z ++ rest)) z rest (written z rest fits no_digit) in
+      let read = spelled (input 0 (number_text z ++ rest)) z rest (written z rest fits no_digit) in
       rw (read.2, there) (onto_text-on (number_text z) rest (λ r. Some (z, r)))
 
 -- ---- values

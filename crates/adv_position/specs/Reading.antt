@@ -1,7 +1,7 @@
 -- Reading a position from left to right.
 use Rattle.std.specs.Prelude.{ℕ, zero, suc, ◌-◌, ◌==◌, Bool, if◌then◌else◌, List, [], ◌∷◌, Option, Some, None, option_and_then, Result, Ok, Err, ℤ, pos, negsuc, codes, length}
 use Rattle.adv_io.specs.Text.{newline, space}
-use Rattle.adv_text.specs.Reading.{Spot, spot, Fault, number_at}
+use Rattle.adv_text.specs.Reading.{Input, input, Fault, number_at}
 use Rattle.adv_text.specs.Writing.{number_text}
 use Rattle.scott_types.specs.declared.states.State.{State}
 use Rattle.scott_types.specs.declared.endings.Position.{Position}
@@ -38,7 +38,7 @@ ended x bytes = onto_text (newline ∷ []) bytes (λ rest. Some (x, rest))
 -- ---- numbers
 
 -- a number from the least to the most, in the one way in which it is written
-abbrev pub exact : ℤ → ℤ → List ℕ → Result (ℤ × Spot) Fault → Read ℤ
+abbrev pub exact : ℤ → ℤ → List ℕ → Result (ℤ × Input) Fault → Read ℤ
 exact least most bytes (Err fault) = None
 exact least most bytes (Ok read) =
     if is_within least most read.0
@@ -47,7 +47,7 @@ exact least most bytes (Ok read) =
 -- the same after a space
 abbrev pub number_in : ℤ → ℤ → List ℕ → Read ℤ
 number_in least most bytes =
-    onto_text (space ∷ []) bytes (λ digits. exact least most digits (number_at (spot 0 digits)))
+    onto_text (space ∷ []) bytes (λ digits. exact least most digits (number_at (input 0 digits)))
 
 -- what a number stands for, after a label
 unfoldable pub field_in : {X : Type 0} → (ℤ → X) → List ℕ → ℤ → ℤ → List ℕ → Read X

@@ -1,6 +1,6 @@
 //! Reading texts and numbers, each in the one way in which it is written.
 ghost use Rattle.std.specs.Prelude.{◌≡◌, ℤ, Some, None, IsTrue, IfSome, MatchOption, length};
-ghost use Rattle.adv_text.specs.Reading.{spot, number_at};
+ghost use Rattle.adv_text.specs.Reading.{input, number_at};
 ghost use Rattle.adv_position.specs.Numbers.{is_within};
 ghost use Rattle.adv_position.specs.Reading.{after_text, exact, number_in, field_in, fields_in, numbers_in};
 
@@ -53,7 +53,7 @@ impl<'a> Reader<'a> {
 
     // Reads a number from the least to the most, which begins here.
     fn exact(&mut self, least: i32, most: i32) -> Option<i32>
-        ensures value { let found = number_at (spot 0 self.old) in MatchOption result
+        ensures value { let found = number_at (input 0 self.old) in MatchOption result
             (exact least most self.old found ≡ None)
             (λ z. exact least most self.old found ≡ Some (z, self.new)) }
         ensures within { IfSome result (λ z. IsTrue (is_within least most z)) }

@@ -6,7 +6,7 @@ use Rattle.std.specs.Global.{Vec}
 use Rattle.adv_text.specs.declared.faults.TextFault.{TextFault}
 use Rattle.adv_text.specs.declared.faults.TextFault.TheVariants as answer
 use Rattle.adv_text.specs.Spelling.{Number, Quoted}
-use Rattle.adv_text.specs.Reading.{Spot, Fault, no_number, big_number, no_quote, open_string, long_string, SameEnd, number_at, quoted_at, fault_answer, Stands, IsFaultOf, IsText}
+use Rattle.adv_text.specs.Reading.{Input, Fault, no_number, big_number, no_quote, open_string, long_string, SameEnd, number_at, quoted_at, fault_answer, Stands, IsFaultOf, IsText}
 use Rattle.adv_text.specs.Laws.{NumberFault, StringFault}
 use Rattle.adv_text.proofs.Places.{number_ends, string_ends}
 use Rattle.adv_text.proofs.Numbers.{number_is_spelled, spelled_number_is_read, number_fault_is_exact}
@@ -68,7 +68,7 @@ err_is f g e = cc
 
 -- ---- numbers
 
-module _ (s after : Spot) where
+module _ (s after : Input) where
   pub number_spelled : (r : Result ℤ TextFault) → IfOk r (λ z. number_at s ≡ Ok (z, after)) → IfOk r (λ z. Number z s.rest after.rest)
   number_spelled (Ok z) e = number_is_spelled s after z e
   number_spelled (Err fault) e = tt
@@ -82,7 +82,7 @@ module _ (s after : Spot) where
   number_only (Ok y) e f z rest h =
       let read = spelled_number_is_read s z rest h in
       let same = one_value (y, after) (z, read.0) e read.2 in
-      (ap (λ (p : ℤ × Spot). Ok p.0) same, ap (λ (p : ℤ × Spot). p.1.rest) same ∙ read.1)
+      (ap (λ (p : ℤ × Input). Ok p.0) same, ap (λ (p : ℤ × Input). p.1.rest) same ∙ read.1)
   number_only (Err fault) e f z rest h =
       let read = spelled_number_is_read s z rest h in
       let g = fault_of fault (number_at s) f in
@@ -114,7 +114,7 @@ module _ (s after : Spot) where
   string_only (Ok v) e f text rest h =
       let read = spelled_string_is_read s text rest h in
       let same = one_value (v.items, after) (text, read.0) e read.2 in
-      (ap (λ (p : List ℕ × Spot). p.0) same, ap (λ (p : List ℕ × Spot). p.1.rest) same ∙ read.1)
+      (ap (λ (p : List ℕ × Input). p.0) same, ap (λ (p : List ℕ × Input). p.1.rest) same ∙ read.1)
   string_only (Err fault) e f text rest h =
       let read = spelled_string_is_read s text rest h in
       elim (fault_or_memory fault (quoted_at s) f) [

@@ -4,7 +4,7 @@ use Rattle.std.proofs.lemmas.Bool.{and_parts, and_right, or_from, or_left, or_ri
 use Rattle.std.specs.Char.{is_ascii_digit}
 use Rattle.adv_io.specs.Text.{is_whitespace}
 use Rattle.adv_text.specs.Spelling.{NoDigit, Digits, last, digit, Amount, Signed, bare, plus, minus, signed, greatest, BeginsNumber, Number, NoNumber, BigNumber}
-use Rattle.adv_text.specs.Reading.{Spot, spot, Fault, no_number, big_number, no_quote, open_string, long_string, past_whitespace, past_sign, digits_at, amount_at, number_at}
+use Rattle.adv_text.specs.Reading.{Input, input, Fault, no_number, big_number, no_quote, open_string, long_string, past_whitespace, past_sign, digits_at, amount_at, number_at}
 use Rattle.adv_text.specs.Laws.{NumberIsSpelled, SpelledNumberIsRead, NumberFault, NumberFaultIsExact}
 use Rattle.adv_text.proofs.Whitespace.{Skipped, skipped, found, NoWhitespace, NoWhitespace-past_whitespace}
 
@@ -26,19 +26,19 @@ more_digits n [] = record { total = n; rest = []; digits = last tt; grown = omeg
 more_digits n (b ∷ bytes) = more_digit n b bytes (is_ascii_digit b) refl (more_digits (n * 10 + (b - 48)) bytes)
 
 -- what reading digits after an amount says of them
-abbrev DigitsTell : Bool → ℕ → ℕ → List ℕ → Result (ℤ × Spot) Fault → Type 0
+abbrev DigitsTell : Bool → ℕ → ℕ → List ℕ → Result (ℤ × Input) Fault → Type 0
 DigitsTell negative start n bytes (Ok x) = (m : ℕ) × Digits n m bytes x.1.rest × (m ≤ greatest negative) × (x.0 ≡ signed negative m)
 DigitsTell negative start n bytes (Err fault) = (fault ≡ big_number start) × (m : ℕ) × (rest : List ℕ) × Digits n m bytes rest × (greatest negative < m)
 
-tell_more : (negative : Bool) (start n b : ℕ) (bytes : List ℕ) (r : Result (ℤ × Spot) Fault) → is_ascii_digit b ≡ true
+tell_more : (negative : Bool) (start n b : ℕ) (bytes : List ℕ) (r : Result (ℤ × Input) Fault) → is_ascii_digit b ≡ true
     → DigitsTell negative start (n * 10 + (b - 48)) bytes r → DigitsTell negative start n (b ∷ bytes) r
 tell_more negative start n b bytes (Ok x) e h = (h.0, digit e h.1, h.2, h.3)
 tell_more negative start n b bytes (Err fault) e h = (h.0, h.1, h.2, digit e h.3, h.4)
 
-tell_digit : (negative : Bool) (start n at b : ℕ) (bytes : List ℕ) (r : Result (ℤ × Spot) Fault) (d t : Bool) → n ≤ greatest negative
+tell_digit : (negative : Bool) (start n at b : ℕ) (bytes : List ℕ) (r : Result (ℤ × Input) Fault) (d t : Bool) → n ≤ greatest negative
     → is_ascii_digit b ≡ d → leb (n * 10 + (b - 48)) (greatest negative) ≡ t
     → (n * 10 + (b - 48) ≤ greatest negative → DigitsTell negative start (n * 10 + (b - 48)) bytes r)
-    → DigitsTell negative start n (b ∷ bytes) (cond d (cond t r (Err (big_number start))) (Ok (signed negative n, spot at (b ∷ bytes))))
+    → DigitsTell negative start n (b ∷ bytes) (cond d (cond t r (Err (big_number start))) (Ok (signed negative n, input at (b ∷ bytes))))
 tell_digit negative start n at b bytes r true true fits d t more = tell_more negative start n b bytes r d (more (leb-true _ _ t))
 tell_digit negative start n at b bytes r true false fits d t more =
     let h = more_digits (n * 10 + (b - 48)) bytes in
@@ -54,12 +54,12 @@ digits_tell negative start n at (b ∷ bytes) fits =
     (λ m. digits_tell negative start (n * 10 + (b - 48)) (at + 1) bytes m)
 
 -- what reading an amount says of the bytes
-abbrev AmountTells : Bool → ℕ → List ℕ → Result (ℤ × Spot) Fault → Type 0
+abbrev AmountTells : Bool → ℕ → List ℕ → Result (ℤ × Input) Fault → Type 0
 AmountTells negative start bytes (Ok x) = (m : ℕ) × Amount m bytes x.1.rest × (m ≤ greatest negative) × (x.0 ≡ signed negative m)
 AmountTells negative start bytes (Err fault) =
     ((fault ≡ no_number start) × NoDigit bytes) ⊎ ((fault ≡ big_number start) × (m : ℕ) × (rest : List ℕ) × Amount m bytes rest × (greatest negative < m))
 
-tell_first : (negative : Bool) (start b : ℕ) (bytes : List ℕ) (r : Result (ℤ × Spot) Fault) (d : Bool) → is_ascii_digit b ≡ d
+tell_first : (negative : Bool) (start b : ℕ) (bytes : List ℕ) (r : Result (ℤ × Input) Fault) (d : Bool) → is_ascii_digit b ≡ d
     → DigitsTell negative start (b - 48) bytes r → AmountTells negative start (b ∷ bytes) (cond d r (Err (no_number start)))
 tell_first negative start b bytes (Ok x) true e h = (h.0, (e, h.1), h.2, h.3)
 tell_first negative start b bytes (Err fault) true e h = inr (h.0, h.1, h.2, (e, h.3), h.4)
@@ -79,12 +79,12 @@ amount_tells negative start at (b ∷ bytes) = by_first (is_ascii_digit b) refl
     by_first false e = inl (refl, e)
 
 -- what reading a number without whitespace says of the bytes
-abbrev BytesTell : ℕ → List ℕ → Result (ℤ × Spot) Fault → Type 0
+abbrev BytesTell : ℕ → List ℕ → Result (ℤ × Input) Fault → Type 0
 BytesTell start bytes (Ok x) = BeginsNumber x.0 x.1.rest bytes
 BytesTell start bytes (Err fault) = ((fault ≡ no_number start) × NoNumber bytes) ⊎ ((fault ≡ big_number start) × BigNumber bytes)
 
 -- a spelling of an amount with a sign is one of a number
-tell_signed : (negative : Bool) (start : ℕ) (whole bytes : List ℕ) (r : Result (ℤ × Spot) Fault)
+tell_signed : (negative : Bool) (start : ℕ) (whole bytes : List ℕ) (r : Result (ℤ × Input) Fault)
     → ((m : ℕ) (rest : List ℕ) → Amount m bytes rest → Signed negative m whole rest) → (NoDigit bytes → NoNumber whole)
     → AmountTells negative start bytes r → BytesTell start whole r
 tell_signed negative start whole bytes (Ok x) spelled missing h =
@@ -94,12 +94,12 @@ tell_signed negative start whole bytes (Err fault) spelled missing (inr h) =
     inr (h.0, record { negative = negative; amount = h.1; rest = h.2; spelled = spelled h.1 h.2 h.3; exceeds = h.4 })
 
 -- the number that is read from a sign on
-abbrev from_sign : ℕ → Bool × Spot → Result (ℤ × Spot) Fault
+abbrev from_sign : ℕ → Bool × Input → Result (ℤ × Input) Fault
 from_sign start sign = amount_at sign.0 start sign.1.at sign.1.rest
 
 -- after a sign or without one, a number that is read is spelled so, or its fault stands
 sign_tells : (start at b : ℕ) (bytes : List ℕ) → is_whitespace b ≡ false → (m p : Bool) → eqb b 45 ≡ m → eqb b 43 ≡ p
-    → BytesTell start (b ∷ bytes) (from_sign start (cond m (true, spot (at + 1) bytes) (cond p (false, spot (at + 1) bytes) (false, spot at (b ∷ bytes)))))
+    → BytesTell start (b ∷ bytes) (from_sign start (cond m (true, input (at + 1) bytes) (cond p (false, input (at + 1) bytes) (false, input at (b ∷ bytes)))))
 sign_tells start at b bytes first true p e f =
     let is45 : 45 ≡ b = sym (eqb-true _ _ e) in
     subst (λ (c : ℕ). BytesTell start (c ∷ bytes) (amount_at true start (at + 1) bytes)) is45
@@ -120,17 +120,17 @@ bytes_tell start at [] first = inl (refl, tt)
 bytes_tell start at (b ∷ bytes) first = sign_tells start at b bytes first (eqb b 45) (eqb b 43) refl refl
 
 -- what reading gives: a spelling, or a fault with its place
-abbrev NumberTells : Spot → Result (ℤ × Spot) Fault → Type 0
+abbrev NumberTells : Input → Result (ℤ × Input) Fault → Type 0
 NumberTells s (Ok x) = Number x.0 s.rest x.1.rest
 NumberTells s (Err fault) = NumberFault s fault
 
-tell_after : (s start : Spot) (r : Result (ℤ × Spot) Fault) → ((P : List ℕ → Type 0) → Skipped P s.at s.rest start)
+tell_after : (s start : Input) (r : Result (ℤ × Input) Fault) → ((P : List ℕ → Type 0) → Skipped P s.at s.rest start)
     → BytesTell start.at start.rest r → NumberTells s r
 tell_after s start (Ok x) whitespace h = let k = whitespace (BeginsNumber x.0 x.1.rest) in (k.count, k.after h)
 tell_after s start (Err fault) whitespace (inl h) = let k = whitespace NoNumber in subst (λ (f : Fault). NumberFault s f) (sym h.0) (k.count, k.after h.1, k.place)
 tell_after s start (Err fault) whitespace (inr h) = let k = whitespace BigNumber in subst (λ (f : Fault). NumberFault s f) (sym h.0) (k.count, k.after h.1, k.place)
 
-number_tells : (s : Spot) → NumberTells s (number_at s)
+number_tells : (s : Input) → NumberTells s (number_at s)
 unfolding number_at
 number_tells s =
     let start = past_whitespace s.at s.rest in
@@ -138,7 +138,7 @@ number_tells s =
     (bytes_tell start.at start.at start.rest (NoWhitespace-past_whitespace s.at s.rest))
 
 pub number_is_spelled : NumberIsSpelled
-number_is_spelled s after z e = subst (λ (r : Result (ℤ × Spot) Fault). NumberTells s r) e (number_tells s)
+number_is_spelled s after z e = subst (λ (r : Result (ℤ × Input) Fault). NumberTells s r) e (number_tells s)
 
 -- ---- what is so spelled is read
 
@@ -148,13 +148,13 @@ Digits-le (last h) = omega arith
 Digits-le (digit e h) = omega (arith, Digits-le h)
 
 -- a reading gives this value, and leaves this rest
-abbrev Reads : ℤ → List ℕ → Result (ℤ × Spot) Fault → Type 0
-Reads z rest r = (after : Spot) × (after.rest ≡ rest) × (r ≡ Ok (z, after))
+abbrev Reads : ℤ → List ℕ → Result (ℤ × Input) Fault → Type 0
+Reads z rest r = (after : Input) × (after.rest ≡ rest) × (r ≡ Ok (z, after))
 
 module _ (negative : Bool) (start : ℕ) where
   ends_here : (n at : ℕ) (rest : List ℕ) → NoDigit rest → Reads (signed negative n) rest (digits_at negative start n at rest)
-  ends_here n at [] h = (spot at [], refl, refl)
-  ends_here n at (b ∷ bytes) h = (spot at (b ∷ bytes), refl, rw h refl)
+  ends_here n at [] h = (input at [], refl, refl)
+  ends_here n at (b ∷ bytes) h = (input at (b ∷ bytes), refl, rw h refl)
 
   digits_read : {n m : ℕ} {bytes rest : List ℕ} → Digits n m bytes rest → m ≤ greatest negative → (at : ℕ)
       → Reads (signed negative m) rest (digits_at negative start n at bytes)
@@ -233,7 +233,7 @@ sign_misses start at [] h = refl
 sign_misses start at (b ∷ bytes) h = by_sign (eqb b 45) (eqb b 43) refl refl
   where
     by_sign : (m p : Bool) → eqb b 45 ≡ m → eqb b 43 ≡ p
-        → from_sign start (cond m (true, spot (at + 1) bytes) (cond p (false, spot (at + 1) bytes) (false, spot at (b ∷ bytes)))) ≡ Err (no_number start)
+        → from_sign start (cond m (true, input (at + 1) bytes) (cond p (false, input (at + 1) bytes) (false, input at (b ∷ bytes)))) ≡ Err (no_number start)
     by_sign true p e f = amount_misses true start (at + 1) bytes (h.2 (or_right _ _ e))
     by_sign false true e f = amount_misses false start (at + 1) bytes (h.2 (or_left _ _ f))
     by_sign false false e f = amount_misses false start at (b ∷ bytes) h.1
@@ -248,7 +248,7 @@ NoWhitespace-signed (bare {n = n} {bytes = bytes} {rest = rest} a) = of_amount n
     of_amount n (b ∷ bytes) rest a = (digit_no_sign b a.0).space_no
 
 -- what is read from the first byte after the whitespace on
-abbrev from_whitespace : Spot → Result (ℤ × Spot) Fault
+abbrev from_whitespace : Input → Result (ℤ × Input) Fault
 from_whitespace start = from_sign start.at (past_sign start.at start.rest)
 
 pub spelled_number_is_read : SpelledNumberIsRead
@@ -256,24 +256,24 @@ unfolding number_at
 spelled_number_is_read s z rest h =
     let f = found (BeginsNumber z rest) (λ b bytes p. NoWhitespace-signed p.spelled) s.at h.1 in
     let read = sign_reads f.1.spelled f.1.fits (s.at + h.0) (s.at + h.0) in
-    let there : Reads z rest (from_whitespace (spot (s.at + h.0) f.0)) = subst (λ (y : ℤ). Reads y rest (from_whitespace (spot (s.at + h.0) f.0))) (sym f.1.value) read in
-    subst (λ (start : Spot). Reads z rest (from_whitespace start)) (sym f.2) there
+    let there : Reads z rest (from_whitespace (input (s.at + h.0) f.0)) = subst (λ (y : ℤ). Reads y rest (from_whitespace (input (s.at + h.0) f.0))) (sym f.1.value) read in
+    subst (λ (start : Input). Reads z rest (from_whitespace start)) (sym f.2) there
 
 -- a fault that stands where a number is to be read is answered
-exact : (s : Spot) (fault : Fault) → NumberFault s fault → number_at s ≡ Err fault
+exact : (s : Input) (fault : Fault) → NumberFault s fault → number_at s ≡ Err fault
 unfolding number_at
 exact s (no_number place) h =
     let f = found NoNumber (λ b bytes p. p.0) s.at h.1 in
     let there = sign_misses (s.at + h.0) (s.at + h.0) f.0 f.1 in
-    rw h.2 (subst (λ (start : Spot). from_whitespace start ≡ Err (no_number (s.at + h.0))) (sym f.2) there)
+    rw h.2 (subst (λ (start : Input). from_whitespace start ≡ Err (no_number (s.at + h.0))) (sym f.2) there)
 exact s (big_number place) h =
     let f = found BigNumber (λ b bytes p. NoWhitespace-signed p.spelled) s.at h.1 in
     let there = sign_exceeds f.1.spelled f.1.exceeds (s.at + h.0) (s.at + h.0) in
-    rw h.2 (subst (λ (start : Spot). from_whitespace start ≡ Err (big_number (s.at + h.0))) (sym f.2) there)
+    rw h.2 (subst (λ (start : Input). from_whitespace start ≡ Err (big_number (s.at + h.0))) (sym f.2) there)
 exact s (no_quote place) h = absurd h
 exact s (open_string place) h = absurd h
 exact s (long_string place) h = absurd h
 
 pub number_fault_is_exact : NumberFaultIsExact
 number_fault_is_exact s fault =
-    (λ e. subst (λ (r : Result (ℤ × Spot) Fault). NumberTells s r) e (number_tells s), exact s fault)
+    (λ e. subst (λ (r : Result (ℤ × Input) Fault). NumberTells s r) e (number_tells s), exact s fault)

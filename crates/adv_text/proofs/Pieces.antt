@@ -9,7 +9,7 @@ use Rattle.adv_text.proofs.Strings.{plain_byte}
 use Rattle.adv_text.specs.declared.faults.TextFault.{TextFault}
 use Rattle.adv_text.specs.declared.faults.TextFault.TheVariants as answer
 use Rattle.std.specs.Prelude.{◌==◌, nat_lt}
-use Rattle.adv_text.specs.Reading.{Spot, Fault, long_string, keep, inside_at, IsLong, Stands}
+use Rattle.adv_text.specs.Reading.{Input, Fault, long_string, keep, inside_at, IsLong, Stands}
 
 -- the first so many bytes are kept as they are
 abbrev pub ArePlain : List ℕ → ℕ → Type 0
@@ -62,7 +62,7 @@ first-counts bytes some plain = by_size (prefix_len is_plain bytes) refl
 
 -- ---- one byte that has no room
 
-no_room : (opened : ℕ) (kept : List ℕ) (b : ℕ) (next : List ℕ → Result (List ℕ × Spot) Fault) → 4096 < length kept + 1 → keep opened kept b next ≡ Err (long_string opened)
+no_room : (opened : ℕ) (kept : List ℕ) (b : ℕ) (next : List ℕ → Result (List ℕ × Input) Fault) → 4096 < length kept + 1 → keep opened kept b next ≡ Err (long_string opened)
 no_room opened kept b next long =
     let full : nat_lt (length kept) 4096 ≡ false = grind (arith, nat_tests) in
     ap (λ t. cond t (next (kept ++ b ∷ [])) (Err (long_string opened))) full

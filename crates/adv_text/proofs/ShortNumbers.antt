@@ -7,7 +7,7 @@ use Rattle.std.proofs.Math.Nat.{pow-le-pow_right, pow-suc}
 use Rattle.std.specs.Char.{is_ascii_digit}
 use Rattle.adv_io.specs.Text.{is_whitespace}
 use Rattle.adv_text.specs.Spelling.{greatest, signed}
-use Rattle.adv_text.specs.Reading.{spot, digits_at, amount_at, number_at}
+use Rattle.adv_text.specs.Reading.{input, digits_at, amount_at, number_at}
 use Rattle.adv_text.proofs.Numbers.{digit_no_sign}
 
 -- so many digits make less than a power of ten
@@ -50,30 +50,30 @@ goes_on bytes n k within digit fits before negative start at =
 
 -- no more digit
 pub ends : (bytes : List ℕ) (n k : ℕ) → k < length bytes → is_ascii_digit (get_or bytes k 0) ≡ false → HasRead bytes n k
-    → (negative : Bool) (start at : ℕ) → amount_at negative start at bytes ≡ Ok (signed negative n, spot (at + k) (drop k bytes))
+    → (negative : Bool) (start at : ℕ) → amount_at negative start at bytes ≡ Ok (signed negative n, input (at + k) (drop k bytes))
 ends bytes n k within digit before negative start at =
     before negative start at
     ∙ ap (digits_at negative start n (at + k)) (drop_more bytes k 0 within)
-    ∙ rw digit (ap (λ rest. Ok (signed negative n, spot (at + k) rest)) (sym (drop_more bytes k 0 within)))
+    ∙ rw digit (ap (λ rest. Ok (signed negative n, input (at + k) rest)) (sym (drop_more bytes k 0 within)))
 
 -- a digit after a byte of whitespace begins a number without a sign
 pub from_digit : (b at : ℕ) (digits : List ℕ) → is_whitespace b ≡ true → is_ascii_digit (get_or digits 0 0) ≡ true
-    → number_at (spot at (b ∷ digits)) ≡ amount_at false (at + 1) (at + 1) digits
+    → number_at (input at (b ∷ digits)) ≡ amount_at false (at + 1) (at + 1) digits
 unfolding number_at
 from_digit b at [] space digit = rw space refl
 from_digit b at (d ∷ digits) space digit = let h = digit_no_sign d digit in rw (space, h.space_no, h.minus_no, h.plus_no) refl
 
 -- and it is the one that is read there
 pub read_after : (bytes digits : List ℕ) (at n k : ℕ) → digits ≡ drop 1 bytes → 1 ≤ length bytes → is_whitespace (get_or bytes 0 0) ≡ true → is_ascii_digit (get_or digits 0 0) ≡ true → n < 1000000
-    → ((negative : Bool) (start at : ℕ) → amount_at negative start at digits ≡ Ok (signed negative n, spot (at + k) (drop k digits)))
-    → number_at (spot at bytes) ≡ Ok (to_z w32 n, spot (at + (k + 1)) (drop (k + 1) bytes))
+    → ((negative : Bool) (start at : ℕ) → amount_at negative start at digits ≡ Ok (signed negative n, input (at + k) (drop k digits)))
+    → number_at (input at bytes) ≡ Ok (to_z w32 n, input (at + (k + 1)) (drop (k + 1) bytes))
 read_after [] digits at n k same some space digit few read = absurd (omega (arith, some))
 read_after (b ∷ bytes) digits at n k same some space digit few read =
     let one : suc k ≡ k + 1 = omega arith in
     let after : drop k digits ≡ drop (k + 1) (b ∷ bytes) = ap (drop k) same ∙ ap (λ (m : ℕ). drop m (b ∷ bytes)) one in
-    ap (λ rest. number_at (spot at (b ∷ rest))) (sym same)
+    ap (λ rest. number_at (input at (b ∷ rest))) (sym same)
     ∙ from_digit b at digits space digit
     ∙ read false (at + 1) (at + 1)
-    ∙ ap (λ z. Ok (z, spot (at + 1 + k) (drop k digits))) (sym (to_z_pos w32 n (omega (arith, few))))
-    ∙ ap (λ (place : ℕ). Ok (to_z w32 n, spot place (drop k digits))) (omega arith)
-    ∙ ap (λ rest. Ok (to_z w32 n, spot (at + (k + 1)) rest)) after
+    ∙ ap (λ z. Ok (z, input (at + 1 + k) (drop k digits))) (sym (to_z_pos w32 n (omega (arith, few))))
+    ∙ ap (λ (place : ℕ). Ok (to_z w32 n, input place (drop k digits))) (omega arith)
+    ∙ ap (λ rest. Ok (to_z w32 n, input (at + (k + 1)) rest)) after

@@ -3,18 +3,18 @@ use Rattle.std.proofs.Common.{◌≡◌, ℕ, ◌+◌, ◌-◌, ◌*◌, ◌≤�
 use Rattle.std.specs.Char.{is_ascii_digit}
 use Rattle.adv_io.specs.Text.{is_whitespace}
 use Rattle.adv_text.specs.Spelling.{greatest}
-use Rattle.adv_text.specs.Reading.{Spot, Fault, past_whitespace, past_sign, digits_at, amount_at, number_at, inside_at, opening_at, quoted_at}
+use Rattle.adv_text.specs.Reading.{Input, Fault, past_whitespace, past_sign, digits_at, amount_at, number_at, inside_at, opening_at, quoted_at}
 use Rattle.adv_text.specs.Laws.{Stays, NumberStays, StringStays}
 
 -- ---- choices
 
 module _ {X : Type 0} (more : List ℕ) (end : ℕ) where
-  choose : (test : Bool) (a b c d : Result (X × Spot) Fault) → Stays more end a c → Stays more end b d → Stays more end (cond test a b) (cond test c d)
+  choose : (test : Bool) (a b c d : Result (X × Input) Fault) → Stays more end a c → Stays more end b d → Stays more end (cond test a b) (cond test c d)
   choose true a b c d h k = h
   choose false a b c d h k = k
 
   -- the same of what is read from one of two places
-  choose_from : {S : Type 0} (read : S → Result (X × Spot) Fault) (test : Bool) (a b c d : S) → Stays more end (read a) (read c) → Stays more end (read b) (read d)
+  choose_from : {S : Type 0} (read : S → Result (X × Input) Fault) (test : Bool) (a b c d : S) → Stays more end (read a) (read c) → Stays more end (read b) (read d)
       → Stays more end (read (cond test a b)) (read (cond test c d))
   choose_from read true a b c d h k = h
   choose_from read false a b c d h k = k
@@ -34,7 +34,7 @@ module _ (more : List ℕ) where
   amount_stays negative start at end (b ∷ bytes) near is =
       choose more end (is_ascii_digit b) _ _ _ _ (digits_stay negative start (b - 48) (at + 1) end bytes) (λ settled. refl)
 
-  abbrev from_sign : ℕ → Bool × Spot → Result (ℤ × Spot) Fault
+  abbrev from_sign : ℕ → Bool × Input → Result (ℤ × Input) Fault
   from_sign start sign = amount_at sign.0 start sign.1.at sign.1.rest
 
   signed_stays : (at end : ℕ) (bytes : List ℕ) → at + length bytes ≡ end → Stays more end (from_sign at (past_sign at bytes)) (from_sign at (past_sign at (bytes ++ more)))
@@ -44,7 +44,7 @@ module _ (more : List ℕ) where
       (choose_from more end (from_sign at) (eqb b 43) _ _ _ _ (amount_stays false at (at + 1) end bytes (omega arith) (omega (arith, is)))
       (amount_stays false at at end (b ∷ bytes) (omega arith) is))
 
-  abbrev from_start : Spot → Result (ℤ × Spot) Fault
+  abbrev from_start : Input → Result (ℤ × Input) Fault
   from_start start = from_sign start.at (past_sign start.at start.rest)
 
   number_from : (at end : ℕ) (bytes : List ℕ) → at + length bytes ≡ end → Stays more end (from_start (past_whitespace at bytes)) (from_start (past_whitespace at (bytes ++ more)))
@@ -71,7 +71,7 @@ module _ (more : List ℕ) where
   opening_stays at end (b ∷ bytes) is =
       choose more end (eqb b 34) _ _ _ _ (inside_stays at false [] (at + 1) end bytes) (λ settled. refl)
 
-  abbrev from_opening : Spot → Result (List ℕ × Spot) Fault
+  abbrev from_opening : Input → Result (List ℕ × Input) Fault
   from_opening start = opening_at start.at start.rest
 
   string_from : (at end : ℕ) (bytes : List ℕ) → at + length bytes ≡ end → Stays more end (from_opening (past_whitespace at bytes)) (from_opening (past_whitespace at (bytes ++ more)))

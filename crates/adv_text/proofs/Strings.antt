@@ -4,7 +4,7 @@ use Rattle.std.proofs.lemmas.Bool.{eqb-true, ltb-true, ltb-false, lt-ltb, or_fro
 use Rattle.std.proofs.lemmas.List.{length_push, append-nil, length-append}
 use Rattle.adv_io.specs.Text.{is_whitespace}
 use Rattle.adv_text.specs.Spelling.{is_plain, Inside, here, plain, two_quotes, grave, return, NoQuote, Opened, Closes, Quoted, NoString, Unclosed, Overlong}
-use Rattle.adv_text.specs.Reading.{Spot, spot, Fault, no_number, big_number, no_quote, open_string, long_string, past_whitespace, keep, inside_at, opening_at, quoted_at}
+use Rattle.adv_text.specs.Reading.{Input, input, Fault, no_number, big_number, no_quote, open_string, long_string, past_whitespace, keep, inside_at, opening_at, quoted_at}
 use Rattle.adv_text.specs.Laws.{StringIsSpelled, SpelledStringIsRead, StringFault, StringFaultIsExact}
 use Rattle.adv_text.proofs.Whitespace.{Skipped, skipped, found, NoWhitespace, NoWhitespace-past_whitespace}
 
@@ -16,7 +16,7 @@ after_held true bytes = 34 ∷ bytes
 after_held false bytes = bytes
 
 -- what reading inside a string tells, where some of its text is kept already
-abbrev InsideTells : ℕ → Bool → List ℕ → List ℕ → Result (List ℕ × Spot) Fault → Type 0
+abbrev InsideTells : ℕ → Bool → List ℕ → List ℕ → Result (List ℕ × Input) Fault → Type 0
 InsideTells opened held kept bytes (Ok x) = (more : List ℕ) × (x.0 ≡ kept ++ more) × (length x.0 ≤ 4096) × Inside more (after_held held bytes) (34 ∷ x.1.rest) × NoQuote x.1.rest
 InsideTells opened held kept bytes (Err fault) =
     ((fault ≡ open_string opened) × (more : List ℕ) × (length (kept ++ more) ≤ 4096) × Inside more (after_held held bytes) [])
@@ -26,7 +26,7 @@ InsideTells opened held kept bytes (Err fault) =
 abbrev KeepsOne : Bool → List ℕ → List ℕ → ℕ → Type 0
 KeepsOne held piece bytes b = (text rest : List ℕ) → Inside text bytes rest → Inside (b ∷ text) (after_held held piece) rest
 
-tell_kept : (opened : ℕ) (held : Bool) (kept piece bytes : List ℕ) (b : ℕ) (r : Result (List ℕ × Spot) Fault) → KeepsOne held piece bytes b
+tell_kept : (opened : ℕ) (held : Bool) (kept piece bytes : List ℕ) (b : ℕ) (r : Result (List ℕ × Input) Fault) → KeepsOne held piece bytes b
     → InsideTells opened false (kept ++ b ∷ []) bytes r → InsideTells opened held kept piece r
 tell_kept opened held kept piece bytes b (Ok x) step h = (b ∷ h.0, h.1 ∙ append_assoc kept (b ∷ []) h.0, h.2, step h.0 (34 ∷ x.1.rest) h.3, h.4)
 tell_kept opened held kept piece bytes b (Err fault) step (inl h) =
@@ -35,7 +35,7 @@ tell_kept opened held kept piece bytes b (Err fault) step (inr h) =
     inr (h.0, b ∷ h.1, h.2, subst (λ (t : List ℕ). length t ≡ 4097) (append_assoc kept (b ∷ []) h.1) h.3, step h.1 h.2 h.4)
 
 -- a byte is kept, or it is the 4,097th
-tell_keep : (opened : ℕ) (held : Bool) (kept piece bytes : List ℕ) (b : ℕ) (go_on : List ℕ → Result (List ℕ × Spot) Fault) (t : Bool)
+tell_keep : (opened : ℕ) (held : Bool) (kept piece bytes : List ℕ) (b : ℕ) (go_on : List ℕ → Result (List ℕ × Input) Fault) (t : Bool)
     → ltb (length kept) 4096 ≡ t → length kept ≤ 4096 → KeepsOne held piece bytes b
     → ((more : List ℕ) → length more ≤ 4096 → InsideTells opened false more bytes (go_on more))
     → InsideTells opened held kept piece (cond t (go_on (kept ++ b ∷ [])) (Err (long_string opened)))
@@ -46,7 +46,7 @@ tell_keep opened held kept piece bytes b go_on false t short step more =
     inr (refl, b ∷ [], bytes, omega (arith, ltb-false _ _ t, length_push kept b), step [] bytes here)
 
 -- the same bytes after it, with one less before
-tell_moved : (opened : ℕ) (was held : Bool) (kept piece bytes : List ℕ) (r : Result (List ℕ × Spot) Fault)
+tell_moved : (opened : ℕ) (was held : Bool) (kept piece bytes : List ℕ) (r : Result (List ℕ × Input) Fault)
     → ((text rest : List ℕ) → Inside text (after_held held bytes) rest → Inside text (after_held was piece) rest)
     → InsideTells opened held kept bytes r → InsideTells opened was kept piece r
 tell_moved opened was held kept piece bytes (Ok x) step h = (h.0, h.1, h.2, step h.0 (34 ∷ x.1.rest) h.3, h.4)
@@ -66,7 +66,7 @@ module _ (opened at : ℕ) (kept bytes : List ℕ) (short : length kept ≤ 4096
   byte_tells : (b : ℕ) (held q r g : Bool) → eqb b 34 ≡ q → eqb b 13 ≡ r → eqb b 96 ≡ g
       → InsideTells opened held kept (b ∷ bytes)
       (cond q (cond held (keep opened kept 34 (λ k. inside_at opened false k (at + 1) bytes)) (inside_at opened true kept (at + 1) bytes))
-      (cond held (Ok (kept, spot at (b ∷ bytes)))
+      (cond held (Ok (kept, input at (b ∷ bytes)))
       (cond r (inside_at opened false kept (at + 1) bytes) (keep opened kept (cond g 34 b) (λ k. inside_at opened false k (at + 1) bytes)))))
   byte_tells b true true r g q-is r-is g-is =
       keeps true b 34 (λ text rest h. subst (λ (c : ℕ). Inside (34 ∷ text) (34 ∷ c ∷ bytes) rest) (sym (eqb-true b 34 q-is)) (two_quotes h))
@@ -90,12 +90,12 @@ inside_tells opened held kept at (b ∷ bytes) short =
     byte_tells opened at kept bytes short (λ h k less. inside_tells opened h k (at + 1) bytes less) b held (eqb b 34) (eqb b 13) (eqb b 96) refl refl refl
 
 -- what reading a string without whitespace says of the bytes
-abbrev BytesTell : ℕ → List ℕ → Result (List ℕ × Spot) Fault → Type 0
+abbrev BytesTell : ℕ → List ℕ → Result (List ℕ × Input) Fault → Type 0
 BytesTell start bytes (Ok x) = Opened (Closes x.0 x.1.rest) bytes
 BytesTell start bytes (Err fault) =
     ((fault ≡ no_quote start) × NoString bytes) ⊎ (((fault ≡ open_string start) × Opened Unclosed bytes) ⊎ ((fault ≡ long_string start) × Opened Overlong bytes))
 
-tell_opening : (start b : ℕ) (bytes : List ℕ) (r : Result (List ℕ × Spot) Fault) (q : Bool) → eqb b 34 ≡ q → is_whitespace b ≡ false
+tell_opening : (start b : ℕ) (bytes : List ℕ) (r : Result (List ℕ × Input) Fault) (q : Bool) → eqb b 34 ≡ q → is_whitespace b ≡ false
     → InsideTells start false [] bytes r → BytesTell start (b ∷ bytes) (cond q r (Err (no_quote start)))
 tell_opening start b bytes (Ok x) true e first h =
     (e, record { inside = subst (λ (t : List ℕ). Inside t bytes (34 ∷ x.1.rest)) (sym h.1) h.3; closed = h.4; short = h.2 })
@@ -109,11 +109,11 @@ bytes_tell at (b ∷ bytes) first =
     tell_opening at b bytes (inside_at at false [] (at + 1) bytes) (eqb b 34) refl first (inside_tells at false [] (at + 1) bytes (omega arith))
 
 -- what reading gives: a spelling, or a fault with its place
-abbrev StringTells : Spot → Result (List ℕ × Spot) Fault → Type 0
+abbrev StringTells : Input → Result (List ℕ × Input) Fault → Type 0
 StringTells s (Ok x) = Quoted x.0 s.rest x.1.rest
 StringTells s (Err fault) = StringFault s fault
 
-tell_after : (s start : Spot) (r : Result (List ℕ × Spot) Fault) → ((P : List ℕ → Type 0) → Skipped P s.at s.rest start)
+tell_after : (s start : Input) (r : Result (List ℕ × Input) Fault) → ((P : List ℕ → Type 0) → Skipped P s.at s.rest start)
     → BytesTell start.at start.rest r → StringTells s r
 tell_after s start (Ok x) whitespace h = let k = whitespace (Opened (Closes x.0 x.1.rest)) in (k.count, k.after h)
 tell_after s start (Err fault) whitespace (inl h) =
@@ -123,14 +123,14 @@ tell_after s start (Err fault) whitespace (inr (inl h)) =
 tell_after s start (Err fault) whitespace (inr (inr h)) =
     let k = whitespace (Opened Overlong) in subst (λ (f : Fault). StringFault s f) (sym h.0) (k.count, k.after h.1, k.place)
 
-string_tells : (s : Spot) → StringTells s (quoted_at s)
+string_tells : (s : Input) → StringTells s (quoted_at s)
 unfolding quoted_at
 string_tells s =
     let start = past_whitespace s.at s.rest in
     tell_after s start (opening_at start.at start.rest) (λ P. skipped P s.at s.rest) (bytes_tell start.at start.rest (NoWhitespace-past_whitespace s.at s.rest))
 
 pub string_is_spelled : StringIsSpelled
-string_is_spelled s after text e = subst (λ (r : Result (List ℕ × Spot) Fault). StringTells s r) e (string_tells s)
+string_is_spelled s after text e = subst (λ (r : Result (List ℕ × Input) Fault). StringTells s r) e (string_tells s)
 
 -- ---- what is so spelled is read
 
@@ -142,13 +142,13 @@ abbrev GoesOn : ℕ → List ℕ → ℕ → List ℕ → List ℕ → List ℕ 
 GoesOn opened kept at bytes text rest = (later : ℕ) × (inside_at opened false kept at bytes ≡ inside_at opened false (kept ++ text) later rest)
 
 -- a byte is kept where there is room
-keeps_byte : (opened : ℕ) (kept : List ℕ) (b : ℕ) (go_on : List ℕ → Result (List ℕ × Spot) Fault) → length kept < 4096
+keeps_byte : (opened : ℕ) (kept : List ℕ) (b : ℕ) (go_on : List ℕ → Result (List ℕ × Input) Fault) → length kept < 4096
     → keep opened kept b go_on ≡ go_on (kept ++ b ∷ [])
 keeps_byte opened kept b go_on room = rw (lt-ltb _ _ room) refl
 
 -- a reading gives this text, and leaves this rest
-abbrev Reads : List ℕ → List ℕ → Result (List ℕ × Spot) Fault → Type 0
-Reads text rest r = (after : Spot) × (after.rest ≡ rest) × (r ≡ Ok (text, after))
+abbrev Reads : List ℕ → List ℕ → Result (List ℕ × Input) Fault → Type 0
+Reads text rest r = (after : Input) × (after.rest ≡ rest) × (r ≡ Ok (text, after))
 
 module _ (opened : ℕ) where
   -- what is kept of a plain byte, and what isn't
@@ -185,7 +185,7 @@ module _ (opened : ℕ) where
   goes_on (return h) kept at fits = goes_on h kept (at + 1) fits
 
   -- a byte is kept, or it is the one too many
-  too_many : (kept : List ℕ) (b : ℕ) (go_on : List ℕ → Result (List ℕ × Spot) Fault) (t : Bool) → ltb (length kept) 4096 ≡ t
+  too_many : (kept : List ℕ) (b : ℕ) (go_on : List ℕ → Result (List ℕ × Input) Fault) (t : Bool) → ltb (length kept) 4096 ≡ t
       → (length (kept ++ b ∷ []) ≤ 4096 → go_on (kept ++ b ∷ []) ≡ Err (long_string opened)) → keep opened kept b go_on ≡ Err (long_string opened)
   too_many kept b go_on true e more = keeps_byte opened kept b go_on (ltb-true _ _ e) ∙ more (omega (arith, ltb-true _ _ e, length_push kept b))
   too_many kept b go_on false e more = rw e refl
@@ -207,8 +207,8 @@ module _ (opened : ℕ) where
 
   closes : (kept : List ℕ) (at : ℕ) (rest : List ℕ) → NoQuote rest
       → Reads kept rest (inside_at opened false kept at (34 ∷ rest))
-  closes kept at [] h = (spot (at + 1) [], refl, refl)
-  closes kept at (b ∷ rest) h = (spot (at + 1) (b ∷ rest), refl, rw h refl)
+  closes kept at [] h = (input (at + 1) [], refl, refl)
+  closes kept at (b ∷ rest) h = (input (at + 1) (b ∷ rest), refl, rw h refl)
 
 -- after an opening quote reading goes on inside
 opens : (P : List ℕ → Type 0) (at : ℕ) (bytes : List ℕ) → Opened P bytes
@@ -221,7 +221,7 @@ NoWhitespace-opened : (P : List ℕ → Type 0) (b : ℕ) (bytes : List ℕ) →
 NoWhitespace-opened P b bytes h = subst (λ (c : ℕ). is_whitespace c ≡ false) (sym (eqb-true b 34 h.0)) refl
 
 -- what is read from the first byte after the whitespace on
-abbrev from_whitespace : Spot → Result (List ℕ × Spot) Fault
+abbrev from_whitespace : Input → Result (List ℕ × Input) Fault
 from_whitespace start = opening_at start.at start.rest
 
 pub spelled_string_is_read : SpelledStringIsRead
@@ -233,16 +233,16 @@ spelled_string_is_read s text rest h =
     let o = opens P place f.0 f.1 in
     let through = goes_on place o.1.inside [] (place + 1) o.1.short in
     let end = closes place text through.0 rest o.1.closed in
-    subst (λ (start : Spot). Reads text rest (from_whitespace start)) (sym f.2) (end.0, end.1, o.2 ∙ through.1 ∙ end.2)
+    subst (λ (start : Input). Reads text rest (from_whitespace start)) (sym f.2) (end.0, end.1, o.2 ∙ through.1 ∙ end.2)
 
 -- a fault that stands where a string is to be read is answered
-exact : (s : Spot) (fault : Fault) → StringFault s fault → quoted_at s ≡ Err fault
+exact : (s : Input) (fault : Fault) → StringFault s fault → quoted_at s ≡ Err fault
 unfolding quoted_at
 exact s (no_number place) h = absurd h
 exact s (big_number place) h = absurd h
 exact s (no_quote place) h =
     let f = found NoString (λ b bytes p. p.0) s.at h.1 in
-    rw h.2 (subst (λ (start : Spot). from_whitespace start ≡ Err (no_quote (s.at + h.0))) (sym f.2) (misses (s.at + h.0) f.0 f.1))
+    rw h.2 (subst (λ (start : Input). from_whitespace start ≡ Err (no_quote (s.at + h.0))) (sym f.2) (misses (s.at + h.0) f.0 f.1))
   where
     misses : (at : ℕ) (bytes : List ℕ) → NoString bytes → opening_at at bytes ≡ Err (no_quote at)
     misses at [] n = refl
@@ -251,13 +251,13 @@ exact s (open_string place) h =
     let f = found (Opened Unclosed) (NoWhitespace-opened Unclosed) s.at h.1 in
     let o = opens Unclosed (s.at + h.0) f.0 f.1 in
     let through = goes_on (s.at + h.0) o.1.inside [] (s.at + h.0 + 1) o.1.short in
-    rw h.2 (subst (λ (start : Spot). from_whitespace start ≡ Err (open_string (s.at + h.0))) (sym f.2) (o.2 ∙ through.1))
+    rw h.2 (subst (λ (start : Input). from_whitespace start ≡ Err (open_string (s.at + h.0))) (sym f.2) (o.2 ∙ through.1))
 exact s (long_string place) h =
     let f = found (Opened Overlong) (NoWhitespace-opened Overlong) s.at h.1 in
     let o = opens Overlong (s.at + h.0) f.0 f.1 in
     let long = grows_long (s.at + h.0) o.1.inside [] (s.at + h.0 + 1) (omega arith) (omega (arith, o.1.long)) in
-    rw h.2 (subst (λ (start : Spot). from_whitespace start ≡ Err (long_string (s.at + h.0))) (sym f.2) (o.2 ∙ long))
+    rw h.2 (subst (λ (start : Input). from_whitespace start ≡ Err (long_string (s.at + h.0))) (sym f.2) (o.2 ∙ long))
 
 pub string_fault_is_exact : StringFaultIsExact
 string_fault_is_exact s fault =
-    (λ e. subst (λ (r : Result (List ℕ × Spot) Fault). StringTells s r) e (string_tells s), exact s fault)
+    (λ e. subst (λ (r : Result (List ℕ × Input) Fault). StringTells s r) e (string_tells s), exact s fault)

@@ -6,7 +6,7 @@ use Rattle.std.proofs.lemmas.Bool.{le-leb, lt-leb, leb-true, and_parts}
 use Rattle.std.proofs.lemmas.Bool.Decides.{nat_tests}
 use Rattle.std.proofs.lemmas.List.{flat_map_more, take_more, take_all}
 use Rattle.adv_text.specs.Spelling.{signed, greatest}
-use Rattle.adv_text.specs.Reading.{Spot, spot, Fault, no_number, big_number, digits_at, amount_at}
+use Rattle.adv_text.specs.Reading.{Input, input, Fault, no_number, big_number, digits_at, amount_at}
 use Rattle.adv_text.specs.Writing.{byte_text, quoted_text}
 
 -- ---- writing a string
@@ -53,7 +53,7 @@ place_further at end [] there so_far = absurd (omega arith)
 place_further at end (b ∷ bytes) there so_far = rw (after_first b bytes) (omega arith)
 
 -- a digit that keeps the amount within its limit is read on from
-pub digit_read : (negative : Bool) (start n more at : ℕ) (rest : List ℕ) (whole : Result (ℤ × Spot) Fault) → 1 ≤ length rest
+pub digit_read : (negative : Bool) (start n more at : ℕ) (rest : List ℕ) (whole : Result (ℤ × Input) Fault) → 1 ≤ length rest
     → is_ascii_digit (get_or rest 0 0) ≡ true → more ≡ get_or rest 0 0 - 48 → n * 10 + more ≤ greatest negative
     → digits_at negative start n at rest ≡ whole → digits_at negative start (n * 10 + more) (at + 1) (take (length rest - 1) (drop 1 rest)) ≡ whole
 digit_read negative start n more at [] whole there digit is fits so_far = absurd (omega arith)
@@ -62,7 +62,7 @@ digit_read negative start n more at (b ∷ bytes) whole there digit is fits so_f
     rw (after_first b bytes, is) (rw (digit, small) at so_far)
 
 -- a digit that carries the amount past its limit is the fault
-pub digit_too_many : (negative : Bool) (start n more at : ℕ) (rest : List ℕ) (whole : Result (ℤ × Spot) Fault) → 1 ≤ length rest
+pub digit_too_many : (negative : Bool) (start n more at : ℕ) (rest : List ℕ) (whole : Result (ℤ × Input) Fault) → 1 ≤ length rest
     → is_ascii_digit (get_or rest 0 0) ≡ true → more ≡ get_or rest 0 0 - 48 → greatest negative < n * 10 + more
     → digits_at negative start n at rest ≡ whole → whole ≡ Err (big_number start)
 digit_too_many negative start n more at [] whole there digit is over so_far = absurd (omega arith)
@@ -71,13 +71,13 @@ digit_too_many negative start n more at (b ∷ bytes) whole there digit is over 
     sym so_far ∙ rw (digit, large) refl
 
 -- at the end no more digits are read
-pub digits_end : (negative : Bool) (start n at : ℕ) (rest : List ℕ) → length rest < 1 → digits_at negative start n at rest ≡ Ok (signed negative n, spot at rest)
+pub digits_end : (negative : Bool) (start n at : ℕ) (rest : List ℕ) → length rest < 1 → digits_at negative start n at rest ≡ Ok (signed negative n, input at rest)
 digits_end negative start n at [] none = refl
 digits_end negative start n at (b ∷ bytes) none = absurd (omega arith)
 
 -- nor at a byte that is no digit
 pub digits_stop : (negative : Bool) (start n at : ℕ) (rest : List ℕ) → 1 ≤ length rest → is_ascii_digit (get_or rest 0 0) ≡ false
-    → digits_at negative start n at rest ≡ Ok (signed negative n, spot at rest)
+    → digits_at negative start n at rest ≡ Ok (signed negative n, input at rest)
 digits_stop negative start n at [] there other = absurd (omega arith)
 digits_stop negative start n at (b ∷ bytes) there other = rw other refl
 

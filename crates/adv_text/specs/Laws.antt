@@ -3,7 +3,7 @@
 use Rattle.std.specs.Prelude.{ℕ, Bool, nat_lt, ◌≡◌, ◌+◌, ◌<◌, ◌↔◌, ◌≤ℤ◌, List, ◌++◌, length, Result, ℤ, pos, negsuc, IsTrue, Ok, Err}
 use Rattle.std.specs.List.{list_all}
 use Rattle.adv_text.specs.Spelling.{AfterWhitespace, Number, NoNumber, BigNumber, NoDigit, Quoted, NoString, Opened, Unclosed, Overlong, NoQuote}
-use Rattle.adv_text.specs.Reading.{Spot, with_more, SameEnd, Fault, no_number, big_number, no_quote, open_string, long_string, number_at, quoted_at}
+use Rattle.adv_text.specs.Reading.{Input, with_more, SameEnd, Fault, no_number, big_number, no_quote, open_string, long_string, number_at, quoted_at}
 use Rattle.adv_io.specs.Text.{is_text}
 use Rattle.adv_text.specs.Writing.{number_text, quoted_text}
 
@@ -12,45 +12,45 @@ use Rattle.adv_text.specs.Writing.{number_text, quoted_text}
 -- a number that is read is spelled so
 abbrev pub NumberIsSpelled : Type 0
 NumberIsSpelled =
-    (s after : Spot) (z : ℤ) → number_at s ≡ Ok (z, after) → Number z s.rest after.rest
+    (s after : Input) (z : ℤ) → number_at s ≡ Ok (z, after) → Number z s.rest after.rest
 
--- a number that is spelled so is read, and the spot after it has the rest
+-- a number that is spelled so is read, and the input after it has the rest
 abbrev pub SpelledNumberIsRead : Type 0
-SpelledNumberIsRead = (s : Spot) (z : ℤ) (rest : List ℕ) → Number z s.rest rest
-    → (after : Spot) × (after.rest ≡ rest) × (number_at s ≡ Ok (z, after))
+SpelledNumberIsRead = (s : Input) (z : ℤ) (rest : List ℕ) → Number z s.rest rest
+    → (after : Input) × (after.rest ≡ rest) × (number_at s ≡ Ok (z, after))
 
 abbrev pub StringIsSpelled : Type 0
 StringIsSpelled =
-    (s after : Spot) (text : List ℕ) → quoted_at s ≡ Ok (text, after)
+    (s after : Input) (text : List ℕ) → quoted_at s ≡ Ok (text, after)
     → Quoted text s.rest after.rest
 
 abbrev pub SpelledStringIsRead : Type 0
-SpelledStringIsRead = (s : Spot) (text rest : List ℕ) → Quoted text s.rest rest
-    → (after : Spot) × (after.rest ≡ rest) × (quoted_at s ≡ Ok (text, after))
+SpelledStringIsRead = (s : Input) (text rest : List ℕ) → Quoted text s.rest rest
+    → (after : Input) × (after.rest ≡ rest) × (quoted_at s ≡ Ok (text, after))
 
--- the spot after a number that is read has moved by just the bytes that were taken
+-- the input after a number that is read has moved by just the bytes that were taken
 abbrev pub NumberEnds : Type 0
-NumberEnds = (s after : Spot) (z : ℤ) → number_at s ≡ Ok (z, after) → SameEnd s after
+NumberEnds = (s after : Input) (z : ℤ) → number_at s ≡ Ok (z, after) → SameEnd s after
 
 abbrev pub StringEnds : Type 0
-StringEnds = (s after : Spot) (text : List ℕ) → quoted_at s ≡ Ok (text, after) → SameEnd s after
+StringEnds = (s after : Input) (text : List ℕ) → quoted_at s ≡ Ok (text, after) → SameEnd s after
 
 -- ---- faults
 
--- what stands k bytes of whitespace after a spot is at this place
-abbrev pub PastWhitespace : (List ℕ → Type 0) → Spot → ℕ → Type 0
+-- what stands k bytes of whitespace after an input is at this place
+abbrev pub PastWhitespace : (List ℕ → Type 0) → Input → ℕ → Type 0
 PastWhitespace P s place = (k : ℕ) × AfterWhitespace P k s.rest × (place ≡ s.at + k)
 
--- why no number stands at a spot, with the place after the whitespace
-abbrev pub NumberFault : Spot → Fault → Type 0
+-- why no number stands at an input, with the place after the whitespace
+abbrev pub NumberFault : Input → Fault → Type 0
 NumberFault s (no_number place) = PastWhitespace NoNumber s place
 NumberFault s (big_number place) = PastWhitespace BigNumber s place
 NumberFault s (no_quote place) = ⊥
 NumberFault s (open_string place) = ⊥
 NumberFault s (long_string place) = ⊥
 
--- why no string stands at a spot, with the place after the whitespace
-abbrev pub StringFault : Spot → Fault → Type 0
+-- why no string stands at an input, with the place after the whitespace
+abbrev pub StringFault : Input → Fault → Type 0
 StringFault s (no_number place) = ⊥
 StringFault s (big_number place) = ⊥
 StringFault s (no_quote place) = PastWhitespace NoString s place
@@ -59,10 +59,10 @@ StringFault s (long_string place) = PastWhitespace (Opened Overlong) s place
 
 -- a fault is answered exactly where it stands
 abbrev pub NumberFaultIsExact : Type 0
-NumberFaultIsExact = (s : Spot) (fault : Fault) → (number_at s ≡ Err fault) ↔ NumberFault s fault
+NumberFaultIsExact = (s : Input) (fault : Fault) → (number_at s ≡ Err fault) ↔ NumberFault s fault
 
 abbrev pub StringFaultIsExact : Type 0
-StringFaultIsExact = (s : Spot) (fault : Fault) → (quoted_at s ≡ Err fault) ↔ StringFault s fault
+StringFaultIsExact = (s : Input) (fault : Fault) → (quoted_at s ≡ Err fault) ↔ StringFault s fault
 
 -- ---- what is given
 
@@ -106,7 +106,8 @@ IsSettled end (long_string place) = Unit {0}
 
 -- what was read of bytes is read of them with more behind them too, where a byte follows it or its
 -- fault is settled
-abbrev pub Stays : {X : Type 0} → (more : List ℕ) → (end : ℕ) → (read longer : Result (X × Spot) Fault)
+abbrev pub Stays : {X : Type 0} → (more : List ℕ) → (end : ℕ)
+    → (read longer : Result (X × Input) Fault)
     → Type 0
 Stays more end (Ok read) longer =
     0 < length read.1.rest → longer ≡ Ok (read.0, with_more read.1 more)
@@ -114,12 +115,12 @@ Stays more end (Err fault) longer = IsSettled end fault → longer ≡ Err fault
 
 abbrev pub NumberStays : Type 0
 NumberStays =
-    (s : Spot) (more : List ℕ)
+    (s : Input) (more : List ℕ)
     → Stays more (s.at + length s.rest) (number_at s) (number_at (with_more s more))
 
 abbrev pub StringStays : Type 0
 StringStays =
-    (s : Spot) (more : List ℕ)
+    (s : Input) (more : List ℕ)
     → Stays more (s.at + length s.rest) (quoted_at s) (quoted_at (with_more s more))
 
 -- ---- texts that were written

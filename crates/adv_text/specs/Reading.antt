@@ -9,19 +9,19 @@ use Rattle.adv_text.specs.declared.faults.TextFault.{TextFault}
 use Rattle.adv_text.specs.declared.faults.TextFault.TheVariants as answer
 
 -- a place, counted from the beginning of all bytes, and the bytes from there on
-pub record Spot : Type 0 where
+pub record Input : Type 0 where
   pub at : ℕ
   pub rest : List ℕ
 
-abbrev pub spot : ℕ → List ℕ → Spot
-spot at rest = record { at = at; rest = rest }
+abbrev pub input : ℕ → List ℕ → Input
+input at rest = record { at = at; rest = rest }
 
--- the same spot, where more bytes follow
-abbrev pub with_more : Spot → List ℕ → Spot
-with_more s more = spot s.at (s.rest ++ more)
+-- the same input, where more bytes follow
+abbrev pub with_more : Input → List ℕ → Input
+with_more s more = input s.at (s.rest ++ more)
 
--- two spots are as far from the end as their places say
-abbrev pub SameEnd : Spot → Spot → Type 0
+-- two inputs are as far from the end as their places say
+abbrev pub SameEnd : Input → Input → Type 0
 SameEnd s after = after.at + length after.rest ≡ s.at + length s.rest
 
 -- why there is no number or no string, with its place
@@ -32,41 +32,41 @@ pub data Fault : Type 0 where
   open_string : ℕ → Fault
   long_string : ℕ → Fault
 
--- the spot after the whitespace
-abbrev pub past_whitespace : ℕ → List ℕ → Spot
-past_whitespace at [] = spot at []
+-- the input after the whitespace
+abbrev pub past_whitespace : ℕ → List ℕ → Input
+past_whitespace at [] = input at []
 past_whitespace at (b ∷ bytes) =
-    if is_whitespace b then past_whitespace (at + 1) bytes else spot at (b ∷ bytes)
+    if is_whitespace b then past_whitespace (at + 1) bytes else input at (b ∷ bytes)
 
 -- ---- numbers
 
--- whether a minus stands there, and the spot after a sign
-abbrev pub past_sign : ℕ → List ℕ → Bool × Spot
-past_sign at [] = (false, spot at [])
+-- whether a minus stands there, and the input after a sign
+abbrev pub past_sign : ℕ → List ℕ → Bool × Input
+past_sign at [] = (false, input at [])
 past_sign at (b ∷ bytes) =
-    if b == minus_sign then (true, spot (at + 1) bytes)
-    else if b == plus_sign then (false, spot (at + 1) bytes)
-    else (false, spot at (b ∷ bytes))
+    if b == minus_sign then (true, input (at + 1) bytes)
+    else if b == plus_sign then (false, input (at + 1) bytes)
+    else (false, input at (b ∷ bytes))
 
 -- digits go on after an amount; start is where the number began
-abbrev pub digits_at : Bool → ℕ → ℕ → ℕ → List ℕ → Result (ℤ × Spot) Fault
-digits_at negative start n at [] = Ok (signed negative n, spot at [])
+abbrev pub digits_at : Bool → ℕ → ℕ → ℕ → List ℕ → Result (ℤ × Input) Fault
+digits_at negative start n at [] = Ok (signed negative n, input at [])
 digits_at negative start n at (b ∷ bytes) =
     if is_ascii_digit b
     then (if nat_le (n * 10 + (b - 48)) (greatest negative)
     then digits_at negative start (n * 10 + (b - 48)) (at + 1) bytes
     else Err (big_number start))
-    else Ok (signed negative n, spot at (b ∷ bytes))
+    else Ok (signed negative n, input at (b ∷ bytes))
 
 -- the first digit
-abbrev pub amount_at : Bool → ℕ → ℕ → List ℕ → Result (ℤ × Spot) Fault
+abbrev pub amount_at : Bool → ℕ → ℕ → List ℕ → Result (ℤ × Input) Fault
 amount_at negative start at [] = Err (no_number start)
 amount_at negative start at (b ∷ bytes) =
     if is_ascii_digit b then digits_at negative start (b - 48) (at + 1) bytes
     else Err (no_number start)
 
--- the number at a spot, and the spot after it
-unfoldable pub number_at : Spot → Result (ℤ × Spot) Fault
+-- the number at an input, and the input after it
+unfoldable pub number_at : Input → Result (ℤ × Input) Fault
 number_at s =
     let start = past_whitespace s.at s.rest in
     let sign = past_sign start.at start.rest in
@@ -75,32 +75,32 @@ number_at s =
 -- ---- strings
 
 -- one more byte is kept, unless there are 4,096 already
-abbrev pub keep : ℕ → List ℕ → ℕ → (List ℕ → Result (List ℕ × Spot) Fault)
-    → Result (List ℕ × Spot) Fault
+abbrev pub keep : ℕ → List ℕ → ℕ → (List ℕ → Result (List ℕ × Input) Fault)
+    → Result (List ℕ × Input) Fault
 keep opened kept b go_on =
     if nat_lt (length kept) text_limit then go_on (kept ++ b ∷ []) else Err (long_string opened)
 
 -- inside a string; held tells that the byte before was a quote, which ends it unless a second
 -- follows
-abbrev pub inside_at : ℕ → Bool → List ℕ → ℕ → List ℕ → Result (List ℕ × Spot) Fault
-inside_at opened held kept at [] = if held then Ok (kept, spot at []) else Err (open_string opened)
+abbrev pub inside_at : ℕ → Bool → List ℕ → ℕ → List ℕ → Result (List ℕ × Input) Fault
+inside_at opened held kept at [] = if held then Ok (kept, input at []) else Err (open_string opened)
 inside_at opened held kept at (b ∷ bytes) =
     if b == quote then (if held
     then keep opened kept quote (λ more. inside_at opened false more (at + 1) bytes)
     else inside_at opened true kept (at + 1) bytes)
-    else if held then Ok (kept, spot at (b ∷ bytes))
+    else if held then Ok (kept, input at (b ∷ bytes))
     else if b == carriage_return then inside_at opened false kept (at + 1) bytes
     else keep opened kept (if b == grave_accent then quote else b)
     (λ more. inside_at opened false more (at + 1) bytes)
 
 -- the opening quote
-abbrev pub opening_at : ℕ → List ℕ → Result (List ℕ × Spot) Fault
+abbrev pub opening_at : ℕ → List ℕ → Result (List ℕ × Input) Fault
 opening_at at [] = Err (no_quote at)
 opening_at at (b ∷ bytes) =
     if b == quote then inside_at at false [] (at + 1) bytes else Err (no_quote at)
 
--- the text of the string at a spot, and the spot after it
-unfoldable pub quoted_at : Spot → Result (List ℕ × Spot) Fault
+-- the text of the string at an input, and the input after it
+unfoldable pub quoted_at : Input → Result (List ℕ × Input) Fault
 quoted_at s = let start = past_whitespace s.at s.rest in opening_at start.at start.rest
 
 -- ---- what the program answers
@@ -151,7 +151,7 @@ abbrev pub GoesOn : ℕ → Bool → List ℕ → List ℕ → List ℕ → Opti
 GoesOn opened held kept rest more None =
     (more ≡ kept)
     × ((at : ℕ) → inside_at opened held kept at rest
-    ≡ (if held then Ok (kept, spot at rest) else Err (open_string opened)))
+    ≡ (if held then Ok (kept, input at rest) else Err (open_string opened)))
 GoesOn opened held kept rest more (Some piece) =
     (1 ≤ piece.0) × (piece.0 ≤ length rest)
     × ((at : ℕ) → inside_at opened held kept at rest

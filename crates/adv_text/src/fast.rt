@@ -6,7 +6,7 @@
 ghost use Rattle.std.specs.Prelude.{◌≡◌, ◌+◌, ◌≤◌, ◌<◌, ℕ, Bool, true, Ok, IfSome, length, drop, slice_index_or};
 ghost use Rattle.std.specs.Char.{is_ascii_digit};
 ghost use Rattle.adv_text.specs.Spelling.{signed};
-ghost use Rattle.adv_text.specs.Reading.{spot, amount_at, number_at, quoted_at};
+ghost use Rattle.adv_text.specs.Reading.{input, amount_at, number_at, quoted_at};
 
 use crate::quoted::plain_length;
 use adv_io::is_whitespace;
@@ -21,7 +21,7 @@ pub fn short_amount(bytes: &[u8]) -> Option<(u32, usize)>
     ensures read { IfSome result (λ x. (negative : Bool) (start at : ℕ)
         → amount_at negative start at bytes.now ≡ Ok (
           signed negative x.0,
-          spot (at + x.1)
+          input (at + x.1)
               (drop x.1 bytes.now),
         )) }
     ensures digit { IfSome result (λ _. is_ascii_digit (slice_index_or bytes.now 0 0) ≡ true) }
@@ -48,7 +48,7 @@ pub fn short_amount(bytes: &[u8]) -> Option<(u32, usize)>
 #[inline(always)]
 pub fn short_number(bytes: &[u8]) -> Option<(i32, usize)>
     ensures value { IfSome result (λ x. (at : ℕ)
-        → number_at (spot at bytes.now) ≡ Ok (x.0, spot (at + x.1) (drop x.1 bytes.now))) }
+        → number_at (input at bytes.now) ≡ Ok (x.0, input (at + x.1) (drop x.1 bytes.now))) }
     ensures within { IfSome result (λ x. x.1 ≤ length bytes.now) }
 {
     let [space, digits @ ..] = bytes else {
@@ -66,8 +66,9 @@ pub fn short_number(bytes: &[u8]) -> Option<(i32, usize)>
 /// none where it doesn't stand so.
 #[inline(always)]
 pub fn plain_string(bytes: &[u8]) -> Option<&[u8]>
-    ensures value { IfSome result (λ text. (at : ℕ) → quoted_at (spot at bytes.now)
-        ≡ Ok (text.now, spot (at + (length text.now + 3)) (drop (length text.now + 3) bytes.now))) }
+    ensures value { IfSome result (λ text. (at : ℕ) → quoted_at (input at bytes.now)
+        ≡ Ok (text.now,
+        input (at + (length text.now + 3)) (drop (length text.now + 3) bytes.now))) }
     ensures within { IfSome result (λ text. length text.now + 3 ≤ length bytes.now) }
 {
     if bytes.len() < 2 || !is_whitespace(bytes[0]) || bytes[1] != b'"' {

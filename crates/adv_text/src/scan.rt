@@ -2,7 +2,7 @@
 ghost use Rattle.std.specs.Prelude.{◌≡◌, ◌≢◌, ◌+◌, List, ℕ, ℤ, IfOk, IfErr, OnErr, OnOk, ◌<◌, ◌≤◌, ◌-◌, ◌^◌, length, drop, Ok, Err, MatchResult, ◌↔◌, true, false};
 ghost use Rattle.adv_io.specs.Answers.{IsErrOr};
 ghost use Rattle.adv_text.specs.Spelling.{greatest, signed, Number, Quoted};
-ghost use Rattle.adv_text.specs.Reading.{Spot, spot, SameEnd, past_whitespace, past_sign, amount_at, number_at, quoted_at, opening_at, Stands, IsFaultOf, Fault, fault_answer, IsText};
+ghost use Rattle.adv_text.specs.Reading.{Input, input, SameEnd, past_whitespace, past_sign, amount_at, number_at, quoted_at, opening_at, Stands, IsFaultOf, Fault, fault_answer, IsText};
 ghost use Rattle.adv_text.specs.Laws.{NumberFault, StringFault};
 
 use crate::fast::{plain_string, short_amount, short_number};
@@ -14,7 +14,7 @@ use std::marker::Model;
 
 /// A scan: a place in the bytes of a file, from which it reads on.
 ///
-/// A clause sees a `Spot`: the place, counted from the beginning, and the bytes from there on.
+/// A clause sees an `Input`: the place, counted from the beginning, and the bytes from there on.
 #[derive(Drop)]
 pub struct Scan<'a> {
     at: usize,
@@ -23,9 +23,9 @@ pub struct Scan<'a> {
 
 impl<'a> Model for Scan<'a> {
     ghost use Rattle.std.specs.Prelude.{◌+◌, ◌<◌, ◌^◌, length};
-    ghost use Rattle.adv_text.specs.Reading.{Spot};
+    ghost use Rattle.adv_text.specs.Reading.{Input};
 
-    ghost Value = { Spot };
+    ghost Value = { Input };
 
     ghost view = { λ s. record { at = s.at; rest = s.rest.now } };
 
@@ -54,7 +54,7 @@ fn signed(negative: bool, amount: u64) -> i32
 impl<'a> Scan<'a> {
     /// A scan that stands at the beginning of the bytes.
     pub fn new(bytes: &'a [u8]) -> Scan<'a>
-        ensures { result ≡ spot 0 bytes.now }
+        ensures { result ≡ input 0 bytes.now }
     {
         Scan { at: 0, rest: bytes }
     }
@@ -62,7 +62,7 @@ impl<'a> Scan<'a> {
     /// A scan that stands at this place, with these bytes from there on.
     pub fn on(at: usize, rest: &'a [u8]) -> Scan<'a>
         requires { at + length rest.now < 2 ^ 64 }
-        ensures { result ≡ spot at rest.now }
+        ensures { result ≡ input at rest.now }
     {
         Scan { at, rest }
     }
@@ -85,7 +85,7 @@ impl<'a> Scan<'a> {
     /// Passes over so many bytes, of which there are as many.
     pub fn pass(&mut self, count: usize)
         requires { count ≤ length self.old.rest }
-        ensures { self.new ≡ spot (self.old.at + count) (drop count self.old.rest) }
+        ensures { self.new ≡ input (self.old.at + count) (drop count self.old.rest) }
     {
         self.at += count;
         self.rest = &self.rest[count..];
@@ -110,7 +110,7 @@ impl<'a> Scan<'a> {
         ensures no_memory { result ≢ Err TextFault.Memory }
         ensures stays { OnErr result (self.new ≡ self.old) }
 
-        // The same as a function of the spot.
+        // The same as a function of the input.
         ensures value { IfOk result (λ z. number_at self.old ≡ Ok (z, self.new)) }
         ensures fault { IfErr result (λ fault. IsFaultOf fault (number_at self.old)) }
     {
@@ -138,7 +138,7 @@ impl<'a> Scan<'a> {
             → IsErrOr TextFault.Memory result (fault_answer fault) }
         ensures stays { OnErr result (self.new ≡ self.old) }
 
-        // The same as a function of the spot.
+        // The same as a function of the input.
         ensures value { IfOk result (λ text. quoted_at self.old ≡ Ok (text.items, self.new)) }
         ensures fault { IfErr result (λ fault. Stands fault (quoted_at self.old)) }
     {

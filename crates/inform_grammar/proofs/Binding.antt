@@ -5,7 +5,7 @@ use Rattle.inform_lexemes.specs.Lexemes.{Lexeme}
 use Rattle.inform_grammar.specs.Faults.{Mixed}
 use Rattle.inform_grammar.specs.Lexemes.{is_opener}
 use Rattle.inform_grammar.specs.Plan.{Plan, done, refuse, next, look, maybe, chain, shut, ◌>>=◌}
-use Rattle.inform_grammar.specs.Reading.{Outcome, stops, gives, goes, passed, begun, either_way, step, Spot, Answer, opened_after, taken, at_end, at_lexeme, reads}
+use Rattle.inform_grammar.specs.Reading.{StepResult, stops, gives, goes, passed, begun, either_way, step, Input, Answer, opened_after, taken, at_end, at_lexeme, reads}
 
 -- plans regroup
 pub assoc : {X Y Z : Type 0} (p : Plan X) (f : X → Plan Y) (g : Y → Plan Z) → (p >>= f) >>= g ≡ p >>= (λ x. f x >>= g)
@@ -18,7 +18,7 @@ assoc (chain r test front k) f g = ap (λ k. chain r test front k) (fun_ext (λ 
 assoc (shut p) f g = ap (λ p. shut p) (assoc p f g)
 
 -- what the first plan makes of a lexeme, and then the second
-abbrev pub then_step : {X Y : Type 0} → Option Lexeme → (X → Plan Y) → Outcome X → Outcome Y
+abbrev pub then_step : {X Y : Type 0} → Option Lexeme → (X → Plan Y) → StepResult X → StepResult Y
 then_step t f (stops kind) = stops kind
 then_step t f (gives x n) = step t (f x) n
 then_step t f (goes p n) = goes (p >>= f) n
@@ -55,15 +55,15 @@ step-then t (chain r test front k) n f =
 step-then t (shut p) n f = step-then t p _ f
 
 -- what was read first, and then more
-abbrev pub and_then : {X Y : Type 0} → Answer X → (X → Spot → Answer Y) → Answer Y
+abbrev pub and_then : {X Y : Type 0} → Answer X → (X → Input → Answer Y) → Answer Y
 and_then (Ok y) f = f y.0 y.1
 and_then (Err e) f = Err e
 
 module _ (room : ℕ → Bool) {X Y : Type 0} (f : X → Plan Y) where
-  abbrev pub continued : X → Spot → Answer Y
+  abbrev pub continued : X → Input → Answer Y
   continued x s = reads room s.rest (f x) s.opened
 
-  at-end : (o : Outcome X) → at_end (then_step None f o) ≡ and_then (at_end o) continued
+  at-end : (o : StepResult X) → at_end (then_step None f o) ≡ and_then (at_end o) continued
   unfolding reads
   at-end (stops kind) = refl
   at-end (gives x n) = refl
@@ -80,7 +80,7 @@ module _ (room : ℕ → Bool) {X Y : Type 0} (f : X → Plan Y) where
       cond-then (is_opener x) _ _ _ _ (cond-then (room n) _ _ _ _ (e _) refl) (e (opened_after x n))
 
   at-lexeme : (x : Lexeme) (xs : List Lexeme) → ((p : Plan X) (n : ℕ) → reads room xs (p >>= f) n ≡ and_then (reads room xs p n) continued)
-      → (o : Outcome X) → at_lexeme room x xs (then_step (Some x) f o) (reads room xs) ≡ and_then (at_lexeme room x xs o (reads room xs)) continued
+      → (o : StepResult X) → at_lexeme room x xs (then_step (Some x) f o) (reads room xs) ≡ and_then (at_lexeme room x xs o (reads room xs)) continued
   unfolding reads
   at-lexeme x xs ih (stops kind) = refl
   at-lexeme x xs ih (gives v n) = refl

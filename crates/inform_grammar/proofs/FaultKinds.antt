@@ -7,24 +7,24 @@ use Rattle.inform_grammar.specs.Faults.{FaultKind, Unexpected, Mixed, TooDeep, F
 use Rattle.inform_grammar.specs.Lexemes.{is_connective, swapped, one_less}
 use Rattle.inform_grammar.specs.Plan.{Plan, done, refuse, next, look, maybe, chain, shut, ◌>>=◌}
 use Rattle.inform_grammar.specs.Rule.{rule}
-use Rattle.inform_grammar.specs.Reading.{Outcome, stops, gives, goes, either_way, step, Answer, at_end}
+use Rattle.inform_grammar.specs.Reading.{StepResult, stops, gives, goes, either_way, step, Answer, at_end}
 use Rattle.inform_grammar.proofs.Steps.{starts}
 use Rattle.inform_grammar.proofs.Held.{not-both}
 use Rattle.inform_grammar.proofs.Ready.{Place, Onward}
 
-abbrev pub Goes : {X : Type 0} → Outcome X → Type 0
+abbrev pub Goes : {X : Type 0} → StepResult X → Type 0
 Goes (goes p n) = ⊤
 Goes _ = ⊥
 
 -- a lexeme is refused as one that is unexpected, or it is a connective in whose place the other one
 -- goes on
-abbrev pub Judged : {X : Type 0} → Lexeme → Outcome X → Outcome X → Type 0
+abbrev pub Judged : {X : Type 0} → Lexeme → StepResult X → StepResult X → Type 0
 Judged x (stops Unexpected) other = ⊤
 Judged x (stops Mixed) other = (is_connective x ≡ true) × Goes other
 Judged x (stops TooDeep) other = ⊥
 Judged x _ other = ⊤
 
-judged-more : {X : Type 0} (x : Lexeme) (o other more : Outcome X) → Judged x o other → (Goes other → Goes more) → Judged x o more
+judged-more : {X : Type 0} (x : Lexeme) (o other more : StepResult X) → Judged x o other → (Goes other → Goes more) → Judged x o more
 judged-more x (stops Unexpected) other more h g = tt
 judged-more x (stops Mixed) other more h g = (h.0, g h.1)
 judged-more x (stops TooDeep) other more h g = h
@@ -32,12 +32,12 @@ judged-more x (gives v n) other more h g = tt
 judged-more x (goes p n) other more h g = tt
 
 -- what goes on goes on also where a lexeme or a rule may come first
-goes-past : {X : Type 0} (b : Bool) (x : Lexeme) (k : Lexeme → Plan X) (n : ℕ) (other : Outcome X) → Goes other
+goes-past : {X : Type 0} (b : Bool) (x : Lexeme) (k : Lexeme → Plan X) (n : ℕ) (other : StepResult X) → Goes other
     → Goes (either_way (cond b (Some x) None) (λ x. goes (k x) n) other)
 goes-past true x k n other h = tt
 goes-past false x k n other h = h
 
-goes-past-rule : {X Y : Type 0} (o : Option (Plan X)) (k : X → Plan Y) (n : ℕ) (other : Outcome Y) → (is_some o ≡ false → Goes other)
+goes-past-rule : {X Y : Type 0} (o : Option (Plan X)) (k : X → Plan Y) (n : ℕ) (other : StepResult Y) → (is_some o ≡ false → Goes other)
     → Goes (either_way o (λ p. goes (p >>= k) n) other)
 goes-past-rule None k n other h = h refl
 goes-past-rule (Some p) k n other h = tt
@@ -47,29 +47,29 @@ swapped-twice (Sign And) = refl
 swapped-twice (Sign Or) = refl
 swapped-twice _ = refl
 
-next-judged : {X : Type 0} (x y : Lexeme) (b c : Bool) (k : Lexeme → Plan X) (n : ℕ) (o other : Outcome X) → Judged x o other
+next-judged : {X : Type 0} (x y : Lexeme) (b c : Bool) (k : Lexeme → Plan X) (n : ℕ) (o other : StepResult X) → Judged x o other
     → Judged x (either_way (cond b (Some x) None) (λ x. goes (k x) n) o) (either_way (cond c (Some y) None) (λ x. goes (k x) n) other)
 next-judged x y true c k n o other h = tt
 next-judged x y false c k n o other h = judged-more x o other _ h (goes-past c y k n other)
 
-look-judged : {X : Type 0} (x y : Lexeme) (b c : Bool) (p q o other : Outcome X) → c ≡ b → Judged x p q → Judged x o other
+look-judged : {X : Type 0} (x y : Lexeme) (b c : Bool) (p q o other : StepResult X) → c ≡ b → Judged x p q → Judged x o other
     → Judged x (either_way (cond b (Some x) None) (λ _. p) o) (either_way (cond c (Some y) None) (λ _. q) other)
 look-judged x y true true p q o other e g h = g
 look-judged x y true false p q o other e g h = absurd (cc)
 look-judged x y false true p q o other e g h = absurd (cc)
 look-judged x y false false p q o other e g h = h
 
-maybe-judged : {X Y : Type 0} (x : Lexeme) (a b : Option (Plan X)) (k : X → Plan Y) (n : ℕ) (o other : Outcome Y) → Judged x o other
+maybe-judged : {X Y : Type 0} (x : Lexeme) (a b : Option (Plan X)) (k : X → Plan Y) (n : ℕ) (o other : StepResult Y) → Judged x o other
     → Judged x (either_way a (λ p. goes (p >>= k) n) o) (either_way b (λ p. goes (p >>= k) n) other)
 maybe-judged x (Some p) b k n o other h = tt
 maybe-judged x None b k n o other h = judged-more x o other _ h (λ g. goes-past-rule b k n other (λ _. g))
 
-no-bar : {X : Type 0} (y : Lexeme) (b : Bool) (other : Outcome X) → (b ≡ true → ⊥) → Goes other → Goes (either_way (cond b (Some y) None) (λ _. stops Mixed) other)
+no-bar : {X : Type 0} (y : Lexeme) (b : Bool) (other : StepResult X) → (b ≡ true → ⊥) → Goes other → Goes (either_way (cond b (Some y) None) (λ _. stops Mixed) other)
 no-bar y true other h g = absurd (h refl)
 no-bar y false other h g = g
 
 -- a chain: what is barred is a connective, and the chain may go on with the other one
-bar-judged : {X Y : Type 0} (x y : Lexeme) (b c : Bool) (a : Option (Plan X)) (k : X → Plan Y) (n : ℕ) (o other : Outcome Y)
+bar-judged : {X Y : Type 0} (x y : Lexeme) (b c : Bool) (a : Option (Plan X)) (k : X → Plan Y) (n : ℕ) (o other : StepResult Y)
     → (b ≡ true → (is_connective x ≡ true) × (is_some a ≡ true)) → (c ≡ true → ⊥) → Judged x o other
     → Judged x (either_way (cond b (Some x) None) (λ _. stops Mixed) o)
     (either_way a (λ p. goes (p >>= k) n) (either_way (cond c (Some y) None) (λ _. stops Mixed) other))
@@ -78,7 +78,7 @@ bar-judged x y true c (Some p) k n o other f g h = ((f refl).0, tt)
 bar-judged x y false c a k n o other f g h =
     judged-more x o other _ h (λ l. goes-past-rule a k n (either_way (cond c (Some y) None) (λ _. stops Mixed) other) (λ _. no-bar y c other g l))
 
-chain-judged : {X Y : Type 0} (x y : Lexeme) (b c : Bool) (s a : Option (Plan X)) (k : X → Plan Y) (n : ℕ) (o other : Outcome Y)
+chain-judged : {X Y : Type 0} (x y : Lexeme) (b c : Bool) (s a : Option (Plan X)) (k : X → Plan Y) (n : ℕ) (o other : StepResult Y)
     → (b ≡ true → (is_connective x ≡ true) × (is_some a ≡ true)) → (c ≡ true → is_some s ≡ true) → Judged x o other
     → Judged x (either_way s (λ p. goes (p >>= k) n) (either_way (cond b (Some x) None) (λ _. stops Mixed) o))
     (either_way a (λ p. goes (p >>= k) n) (either_way (cond c (Some y) None) (λ _. stops Mixed) other))

@@ -10,8 +10,8 @@ use Rattle.inform_grammar.specs.Faults.{FaultKind, Unexpected, Mixed, TooDeep, F
 use Rattle.inform_grammar.specs.Lexemes.{is_opener, is_closer, swapped, one_less}
 use Rattle.inform_grammar.specs.Plan.{Plan, done, refuse, next, look, maybe, chain, shut, ◌>>=◌}
 use Rattle.inform_grammar.specs.Rule.{rule, program}
-use Rattle.inform_grammar.specs.Reading.{Outcome, stops, gives, goes, either_way, step, spot, Answer, opened_after, taken, at_end, at_lexeme, reads, open_after, open_before, no_limit}
-use Rattle.inform_grammar.specs.Laws.{IsPrefix, NoneGoesOn, NoOtherGoesOn, Stands, FirstFault}
+use Rattle.inform_grammar.specs.Reading.{StepResult, stops, gives, goes, either_way, step, input, Answer, opened_after, taken, at_end, at_lexeme, reads, open_after, open_before, no_limit}
+use Rattle.inform_grammar.specs.Laws.{IsPrefix, NoneGoesOn, NoOtherGoesOn, Explains, FirstFault}
 use Rattle.inform_grammar.proofs.Says.{Fits}
 use Rattle.inform_grammar.proofs.Held.{not-both, same-answers}
 use Rattle.inform_grammar.proofs.ReadSentences.{read-sentence}
@@ -89,28 +89,28 @@ leads-open room (y ∷ ys) p q after n i m x l e =
     ap (λ o. open_after o (λ q m. open_before ys x q (opened_after y m))) l.2 ∙ leads-open room ys l.0 q after (opened_after y l.1) i m x l.4 e
 
 -- no more are open before a lexeme that is taken
-abbrev Fewer : {X : Type 0} → ℕ → Outcome X → Type 0
+abbrev Fewer : {X : Type 0} → ℕ → StepResult X → Type 0
 Fewer n (stops kind) = ⊤
 Fewer n (gives v m) = ⊤
 Fewer n (goes p m) = m ≤ n
 
-fewer-less : {X : Type 0} (n : ℕ) (o : Outcome X) → Fewer (one_less n) o → Fewer n o
+fewer-less : {X : Type 0} (n : ℕ) (o : StepResult X) → Fewer (one_less n) o → Fewer n o
 fewer-less n (stops kind) h = tt
 fewer-less n (gives v m) h = tt
 fewer-less zero (goes p m) h = h
 fewer-less (suc n) (goes p m) h = omega (arith, h)
 
-fewer-next : {X : Type 0} (b : Bool) (x : Lexeme) (k : Lexeme → Plan X) (n : ℕ) (other : Outcome X) → Fewer n other
+fewer-next : {X : Type 0} (b : Bool) (x : Lexeme) (k : Lexeme → Plan X) (n : ℕ) (other : StepResult X) → Fewer n other
     → Fewer n (either_way (cond b (Some x) None) (λ x. goes (k x) n) other)
 fewer-next true x k n other h = omega arith
 fewer-next false x k n other h = h
 
-fewer-look : {X : Type 0} (b : Bool) (x : Lexeme) (n : ℕ) (same other : Outcome X) → Fewer n same → Fewer n other
+fewer-look : {X : Type 0} (b : Bool) (x : Lexeme) (n : ℕ) (same other : StepResult X) → Fewer n same → Fewer n other
     → Fewer n (either_way (cond b (Some x) None) (λ _. same) other)
 fewer-look true x n same other g h = g
 fewer-look false x n same other g h = h
 
-fewer-rule : {X Y : Type 0} (o : Option (Plan Y)) (k : Y → Plan X) (n : ℕ) (other : Outcome X) → Fewer n other
+fewer-rule : {X Y : Type 0} (o : Option (Plan Y)) (k : Y → Plan X) (n : ℕ) (other : StepResult X) → Fewer n other
     → Fewer n (either_way o (λ p. goes (p >>= k) n) other)
 fewer-rule None k n other h = h
 fewer-rule (Some p) k n other h = omega arith
@@ -180,7 +180,7 @@ record Trace {X : Type 0} (room : ℕ → Bool) (p : Plan X) (n : ℕ) (kind : F
   stop : StopsAt room plan opened kind rest
 
 module _ {X : Type 0} (room : ℕ → Bool) where
-  at-end-rest : (o : Outcome X) (kind : FaultKind) (rest : List Lexeme) → at_end o ≡ refused_with kind rest → [] ≡ rest
+  at-end-rest : (o : StepResult X) (kind : FaultKind) (rest : List Lexeme) → at_end o ≡ refused_with kind rest → [] ≡ rest
   at-end-rest (stops k) kind rest e = (same-faults k kind [] rest e).1
   at-end-rest (gives v n) kind rest e = not-both (sym e)
   at-end-rest (goes p n) kind rest e = (same-faults Unexpected kind [] rest e).1
@@ -202,7 +202,7 @@ module _ {X : Type 0} (room : ℕ → Bool) where
   -- a fault at a lexeme or after it has a trace, if each fault in the lexemes after it has one
   trace-here : (x : Lexeme) (xs : List Lexeme) (p : Plan X) (n : ℕ) (kind : FaultKind) (rest : List Lexeme)
       → ((q : Plan X) (i : ℕ) → reads room xs q i ≡ refused_with kind rest → Trace room q i kind xs rest)
-      → (o : Outcome X) → step (Some x) p n ≡ o → at_lexeme room x xs o (reads room xs) ≡ refused_with kind rest → Trace room p n kind (x ∷ xs) rest
+      → (o : StepResult X) → step (Some x) p n ≡ o → at_lexeme room x xs o (reads room xs) ≡ refused_with kind rest → Trace room p n kind (x ∷ xs) rest
   trace-here x xs p n kind rest later (stops k) same e =
       let a = same-faults k kind (x ∷ xs) rest e in
       record {
@@ -264,7 +264,7 @@ module _ (told : SymbolsTold) (words : KeywordsTold) where
 
   -- the same with one lexeme more
   prefix-on : (before : List Lexeme) (q : Plan (List DirectiveTree)) (i : ℕ) (x : Lexeme) → Leads no_limit before program 0 q i → Good Program q
-      → (o : Outcome (List DirectiveTree)) → step (Some x) q i ≡ o → Goes o → IsPrefix no_limit (before ++ x ∷ [])
+      → (o : StepResult (List DirectiveTree)) → step (Some x) q i ≡ o → Goes o → IsPrefix no_limit (before ++ x ∷ [])
   prefix-on before q i x l g (stops kind) e h = absurd h
   prefix-on before q i x l g (gives v n) e h = absurd h
   prefix-on before q i x l g (goes after m) e h =
@@ -289,9 +289,9 @@ module _ (told : SymbolsTold) (words : KeywordsTold) where
     gives-none : (x : Lexeme) (rest : List Lexeme) (v : List DirectiveTree) (m : ℕ) → step (Some x) q i ≡ gives v m → NoneGoesOn room before (x ∷ rest)
     unfolding reads
     gives-none x rest v m e (more, p, d) =
-        let whole : reads room (before ++ x ∷ more) program 0 ≡ Ok (p, spot 0 []) =
+        let whole : reads room (before ++ x ∷ more) program 0 ≡ Ok (p, input 0 []) =
         ap (λ ts. reads room ts program 0) (sym (append_assoc before (x ∷ []) more)) ∙ read-sentence room p ((before ++ x ∷ []) ++ more) d in
-        let here : reads room (before ++ x ∷ more) program 0 ≡ Ok (v, spot m (x ∷ more)) =
+        let here : reads room (before ++ x ∷ more) program 0 ≡ Ok (v, input m (x ∷ more)) =
         leads-reads room before program q 0 i l (x ∷ more) ∙ ap (λ o. at_lexeme room x more o (reads room more)) e in
         let none : x ∷ more ≡ [] = (same-answers v p m 0 (x ∷ more) [] (sym here ∙ whole)).2 in absurd (cc)
 
@@ -310,7 +310,7 @@ module _ (told : SymbolsTold) (words : KeywordsTold) where
 
   module _ (room : ℕ → Bool) (before : List Lexeme) (q : Plan (List DirectiveTree)) (i : ℕ) (l : Leads room before program 0 q i) (g : Good Program q) (h : Paired q) where
     -- a lexeme that isn't taken
-    not-taken : (y : Lexeme) (o : Outcome (List DirectiveTree)) → step (Some y) q i ≡ o → (Goes o → ⊥) → IsPrefix no_limit (before ++ y ∷ []) → ⊥
+    not-taken : (y : Lexeme) (o : StepResult (List DirectiveTree)) → step (Some y) q i ≡ o → (Goes o → ⊥) → IsPrefix no_limit (before ++ y ∷ []) → ⊥
     not-taken y (stops kind) e h = stops-none no_limit before q i (leads-free room before program q 0 i l) y [] kind e
     not-taken y (gives v m) e h = gives-none no_limit before q i (leads-free room before program q 0 i l) y [] v m e
     not-taken y (goes p m) e h = absurd (h tt)
@@ -320,7 +320,7 @@ module _ (told : SymbolsTold) (words : KeywordsTold) where
         not-taken (swapped x) (step (Some (swapped x)) q i) refl (subst (λ o. Apart o (step (Some (swapped x)) q i)) e (apart-swapped x q i c h.both))
 
     stands-stopped : (x : Lexeme) (rest : List Lexeme) (kind : FaultKind) → step (Some x) q i ≡ stops kind
-        → Judged x (stops kind) (step (Some (swapped x)) q i) → Stands room kind before (x ∷ rest)
+        → Judged x (stops kind) (step (Some (swapped x)) q i) → Explains room kind before (x ∷ rest)
     stands-stopped x rest Unexpected e j =
         (stops-none no_limit before q i (leads-free room before program q 0 i l) x rest Unexpected e, none-other x rest e)
     stands-stopped x rest Mixed e j = (
@@ -331,7 +331,7 @@ module _ (told : SymbolsTold) (words : KeywordsTold) where
     stands-stopped x rest TooDeep e j = absurd j
 
     stands-deep : (x : Lexeme) (rest : List Lexeme) (after : Plan (List DirectiveTree)) (m : ℕ) → step (Some x) q i ≡ goes after m → is_opener x ≡ true
-        → room m ≡ false → Stands room TooDeep before (x ∷ rest)
+        → room m ≡ false → Explains room TooDeep before (x ∷ rest)
     stands-deep x rest after m e b c =
         let few : m ≤ i = subst (Fewer i) e (step-fewer x q i) in
         let had : HadRoom room m = had-fewer room i m few (leads-room room before program q 0 i l (λ k below. absurd (omega (arith, below)))) in (
@@ -340,17 +340,17 @@ module _ (told : SymbolsTold) (words : KeywordsTold) where
           (m, leads-open room before program q after 0 i m x l e, (c, had)),
         )
 
-    stands : (kind : FaultKind) (rest : List Lexeme) → StopsAt room q i kind rest → NoneGoesOn room before rest × Stands room kind before rest
+    stands : (kind : FaultKind) (rest : List Lexeme) → StopsAt room q i kind rest → NoneGoesOn room before rest × Explains room kind before rest
     stands kind [] e = (
       none-at-end room before q i l kind e,
-      subst (λ kind. Stands room kind before []) (end-kind q i kind [] e).0 (none-at-end no_limit before q i (leads-free room before program q 0 i l) kind e, tt),
+      subst (λ kind. Explains room kind before []) (end-kind q i kind [] e).0 (none-at-end no_limit before q i (leads-free room before program q 0 i l) kind e, tt),
     )
     stands kind (x ∷ rest) (inl e) = (
       stops-none room before q i l x rest kind e,
       stands-stopped x rest kind e (subst (λ o. Judged x o (step (Some (swapped x)) q i)) e (judged Program x q i g.onward)),
     )
     stands kind (x ∷ rest) (inr (after, m, e, b, c, k)) =
-        (deep-none room before q i l x rest after m e b c, subst (λ kind. Stands room kind before (x ∷ rest)) (sym k) (stands-deep x rest after m e b c))
+        (deep-none room before q i l x rest after m e b c, subst (λ kind. Explains room kind before (x ∷ rest)) (sym k) (stands-deep x rest after m e b c))
 
   -- the fault that is read is the first one
   pub fault-is-first : (room : ℕ → Bool) (ts : List Lexeme) (f : Fault) → reads room ts program 0 ≡ Err f → FirstFault room ts f

@@ -8,7 +8,7 @@ use Rattle.inform_grammar.specs.Rules.{Rule, TreeOf}
 use Rattle.inform_grammar.specs.Lexemes.{is_opener, is_closer, one_less}
 use Rattle.inform_grammar.specs.Plan.{Plan, done, refuse, next, look, maybe, chain, shut, ◌>>=◌, onward}
 use Rattle.inform_grammar.specs.Rule.{rule}
-use Rattle.inform_grammar.specs.Reading.{Outcome, stops, goes, passed, either_way, step, Spot, spot, Answer, opened_after, taken, at_end, at_lexeme, reads}
+use Rattle.inform_grammar.specs.Reading.{StepResult, stops, goes, passed, either_way, step, Input, input, Answer, opened_after, taken, at_end, at_lexeme, reads}
 use Rattle.inform_grammar.proofs.Steps.{starts}
 use Rattle.inform_grammar.proofs.Says.{Says, Fits, Holds, Read, Begun, Found}
 
@@ -27,18 +27,18 @@ rest_of other (Ok y) = y.1.rest
 rest_of other (Err e) = other
 
 abbrev pub answered : {X : Type 0} → X → ℕ → List Lexeme → Answer X
-answered x n ts = Ok (x, spot n ts)
+answered x n ts = Ok (x, input n ts)
 
 pub same-answers : {X : Type 0} (x v : X) (n m : ℕ) (ts rest : List Lexeme) → answered x n ts ≡ answered v m rest → (x ≡ v) × (n ≡ m) × (ts ≡ rest)
 same-answers x v n m ts rest e = (ap (value_of x) e, ap (opened_of n) e, ap (rest_of ts) e)
 
-pub not-both : {X : Type 0} {A : Type 0} {f : Fault} {y : X × Spot} → Err f ≡ Ok y → A
+pub not-both : {X : Type 0} {A : Type 0} {f : Fault} {y : X × Input} → Err f ≡ Ok y → A
 not-both e = absurd (cc)
 
 module _ (room : ℕ → Bool) where
   -- ---- one plan, and then another
 
-  -- what two plans in turn read is what the first reads up to some spot, and the second from there
+  -- what two plans in turn read is what the first reads up to some input, and the second from there
   pub holds-then : {X Y : Type 0} (p : Plan X) (f : X → Plan Y) (n : ℕ) (v : Y) (ts : List Lexeme) (m : ℕ) (rest : List Lexeme)
       → Holds room (p >>= f) n v ts m rest
       → (w : X) × (i : ℕ) × (mid : List Lexeme) × Holds room p n w ts i mid × Holds room (f w) i v mid m rest
@@ -65,7 +65,7 @@ module _ (room : ℕ → Bool) where
 
   -- ---- what was read
 
-  fits-or-not : {X : Type 0} (x : Lexeme) (xs : List Lexeme) (n : ℕ) (go : ℕ → Answer X) (y : X × Spot) (opens fits closes : Bool)
+  fits-or-not : {X : Type 0} (x : Lexeme) (xs : List Lexeme) (n : ℕ) (go : ℕ → Answer X) (y : X × Input) (opens fits closes : Bool)
       → cond opens (cond fits (go (suc n)) (Err (fault TooDeep (x ∷ xs)))) (go (cond opens (suc n) (cond closes (one_less n) n))) ≡ Ok y
       → MatchBool opens (fits ≡ true) ⊤ × (go (cond opens (suc n) (cond closes (one_less n) n)) ≡ Ok y)
   fits-or-not x xs n go y true true closes e = (refl, e)
@@ -73,14 +73,14 @@ module _ (room : ℕ → Bool) where
   fits-or-not x xs n go y false fits closes e = (tt, e)
 
   -- an answer after a lexeme that was taken
-  pub taken-fits : {X : Type 0} (x : Lexeme) (xs : List Lexeme) (n : ℕ) (go : ℕ → Answer X) (y : X × Spot) → taken room x xs n go ≡ Ok y
+  pub taken-fits : {X : Type 0} (x : Lexeme) (xs : List Lexeme) (n : ℕ) (go : ℕ → Answer X) (y : X × Input) → taken room x xs n go ≡ Ok y
       → Fits room x n × (go (opened_after x n) ≡ Ok y)
   taken-fits x xs n go y e = fits-or-not x xs n go y (is_opener x) (room n) (is_closer x) e
 
   module _ (says : (r : Rule) (x : Lexeme) (n : ℕ) (v : TreeOf r) (us : List Lexeme) (m : ℕ) (rest : List Lexeme) → Fits room x n
       → Begun room (rule r x) (opened_after x n) v us m rest → Found room r n (x ∷ us) v m rest) where
     -- at the end
-    held-at-end : {X : Type 0} (p : Plan X) (n : ℕ) (v : X) (m : ℕ) (rest : List Lexeme) → at_end (step None p n) ≡ Ok (v, spot m rest)
+    held-at-end : {X : Type 0} (p : Plan X) (n : ℕ) (v : X) (m : ℕ) (rest : List Lexeme) → at_end (step None p n) ≡ Ok (v, input m rest)
         → Holds room p n v [] m rest
     unfolding step
     held-at-end (done x) n v m rest e = same-answers _ _ _ _ _ _ e
@@ -93,15 +93,15 @@ module _ (room : ℕ → Bool) where
     held-at-end (shut p) n v m rest e = held-at-end p (one_less n) v m rest e
 
     module _ (x : Lexeme) (xs : List Lexeme) {X : Type 0}
-        (later : (p : Plan X) (n : ℕ) (v : X) (m : ℕ) (rest : List Lexeme) → reads room xs p n ≡ Ok (v, spot m rest) → Holds room p n v xs m rest) where
-      abbrev Here : Outcome X → X → ℕ → List Lexeme → Type 0
-      Here o v m rest = at_lexeme room x xs o (reads room xs) ≡ Ok (v, spot m rest)
+        (later : (p : Plan X) (n : ℕ) (v : X) (m : ℕ) (rest : List Lexeme) → reads room xs p n ≡ Ok (v, input m rest) → Holds room p n v xs m rest) where
+      abbrev Here : StepResult X → X → ℕ → List Lexeme → Type 0
+      Here o v m rest = at_lexeme room x xs o (reads room xs) ≡ Ok (v, input m rest)
 
       held-next : (test : Lexeme → Bool) (k : Lexeme → Plan X) (q : Plan X) (n : ℕ) (v : X) (m : ℕ) (rest : List Lexeme) (b : Bool) → test x ≡ b
           → Here (either_way (cond b (Some x) None) (λ x. goes (k x) n) (step (Some x) q n)) v m rest
           → (Here (step (Some x) q n) v m rest → Holds room q n v (x ∷ xs) m rest) → Holds room (next test k q) n v (x ∷ xs) m rest
       held-next test k q n v m rest true t e other =
-          let a = taken-fits x xs n (reads room xs (k x)) (v, spot m rest) e in
+          let a = taken-fits x xs n (reads room xs (k x)) (v, input m rest) e in
           inl (x, xs, refl, t, a.0, later (k x) (opened_after x n) v m rest a.1)
       held-next test k q n v m rest false t e other = inr (t, other e)
 
@@ -117,7 +117,7 @@ module _ (room : ℕ → Bool) where
           → Here (goes (p >>= k) n) v m rest
           → ((w : TreeOf r) (mid : List Lexeme) → Says room r n w (x ∷ xs) mid → Holds room (k w) n v mid m rest → Y) → Y
       held-rule r p same k n v m rest e go =
-          let a = taken-fits x xs n (reads room xs (p >>= k)) (v, spot m rest) e in
+          let a = taken-fits x xs n (reads room xs (p >>= k)) (v, input m rest) e in
           let h = holds-then p k (opened_after x n) v xs m rest (later (p >>= k) (opened_after x n) v m rest a.1) in
           let b = says r x n h.0 xs h.1 h.2 a.0 (subst (λ o. Begun room o (opened_after x n) h.0 xs h.1 h.2) (sym same) (record { says = h.3 })) in
           go h.0 h.2 b.says (subst (λ i. Holds room (k h.0) i v h.2 m rest) (sym b.same) h.4)
@@ -162,7 +162,7 @@ module _ (room : ℕ → Bool) where
       held-here (shut p) n v m rest e = held-here p (one_less n) v m rest e
 
     -- what was read by a plan is what it says
-    pub held : {X : Type 0} (ts : List Lexeme) (p : Plan X) (n : ℕ) (v : X) (m : ℕ) (rest : List Lexeme) → reads room ts p n ≡ Ok (v, spot m rest)
+    pub held : {X : Type 0} (ts : List Lexeme) (p : Plan X) (n : ℕ) (v : X) (m : ℕ) (rest : List Lexeme) → reads room ts p n ≡ Ok (v, input m rest)
         → Holds room p n v ts m rest
     unfolding reads
     held [] p n v m rest e = held-at-end p n v m rest e

@@ -9,7 +9,7 @@ use Rattle.inform_grammar.specs.Rules.{Rule, TreeOf}
 use Rattle.inform_grammar.specs.Lexemes.{is_connective, swapped, one_less}
 use Rattle.inform_grammar.specs.Plan.{Plan, done, refuse, next, look, maybe, chain, shut, ◌>>=◌, onward}
 use Rattle.inform_grammar.specs.Rule.{rule}
-use Rattle.inform_grammar.specs.Reading.{Outcome, stops, gives, goes, either_way, step}
+use Rattle.inform_grammar.specs.Reading.{StepResult, stops, gives, goes, either_way, step}
 use Rattle.inform_grammar.proofs.Steps.{starts}
 use Rattle.inform_grammar.proofs.FaultKinds.{Goes}
 
@@ -65,7 +65,7 @@ abbrev pub PairedIfAny : {X : Type 0} → Option (Plan X) → Type 0
 PairedIfAny None = ⊤
 PairedIfAny (Some p) = Paired p
 
-abbrev pub PairedNext : {X : Type 0} → Outcome X → Type 0
+abbrev pub PairedNext : {X : Type 0} → StepResult X → Type 0
 PairedNext (stops kind) = ⊤
 PairedNext (gives v n) = ⊤
 PairedNext (goes p n) = Paired p
@@ -147,17 +147,17 @@ paired-onward (Some p) f h g = paired-then h g
 -- ---- a step
 
 module _ (paired : (r : Rule) (x : Lexeme) → PairedIfAny (rule r x)) where
-  next-paired : {X : Type 0} (b : Bool) (x : Lexeme) (k : Lexeme → Plan X) (n : ℕ) (other : Outcome X) → Paired (k x) → PairedNext other
+  next-paired : {X : Type 0} (b : Bool) (x : Lexeme) (k : Lexeme → Plan X) (n : ℕ) (other : StepResult X) → Paired (k x) → PairedNext other
       → PairedNext (either_way (cond b (Some x) None) (λ x. goes (k x) n) other)
   next-paired true x k n other h g = h
   next-paired false x k n other h g = g
 
-  look-paired : {X : Type 0} (b : Bool) (x : Lexeme) (same other : Outcome X) → PairedNext same → PairedNext other
+  look-paired : {X : Type 0} (b : Bool) (x : Lexeme) (same other : StepResult X) → PairedNext same → PairedNext other
       → PairedNext (either_way (cond b (Some x) None) (λ _. same) other)
   look-paired true x same other h g = h
   look-paired false x same other h g = g
 
-  rule-paired : {X Y : Type 0} (o : Option (Plan X)) (k : X → Plan Y) (n : ℕ) (other : Outcome Y) → PairedIfAny o → ((v : X) → Paired (k v)) → PairedNext other
+  rule-paired : {X Y : Type 0} (o : Option (Plan X)) (k : X → Plan Y) (n : ℕ) (other : StepResult Y) → PairedIfAny o → ((v : X) → Paired (k v)) → PairedNext other
       → PairedNext (either_way o (λ p. goes (p >>= k) n) other)
   rule-paired None k n other h g l = l
   rule-paired (Some p) k n other h g l = paired-then h g
@@ -178,23 +178,23 @@ module _ (paired : (r : Rule) (x : Lexeme) → PairedIfAny (rule r x)) where
 -- ---- a lexeme that is unexpected
 
 -- where a lexeme is unexpected, the other one isn't taken
-abbrev pub Apart : {X : Type 0} → Outcome X → Outcome X → Type 0
+abbrev pub Apart : {X : Type 0} → StepResult X → StepResult X → Type 0
 Apart (stops Unexpected) other = Goes other → ⊥
 Apart _ other = ⊤
 
 -- it isn't unexpected
-abbrev Met : {X : Type 0} → Outcome X → Type 0
+abbrev Met : {X : Type 0} → StepResult X → Type 0
 Met (stops Unexpected) = ⊥
 Met _ = ⊤
 
-met-apart : {X : Type 0} (o other : Outcome X) → Met o → Apart o other
+met-apart : {X : Type 0} (o other : StepResult X) → Met o → Apart o other
 met-apart (stops Unexpected) other m = absurd m
 met-apart (stops Mixed) other m = tt
 met-apart (stops TooDeep) other m = tt
 met-apart (gives v n) other m = tt
 met-apart (goes p n) other m = tt
 
-no-goes : {X : Type 0} (o : Outcome X) (kind : FaultKind) → Apart {X = X} o (stops kind)
+no-goes : {X : Type 0} (o : StepResult X) (kind : FaultKind) → Apart {X = X} o (stops kind)
 no-goes (stops Unexpected) kind = λ g. g
 no-goes (stops Mixed) kind = tt
 no-goes (stops TooDeep) kind = tt
@@ -202,12 +202,12 @@ no-goes (gives v n) kind = tt
 no-goes (goes p n) kind = tt
 
 module _ {X : Type 0} (x : Lexeme) where
-  next-met : (b : Bool) (k : Lexeme → Plan X) (n : ℕ) (other : Outcome X) (M : Type 0) → (M → Met other) → MatchBool b ⊤ M
+  next-met : (b : Bool) (k : Lexeme → Plan X) (n : ℕ) (other : StepResult X) (M : Type 0) → (M → Met other) → MatchBool b ⊤ M
       → Met (either_way (cond b (Some x) None) (λ x. goes (k x) n) other)
   next-met true k n other M f h = tt
   next-met false k n other M f h = f h
 
-  rule-met : {Y : Type 0} (o : Option (Plan Y)) (k : Y → Plan X) (n : ℕ) (other : Outcome X) (M : Type 0) → (M → Met other) → MatchBool (is_some o) ⊤ M
+  rule-met : {Y : Type 0} (o : Option (Plan Y)) (k : Y → Plan X) (n : ℕ) (other : StepResult X) (M : Type 0) → (M → Met other) → MatchBool (is_some o) ⊤ M
       → Met (either_way o (λ p. goes (p >>= k) n) other)
   rule-met (Some p) k n other M f h = tt
   rule-met None k n other M f h = f h
@@ -223,21 +223,21 @@ module _ {X : Type 0} (x : Lexeme) where
   meets-met (shut p) n m = meets-met p (one_less n) m
 
   module _ (y : Lexeme) where
-    next-apart : (a b : Bool) (k : Lexeme → Plan X) (n : ℕ) (o other : Outcome X) (M P : Type 0) → (M → Met o) → (P → Apart o other)
+    next-apart : (a b : Bool) (k : Lexeme → Plan X) (n : ℕ) (o other : StepResult X) (M P : Type 0) → (M → Met o) → (P → Apart o other)
         → MatchBool a ⊤ (MatchBool b M P)
         → Apart (either_way (cond a (Some x) None) (λ x. goes (k x) n) o) (either_way (cond b (Some y) None) (λ x. goes (k x) n) other)
     next-apart true b k n o other M P f g h = tt
     next-apart false true k n o other M P f g h = met-apart o _ (f h)
     next-apart false false k n o other M P f g h = g h
 
-    rule-apart : {Y : Type 0} (a b : Option (Plan Y)) (k : Y → Plan X) (n : ℕ) (o other : Outcome X) (M P : Type 0) → (M → Met o) → (P → Apart o other)
+    rule-apart : {Y : Type 0} (a b : Option (Plan Y)) (k : Y → Plan X) (n : ℕ) (o other : StepResult X) (M P : Type 0) → (M → Met o) → (P → Apart o other)
         → MatchBool (is_some a) ⊤ (MatchBool (is_some b) M P)
         → Apart (either_way a (λ p. goes (p >>= k) n) o) (either_way b (λ p. goes (p >>= k) n) other)
     rule-apart (Some p) b k n o other M P f g h = tt
     rule-apart None (Some p) k n o other M P f g h = met-apart o _ (f h)
     rule-apart None None k n o other M P f g h = g h
 
-    look-apart : (a b : Bool) (p q o other : Outcome X) (P Q : Type 0) → (P → Apart p q) → (Q → Apart o other)
+    look-apart : (a b : Bool) (p q o other : StepResult X) (P Q : Type 0) → (P → Apart p q) → (Q → Apart o other)
         → MatchBool a ((b ≡ true) × P) ((b ≡ false) × Q)
         → Apart (either_way (cond a (Some x) None) (λ _. p) o) (either_way (cond b (Some y) None) (λ _. q) other)
     look-apart true true p q o other P Q f g h = f h.1
@@ -245,7 +245,7 @@ module _ {X : Type 0} (x : Lexeme) where
     look-apart false true p q o other P Q f g h = let e : true ≡ false = h.0 in absurd (cc)
     look-apart false false p q o other P Q f g h = g h.1
 
-    chain-apart : {Y : Type 0} (a b : Option (Plan Y)) (c d : Bool) (k : Y → Plan X) (n : ℕ) (o other : Outcome X) (P : Type 0) → (P → Apart o other)
+    chain-apart : {Y : Type 0} (a b : Option (Plan Y)) (c d : Bool) (k : Y → Plan X) (n : ℕ) (o other : StepResult X) (P : Type 0) → (P → Apart o other)
         → Barred (is_some a) c (is_some b) d P
         → Apart (either_way a (λ p. goes (p >>= k) n) (either_way (cond c (Some x) None) (λ _. stops Mixed) o))
         (either_way b (λ p. goes (p >>= k) n) (either_way (cond d (Some y) None) (λ _. stops Mixed) other))

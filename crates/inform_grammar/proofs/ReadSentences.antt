@@ -7,7 +7,7 @@ use Rattle.inform_grammar.specs.Rules as r
 use Rattle.inform_grammar.specs.Lexemes.{No}
 use Rattle.inform_grammar.specs.Plan.{Plan, many, one}
 use Rattle.inform_grammar.specs.Rule.{program}
-use Rattle.inform_grammar.specs.Reading.{Answer, spot, reads}
+use Rattle.inform_grammar.specs.Reading.{Answer, input, reads}
 use Rattle.inform_grammar.specs.Sentences.{Entries, last_entry, one_more_entry, Names, last_name, one_more_name, Directive, constant, global, global_with, array, routine, Sentence, no_more, one_more}
 use Rattle.inform_grammar.specs.Laws.{SentenceIsRead, OneProgram, NeverBoth}
 use Rattle.inform_grammar.proofs.Opened.{opened}
@@ -59,7 +59,7 @@ read-sentence-after room (one_more {x = x} {xs = xs} {ts = ts} {rest = rest} d d
     ∙ read-directive room d _ ∙ read-sentence-after room ds _ k ∙ ap (λ xs. reads room [] (k xs) 0) (append_assoc front (x ∷ []) xs)
 
 -- a sentence is read as its program
-pub read-sentence : (room : ℕ → Bool) (p : List DirectiveTree) (ts : List Lexeme) → Sentence room p ts → reads room ts program 0 ≡ Ok (p, spot 0 [])
+pub read-sentence : (room : ℕ → Bool) (p : List DirectiveTree) (ts : List Lexeme) → Sentence room p ts → reads room ts program 0 ≡ Ok (p, input 0 [])
 unfolding opened
 read-sentence room p ts d = read-sentence-after room d [] _
 

@@ -8,7 +8,7 @@ use Rattle.inform_grammar.specs.Rules as r
 use Rattle.inform_grammar.specs.Rules.{Rule, TreeOf}
 use Rattle.inform_grammar.specs.Lexemes.{No, is_connective, swapped}
 use Rattle.inform_grammar.specs.Plan.{Plan, done, refuse, next, look, maybe, chain, shut, ◌>>=◌}
-use Rattle.inform_grammar.specs.Reading.{spot, reads, no_limit}
+use Rattle.inform_grammar.specs.Reading.{input, reads, no_limit}
 use Rattle.inform_grammar.proofs.Binding.{and_then, continued, reads-then}
 use Rattle.inform_grammar.proofs.Steps.{starts}
 
@@ -59,7 +59,7 @@ free-heads place test f (t ∷ ts) h = f t h
 pub record Completes {X : Type 0} (place : Place) (p : Plan X) : Type 0 where
   pub value : X
   pub more : List Lexeme
-  pub finishes : (rest : List Lexeme) (n : ℕ) → Stop place rest → (m : ℕ) × (reads no_limit (more ++ rest) p n ≡ Ok (value, spot m rest))
+  pub finishes : (rest : List Lexeme) (n : ℕ) → Stop place rest → (m : ℕ) × (reads no_limit (more ++ rest) p n ≡ Ok (value, input m rest))
 
 -- and then a lexeme that may follow in the other place comes first
 pub record Closes {X : Type 0} (place before : Place) (p : Plan X) : Type 0 where

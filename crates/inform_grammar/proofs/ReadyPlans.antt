@@ -7,7 +7,7 @@ use Rattle.inform_grammar.specs.Rules.{Rule, TreeOf}
 use Rattle.inform_grammar.specs.Lexemes.{is_opener, is_closer, is_connective, swapped, one_less}
 use Rattle.inform_grammar.specs.Plan.{Plan, done, refuse, next, look, maybe, chain, shut, ◌>>=◌, take, one}
 use Rattle.inform_grammar.specs.Rule.{rule}
-use Rattle.inform_grammar.specs.Reading.{Outcome, stops, gives, goes, either_way, step, Answer, opened_after, taken, at_lexeme, reads, no_limit}
+use Rattle.inform_grammar.specs.Reading.{StepResult, stops, gives, goes, either_way, step, Answer, opened_after, taken, at_lexeme, reads, no_limit}
 use Rattle.inform_grammar.proofs.Steps.{starts, done-here, shut-here, next-no, maybe-no, chain-no}
 use Rattle.inform_grammar.proofs.Ready.{Place, is_stop, place_of, Free, free-heads, Completes, Closes, Onward, Good, Safe, completes-then, onward-then}
 
@@ -191,23 +191,23 @@ abbrev pub GoodIfAny : {X : Type 0} → Place → Option (Plan X) → Type 0
 GoodIfAny place None = ⊤
 GoodIfAny place (Some p) = Good place p
 
-abbrev pub GoodNext : {X : Type 0} → Place → Outcome X → Type 0
+abbrev pub GoodNext : {X : Type 0} → Place → StepResult X → Type 0
 GoodNext place (stops kind) = ⊤
 GoodNext place (gives x n) = ⊤
 GoodNext place (goes p n) = Good place p
 
 module _ (ready : (r : Rule) (x : Lexeme) → GoodIfAny (place_of r) (rule r x)) where
-  next-step : {X : Type 0} {place : Place} (b : Bool) (x : Lexeme) (k : Lexeme → Plan X) (n : ℕ) (other : Outcome X) → (b ≡ true → Good place (k x)) → GoodNext place other
+  next-step : {X : Type 0} {place : Place} (b : Bool) (x : Lexeme) (k : Lexeme → Plan X) (n : ℕ) (other : StepResult X) → (b ≡ true → Good place (k x)) → GoodNext place other
       → GoodNext place (either_way (cond b (Some x) None) (λ x. goes (k x) n) other)
   next-step true x k n other g h = g refl
   next-step false x k n other g h = h
 
-  look-step : {X : Type 0} (place : Place) (b : Bool) (x : Lexeme) (same other : Outcome X) → GoodNext place same → GoodNext place other
+  look-step : {X : Type 0} (place : Place) (b : Bool) (x : Lexeme) (same other : StepResult X) → GoodNext place same → GoodNext place other
       → GoodNext place (either_way (cond b (Some x) None) (λ _. same) other)
   look-step place true x same other g h = g
   look-step place false x same other g h = h
 
-  rule-step : {X Y : Type 0} {place between : Place} (o : Option (Plan X)) (k : X → Plan Y) (n : ℕ) (other : Outcome Y) → GoodIfAny between o
+  rule-step : {X Y : Type 0} {place between : Place} (o : Option (Plan X)) (k : X → Plan Y) (n : ℕ) (other : StepResult Y) → GoodIfAny between o
       → ((x : X) → Closes place between (k x)) → ((x : X) → Onward place (k x)) → GoodNext place other → GoodNext place (either_way o (λ p. goes (p >>= k) n) other)
   rule-step None k n other g c o h = h
   rule-step (Some p) k n other g c o h = record { completes = completes-then g.completes c; onward = onward-then p k g.onward c o }

@@ -16,7 +16,7 @@ use Rattle.inform_grammar.specs.Plan.{Plan, done, refuse, look, ◌>>=◌, take,
 use Rattle.inform_grammar.specs.ValueRules.{constant, value}
 use Rattle.inform_grammar.specs.StatementRules.{change_after, change, statement_after, item, further_item, range_after, choice, further_choice, choices_after, head_after, part_after, statements_to_brace, cases_of, default_after, cases_after, in_brackets, else_after, for_body, for_last, for_test, for_after, body_of, statement, body, part_of, part}
 use Rattle.inform_grammar.specs.Rule.{directive, local, program, rule}
-use Rattle.inform_grammar.specs.Reading.{spot, reads, no_limit}
+use Rattle.inform_grammar.specs.Reading.{input, reads, no_limit}
 use Rattle.inform_grammar.proofs.Opened.{opened}
 use Rattle.inform_grammar.proofs.Steps.{starts, done-here}
 use Rattle.inform_grammar.proofs.Ready.{Place, Program, Statements, Others, place_of, Stop, Good, Safe, good, good-then, safe-then}
@@ -281,7 +281,7 @@ ready r.Local x = ready-local x
 ready r.Directive x = ready-directive x
 
 end-finishes : (xs : List DirectiveTree) (rest : List Lexeme) (n : ℕ) → Stop Program rest
-    → (m : ℕ) × (reads no_limit rest (look any_lexeme refuse (done xs)) n ≡ Ok (xs, spot m rest))
+    → (m : ℕ) × (reads no_limit rest (look any_lexeme refuse (done xs)) n ≡ Ok (xs, input m rest))
 unfolding opened
 end-finishes xs [] n s = (n, refl)
 end-finishes xs (x ∷ rest) n s = absurd (cc)

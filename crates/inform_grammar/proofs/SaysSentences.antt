@@ -10,7 +10,7 @@ use Rattle.inform_grammar.specs.Rules as r
 use Rattle.inform_grammar.specs.Rules.{Rule, TreeOf}
 use Rattle.inform_grammar.specs.Lexemes.{No, arrow, name_in, any_lexeme}
 use Rattle.inform_grammar.specs.Rule.{directive, local, program, rule}
-use Rattle.inform_grammar.specs.Reading.{Answer, spot, opened_after, reads}
+use Rattle.inform_grammar.specs.Reading.{Answer, input, opened_after, reads}
 use Rattle.inform_grammar.specs.Values.{Constant, Entry}
 use Rattle.inform_grammar.specs.Statements.{Statements}
 use Rattle.inform_grammar.specs.Sentences.{Entries, last_entry, one_more_entry, Names, last_name, one_more_name, constant, global, global_with, array, routine, Sentence, no_more, one_more}
@@ -115,7 +115,7 @@ module _ (told : SymbolsTold) (words : KeywordsTold) (room : ℕ → Bool) where
       subst (λ p. Sentence room p ts) h.says.0 (sentence xs ts (subst (Each room r.Directive 0 xs ts) (at-end-then mid e) ds))))
 
   -- what is read as a program is a sentence of it
-  pub read-is-sentence : (p : List DirectiveTree) (ts : List Lexeme) (n : ℕ) (rest : List Lexeme) → reads room ts program 0 ≡ Ok (p, spot n rest)
+  pub read-is-sentence : (p : List DirectiveTree) (ts : List Lexeme) (n : ℕ) (rest : List Lexeme) → reads room ts program 0 ≡ Ok (p, input n rest)
       → Sentence room p ts
   read-is-sentence p ts n rest e = says-program p ts n rest (record { says = held room says-rule ts program 0 p n rest e })
 

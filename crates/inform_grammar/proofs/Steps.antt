@@ -6,7 +6,7 @@ use Rattle.inform_grammar.specs.Rules.{Rule, TreeOf}
 use Rattle.inform_grammar.specs.Lexemes.{heads, Yes, No, one_less}
 use Rattle.inform_grammar.specs.Plan.{Plan, done, next, look, maybe, chain, many, shut, ◌>>=◌, one, onward}
 use Rattle.inform_grammar.specs.Rule.{rule}
-use Rattle.inform_grammar.specs.Reading.{Outcome, stops, goes, either_way, step, Spot, spot, at_lexeme, reads}
+use Rattle.inform_grammar.specs.Reading.{StepResult, stops, goes, either_way, step, Input, input, at_lexeme, reads}
 use Rattle.inform_grammar.proofs.Binding.{assoc}
 
 -- a rule may begin with the lexeme
@@ -26,7 +26,7 @@ other-way None h f x y = absurd (cc)
 other-way (Some a) h f x y = refl
 
 module _ (room : ℕ → Bool) {X : Type 0} where
-  pub done-here : (ts : List Lexeme) (x : X) (n : ℕ) → reads room ts (done x) n ≡ Ok (x, spot n ts)
+  pub done-here : (ts : List Lexeme) (x : X) (n : ℕ) → reads room ts (done x) n ≡ Ok (x, input n ts)
   unfolding reads step
   done-here [] x n = refl
   done-here (t ∷ ts) x n = refl
@@ -93,7 +93,7 @@ module _ (room : ℕ → Bool) {X : Type 0} where
 
   -- ---- a rule that begins as another
 
-  goes-on : {A B : Type 0} (o : Option (Plan A)) (f : A → Plan B) (k : B → Plan X) (n : ℕ) (other : Outcome X)
+  goes-on : {A B : Type 0} (o : Option (Plan A)) (f : A → Plan B) (k : B → Plan X) (n : ℕ) (other : StepResult X)
       → either_way (onward o f) (λ p. goes (p >>= k) n) other ≡ either_way o (λ p. goes (p >>= λ x. f x >>= k) n) other
   goes-on None f k n other = refl
   goes-on (Some p) f k n other = ap (λ p. goes p n) (assoc p f k)
@@ -116,20 +116,20 @@ module _ (room : ℕ → Bool) {X : Type 0} where
 abbrev pub mark : Plan ℕ
 mark = done 0
 
-starts-here : (room : ℕ → Bool) (r : Rule) (o : Option (Plan (TreeOf r))) (t : Lexeme) (ts : List Lexeme) (n : ℕ) (y : ℕ × Spot)
+starts-here : (room : ℕ → Bool) (r : Rule) (o : Option (Plan (TreeOf r))) (t : Lexeme) (ts : List Lexeme) (n : ℕ) (y : ℕ × Input)
     → at_lexeme room t ts (either_way o (λ p. goes (p >>= λ _. mark) n) (stops Unexpected)) (reads room ts) ≡ Ok y → is_some o ≡ true
 starts-here room r None t ts n y e = absurd (cc)
 starts-here room r (Some p) t ts n y e = refl
 
-no-lexeme : (s : ℕ × Spot) → Err (fault Unexpected []) ≡ Ok s → ⊥
+no-lexeme : (s : ℕ × Input) → Err (fault Unexpected []) ≡ Ok s → ⊥
 no-lexeme s e = cc
 
 pub there : (room : ℕ → Bool) (r : Rule) (ts rest : List Lexeme) (n m : ℕ)
     → reads room ts (one r (λ _. mark)) n ≡ reads room rest mark m → Yes (starts r) ts
 unfolding reads step
-there room r [] rest n m e = absurd (no-lexeme (0, spot m rest) (e ∙ done-here room rest 0 m))
+there room r [] rest n m e = absurd (no-lexeme (0, input m rest) (e ∙ done-here room rest 0 m))
 there room r (t ∷ ts) rest n m e =
-    starts-here room r (rule r t) t ts n (0, spot m rest) (e ∙ done-here room rest 0 m)
+    starts-here room r (rule r t) t ts n (0, input m rest) (e ∙ done-here room rest 0 m)
 
 -- ---- tests that tell the same
 

@@ -5,7 +5,7 @@ use Rattle.inform_lexemes.specs.Lexemes.{Lexeme}
 use Rattle.inform_grammar.specs.Faults.{FaultKind, Unexpected, Mixed, TooDeep, Fault}
 use Rattle.inform_grammar.specs.Lexemes.{is_opener, is_connective, swapped}
 use Rattle.inform_grammar.specs.Rule.{program}
-use Rattle.inform_grammar.specs.Reading.{spot, reads, open_before, no_limit}
+use Rattle.inform_grammar.specs.Reading.{input, reads, open_before, no_limit}
 use Rattle.inform_grammar.specs.Sentences.{Sentence}
 
 -- ---- sentences
@@ -14,13 +14,13 @@ use Rattle.inform_grammar.specs.Sentences.{Sentence}
 abbrev pub SentenceIsRead : Type 0
 SentenceIsRead =
     (room : ℕ → Bool) (p : List DirectiveTree) (ts : List Lexeme) → Sentence room p ts
-    → reads room ts program 0 ≡ Ok (p, spot 0 [])
+    → reads room ts program 0 ≡ Ok (p, input 0 [])
 
 -- what is read as a program is a sentence of it
 abbrev pub ReadIsSentence : Type 0
 ReadIsSentence =
     (room : ℕ → Bool) (p : List DirectiveTree) (ts : List Lexeme) (n : ℕ) (rest : List Lexeme)
-    → reads room ts program 0 ≡ Ok (p, spot n rest) → Sentence room p ts
+    → reads room ts program 0 ≡ Ok (p, input n rest) → Sentence room p ts
 
 -- a list of lexemes has one program at most
 abbrev pub OneProgram : Type 0
@@ -62,18 +62,18 @@ abbrev pub IsFull : (ℕ → Bool) → ℕ → Type 0
 IsFull room n = (room n ≡ false) × ((k : ℕ) → k < n → room k ≡ true)
 
 -- why each kind of fault stands between some lexemes and the others
-abbrev pub Stands : (ℕ → Bool) → FaultKind → List Lexeme → List Lexeme → Type 0
+abbrev pub Explains : (ℕ → Bool) → FaultKind → List Lexeme → List Lexeme → Type 0
 -- no sentence goes on here, whatever room it takes, nor with the other connective
-Stands room Unexpected before rest = NoneGoesOn no_limit before rest × NoOtherGoesOn before rest
+Explains room Unexpected before rest = NoneGoesOn no_limit before rest × NoOtherGoesOn before rest
 -- the same at a connective, in whose place a sentence goes on with the other one
-Stands room Mixed before (x ∷ rest) =
+Explains room Mixed before (x ∷ rest) =
     (is_connective x ≡ true) × NoneGoesOn no_limit before (x ∷ rest)
     × IsPrefix no_limit (before ++ swapped x ∷ [])
 -- a sentence goes on with this opener, but so many are open before it that there is no room
-Stands room TooDeep before (x ∷ rest) =
+Explains room TooDeep before (x ∷ rest) =
     (is_opener x ≡ true) × IsPrefix no_limit (before ++ x ∷ [])
     × ((n : ℕ) × (open_before before x program 0 ≡ Some n) × IsFull room n)
-Stands room kind before [] = ⊥
+Explains room kind before [] = ⊥
 
 -- a fault of these lexemes, with those before it
 pub record FirstFault (room : ℕ → Bool) (ts : List Lexeme) (f : Fault) : Type 0 where
@@ -83,7 +83,7 @@ pub record FirstFault (room : ℕ → Bool) (ts : List Lexeme) (f : Fault) : Typ
   pub begun : IsPrefix no_limit before
   -- no sentence within the room goes on
   pub ends : NoneGoesOn room before f.rest
-  pub stands : Stands room f.kind before f.rest
+  pub stands : Explains room f.kind before f.rest
 
 -- the fault that is read is the first one
 abbrev pub FaultIsFirst : Type 0

@@ -11,10 +11,10 @@ use Rattle.inform_grammar.specs.Rule.{rule}
 -- ---- one lexeme
 
 -- what a plan makes of the lexeme that stands next
-pub data Outcome (X : Type 0) : Type 0 where
-  stops : FaultKind → Outcome X  -- it can't stand there
-  gives : X → ℕ → Outcome X  -- all was read before it, and so many are open
-  goes : Plan X → ℕ → Outcome X  -- it is taken, by this plan; so many were open before it
+pub data StepResult (X : Type 0) : Type 0 where
+  stops : FaultKind → StepResult X  -- it can't stand there
+  gives : X → ℕ → StepResult X  -- all was read before it, and so many are open
+  goes : Plan X → ℕ → StepResult X  -- it is taken, by this plan; so many were open before it
 
 -- the lexeme that stands next, if it passes the test
 abbrev pub passed : (Lexeme → Bool) → Option Lexeme → Option Lexeme
@@ -31,7 +31,7 @@ either_way None f other = other
 either_way (Some x) f other = f x
 
 -- the lexeme that stands next, or none at the end, where so many are open
-unfoldable pub step : {X : Type 0} → Option Lexeme → Plan X → ℕ → Outcome X
+unfoldable pub step : {X : Type 0} → Option Lexeme → Plan X → ℕ → StepResult X
 step t (done x) n = gives x n
 step t refuse n = stops Unexpected
 step t (next test k q) n = either_way (passed test t) (λ x. goes (k x) n) (step t q n)
@@ -45,15 +45,15 @@ step t (shut p) n = step t p (one_less n)
 -- ---- a list of lexemes
 
 -- how many are open, and the lexemes that are left
-pub record Spot : Type 0 where
+pub record Input : Type 0 where
   pub opened : ℕ
   pub rest : List Lexeme
 
-abbrev pub spot : ℕ → List Lexeme → Spot
-spot n xs = record { opened = n; rest = xs }
+abbrev pub input : ℕ → List Lexeme → Input
+input n xs = record { opened = n; rest = xs }
 
 abbrev pub Answer : Type 0 → Type 0
-Answer X = Result (X × Spot) Fault
+Answer X = Result (X × Input) Fault
 
 -- how many are open after a lexeme
 abbrev pub opened_after : Lexeme → ℕ → ℕ
@@ -65,25 +65,25 @@ taken room x xs n go =
     if is_opener x then (if room n then go (suc n) else Err (fault TooDeep (x ∷ xs)))
     else go (opened_after x n)
 
-abbrev pub at_end : {X : Type 0} → Outcome X → Answer X
+abbrev pub at_end : {X : Type 0} → StepResult X → Answer X
 at_end (stops kind) = Err (fault kind [])
-at_end (gives x n) = Ok (x, spot n [])
+at_end (gives x n) = Ok (x, input n [])
 at_end (goes p n) = Err (fault Unexpected [])
 
-abbrev pub at_lexeme : {X : Type 0} → (ℕ → Bool) → Lexeme → List Lexeme → Outcome X
+abbrev pub at_lexeme : {X : Type 0} → (ℕ → Bool) → Lexeme → List Lexeme → StepResult X
     → (Plan X → ℕ → Answer X) → Answer X
 at_lexeme room x xs (stops kind) go = Err (fault kind (x ∷ xs))
-at_lexeme room x xs (gives v n) go = Ok (v, spot n (x ∷ xs))
+at_lexeme room x xs (gives v n) go = Ok (v, input n (x ∷ xs))
 at_lexeme room x xs (goes p n) go = taken room x xs n (go p)
 
--- what is read by a plan where so many are open: a value and the spot after it, or the first fault
+-- what is read by a plan where so many are open: a value and the input after it, or the first fault
 unfoldable pub reads : {X : Type 0} → (ℕ → Bool) → List Lexeme → Plan X → ℕ → Answer X
 reads room [] p n = at_end (step None p n)
 reads room (x ∷ xs) p n = at_lexeme room x xs (step (Some x) p n) (reads room xs)
 
 -- ---- how many are open
 
-abbrev pub open_after : {X : Type 0} → Outcome X → (Plan X → ℕ → Option ℕ) → Option ℕ
+abbrev pub open_after : {X : Type 0} → StepResult X → (Plan X → ℕ → Option ℕ) → Option ℕ
 open_after (goes p n) go = go p n
 open_after _ go = None
 

@@ -17,7 +17,7 @@ use Rattle.inform_lexemes.specs.Lexemes.{Lexeme, Word, Reserved, Name, Number, Q
 use Rattle.inform_grammar.specs.declared.limits.TheConstants.{OPENER_LIMIT}
 use Rattle.inform_grammar.specs.Faults.{FaultKind, Unexpected, Mixed, TooDeep, fault}
 use Rattle.inform_grammar.specs.Rule.{program}
-use Rattle.inform_grammar.specs.Reading.{spot, reads, within_limit}
+use Rattle.inform_grammar.specs.Reading.{input, reads, within_limit}
 use Rattle.inform_grammar.specs.Trees.{routine_tree}
 
 abbrev a : Lexeme
@@ -43,7 +43,7 @@ main_tree xs = routine_tree (codes "main") [] xs ∷ []
 
 -- the statements of these lexemes, in a routine by themselves
 abbrev MainIs : List Lexeme → List Statement → Type 0
-MainIs ts xs = reads within_limit (in_main ts) program 0 ≡ Ok (main_tree xs, spot 0 [])
+MainIs ts xs = reads within_limit (in_main ts) program 0 ≡ Ok (main_tree xs, input 0 [])
 
 -- after some lexemes, a fault stands at the next one
 abbrev FaultAt : FaultKind → List Lexeme → List Lexeme → Type 0
@@ -135,11 +135,11 @@ LoopsRead =
 -- no directive, and `Array a -> 3 (-4);`
 abbrev pub DirectivesRead : Type 0
 DirectivesRead =
-    (reads within_limit [] program 0 ≡ Ok ([], spot 0 []))
+    (reads within_limit [] program 0 ≡ Ok ([], input 0 []))
     × (reads within_limit
     (Word w.Array ∷ a ∷ Sign ByteArrow ∷ Number 3 ∷ Sign LeftRound ∷ Sign Minus ∷ Number 4
     ∷ Sign RightRound ∷ Sign Semicolon ∷ []) program 0
-    ≡ Ok (d.Array (codes "a") false (k.Number 3 ∷ k.Minus 4 ∷ []) ∷ [], spot 0 []))
+    ≡ Ok (d.Array (codes "a") false (k.Number 3 ∷ k.Minus 4 ∷ []) ∷ [], input 0 []))
 
 -- ---- faults
 
@@ -175,7 +175,7 @@ RoomJudged =
     (reads (λ o. nat_lt o 2)
     (in_main (Sign LeftBrace ∷ Sign LeftBrace ∷ Sign RightBrace ∷ Sign RightBrace ∷ [])) program
     0
-    ≡ Ok (main_tree (s.Block (s.statements (s.Block s.NoStatements ∷ [])) ∷ []), spot 0 []))
+    ≡ Ok (main_tree (s.Block (s.statements (s.Block s.NoStatements ∷ [])) ∷ []), input 0 []))
     × (reads (λ o. nat_lt o 2)
     (in_main (Word w.If ∷ Sign LeftRound ∷ Number 1 ∷ Sign RightRound ∷ Word w.If ∷ Sign LeftRound
     ∷ [])) program 0

@@ -15,8 +15,8 @@ use Rattle.inform_logic.proofs.Statements.{end, next, returns, return_true, retu
 use Rattle.inform_logic.proofs.Routines.{routine}
 
 module _ (p : Program) (d : ℕ) (w : Stage) (y : ℕ) (has : Has p is_leap) where
-  abbrev Gives : ℕ → Type 0
-  Gives n = Does p (suc d) (codes "is_leap") (pos y ∷ []) w (pos n) w 2
+  abbrev BodyGives : ℕ → Type 0
+  BodyGives n = Does p (suc d) (codes "is_leap") (pos y ∷ []) w (pos n) w 2
 
   abbrev Holds : c.Condition → Bool → Type 0
   Holds x t = Tests p d x (scope_of (routine_at has.at is_leap) (pos y ∷ [])) w t w 0
@@ -34,15 +34,15 @@ module _ (p : Program) (d : ℕ) (w : Stage) (y : ℕ) (has : Has p is_leap) whe
       (valued (small_number p.width small) number) (small_remainder p.width y n positive)) number
       (ne_is (y % n) 0 ∙ ap not h)
 
-  leap : Holds leap_test true → Gives 1
+  leap : Holds leap_test true → BodyGives 1
   leap test = routine has (returns (if_true test (returns return_true))) by_return
 
-  common : Holds leap_test false → Gives 0
+  common : Holds leap_test false → BodyGives 0
   common test = routine has (next (if_false test end) (returns return_false)) by_return
 
   -- what the routine gives, by whether 4, 100 and 400 divide the year
   by : (a b c : Bool) → nat_eq (y % 4) 0 ≡ a → nat_eq (y % 100) 0 ≡ b → nat_eq (y % 400) 0 ≡ c
-      → Gives (if (a && not b) || c then 1 else 0)
+      → BodyGives (if (a && not b) || c then 1 else 0)
   by true false c h4 h100 h400 = leap (any_of (this_holds (all_of (one_holds
       (none 4 (omega arith) (omega arith) h4)
       (one_holds (some 100 (omega arith) (omega arith) h100) all_hold)))))

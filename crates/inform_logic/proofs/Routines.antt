@@ -7,7 +7,7 @@ use Rattle.inform_meaning.specs.Frames.{Outcome, Value, within_scope, on_return,
 use Rattle.inform_meaning.specs.Statements.{exec_all}
 use Rattle.inform_meaning.specs.Runs.{noted_body, enter, call_at}
 use Rattle.inform_logic.specs.Stages.{Stage, with_past}
-use Rattle.inform_logic.specs.Leading.{Leaves, Takes, Runs, Gives, at_end, by_return, Does}
+use Rattle.inform_logic.specs.Leading.{Leaves, Takes, Runs, BodyGives, at_end, by_return, Does}
 use Rattle.inform_logic.specs.Holding.{routine_at, Has, Notes}
 use Rattle.inform_logic.proofs.Steps.{finally, takes_within}
 
@@ -17,14 +17,14 @@ pub does_within : {p : Program} {d : ℕ} {f : List ℕ} {values : List ℤ} {w 
 does_within enough does = record { takes = λ s. takes_within enough (does.takes s) }
 
 -- the caller gets the value and its scope back
-gives_back : (s : Scope) {e : Outcome} {v : ℤ} → Gives e v → (c : Config)
+gives_back : (s : Scope) {e : Outcome} {v : ℤ} → BodyGives e v → (c : Config)
     → on_return s e c ≡ (Value v, within_scope s c)
 unfolding on_return
 gives_back s at_end c = refl
 gives_back s by_return c = refl
 
 -- after what gives a value any steps may be left
-pub leaves_any : {e : Outcome} {v : ℤ} → Gives e v → (j : ℕ) → Leaves e j
+pub leaves_any : {e : Outcome} {v : ℤ} → BodyGives e v → (j : ℕ) → Leaves e j
 leaves_any at_end j = tt
 leaves_any by_return j = tt
 
@@ -54,7 +54,7 @@ module _ {p : Program} {d : ℕ} {r : RoutineTree} {values : List ℤ} where
       → p.routines r.name ≡ Some (routine_at at r) → noted_body (p.notes r.name at) r.body ≡ o
       → Runs p d r.body (scope_of (routine_at at r) values) (with_past (with_note o w.past) w) e s'
       w' n
-      → Gives e v → Does p (suc d) r.name values w v w' n
+      → BodyGives e v → Does p (suc d) r.name values w v w' n
   by_body there note body gives = record {
     takes = λ s. entering p d values s there note
         (finally _ (λ j h. leaves_any gives j) body.takes (λ k. gives_back s gives _));
@@ -62,7 +62,7 @@ module _ {p : Program} {d : ℕ} {r : RoutineTree} {values : List ℤ} where
 
   -- a routine that isn't noted, by its body
   pub routine : (has : Has p r) {s' : Scope} {w w' : Stage} {e : Outcome} {v : ℤ} {n : ℕ}
-      → Runs p d r.body (scope_of (routine_at has.at r) values) w e s' w' n → Gives e v
+      → Runs p d r.body (scope_of (routine_at has.at r) values) w e s' w' n → BodyGives e v
       → Does p (suc d) r.name values w v w' n
   routine has body gives =
       by_body has.there (ap (λ o. noted_body o r.body) has.unseen) body gives
@@ -71,7 +71,7 @@ module _ {p : Program} {d : ℕ} {r : RoutineTree} {values : List ℤ} where
   pub noted_routine : {number : ℕ} (notes : Notes p r number) {s' : Scope} {w w' : Stage}
       {e : Outcome} {v : ℤ} {n : ℕ} → noted_body (Some number) r.body ≡ Some number
       → Runs p d r.body (scope_of (routine_at notes.at r) values)
-      (with_past (w.past ++ Noted number ∷ []) w) e s' w' n → Gives e v
+      (with_past (w.past ++ Noted number ∷ []) w) e s' w' n → BodyGives e v
       → Does p (suc d) r.name values w v w' n
   noted_routine notes some body gives =
       by_body notes.there (ap (λ o. noted_body o r.body) notes.seen ∙ some) body gives

@@ -6,7 +6,7 @@ use Rattle.inform_meaning.specs.Frames.{Main, Quits, Outcome, Halts, Meaning, bi
 use Rattle.inform_meaning.specs.Runs.{CALL_LIMIT, Stop, Halted, Lacking, resume_at, resume, main_begun}
 use Rattle.inform_meaning.specs.Programs.{program_in}
 use Rattle.inform_logic.specs.Stages.{plus, Stage, in_scope, stage_of}
-use Rattle.inform_logic.specs.Leading.{Leaves, Gives, at_end, by_return, TheBlock}
+use Rattle.inform_logic.specs.Leading.{Leaves, BodyGives, at_end, by_return, TheBlock}
 use Rattle.inform_logic.specs.Stopping.{IsStop, Ends, Stops, stop_leaves, Stopped}
 use Rattle.inform_logic.specs.Laws.{RunStops}
 use Rattle.inform_logic.proofs.Opened.{opened}
@@ -14,7 +14,7 @@ use Rattle.inform_logic.proofs.Steps.{plus_is}
 use Rattle.inform_logic.proofs.Stopping.{Passes, passes, ends_first}
 
 -- at the end of `Main` the run is over
-over : {e : Outcome} {v : ℤ} → Gives e v → (c : Config) → on_main e c ≡ (Halts Quits, c)
+over : {e : Outcome} {v : ℤ} → BodyGives e v → (c : Config) → on_main e c ≡ (Halts Quits, c)
 unfolding on_main
 over at_end c = refl
 over by_return c = refl

@@ -135,9 +135,9 @@ pub record Fits (p : Program) (a : ℤ) (choices : List Choice) (b : Bool) : Typ
 -- ---- routines
 
 -- what the body of a routine gives: 1 at its end, and what it returns
-pub data Gives : Outcome → ℤ → Type 0 where
-  at_end : Gives Normal (pos 1)
-  by_return : {v : ℤ} → Gives (Returns v) v
+pub data BodyGives : Outcome → ℤ → Type 0 where
+  at_end : BodyGives Normal (pos 1)
+  by_return : {v : ℤ} → BodyGives (Returns v) v
 
 -- a call of a routine with these arguments gives this value, whatever the caller's scope, which
 -- comes back

@@ -6,7 +6,7 @@ use Rattle.inform_lexer.specs.declared.kinds.Token.{Token}
 use Rattle.inform_lexer.specs.Spans.{lexemes}
 use Rattle.inform_grammar.specs.Faults as kind
 use Rattle.inform_grammar.specs.Faults.{Fault, FaultKind, fault}
-use Rattle.inform_grammar.specs.Reading.{Spot, spot, Answer, reads, within_limit}
+use Rattle.inform_grammar.specs.Reading.{Input, input, Answer, reads, within_limit}
 use Rattle.inform_grammar.specs.Rule.{program}
 use Rattle.inform_grammar.specs.Laws.{SentenceIsRead, ReadIsSentence, FaultIsFirst}
 use Rattle.inform_parser.specs.declared.faults.ParseFault.{ParseFault}
@@ -18,35 +18,35 @@ use Rattle.inform_parser.specs.Programs.{IsProgramOf, IsReadTo, IsFaultOf, place
 use Rattle.adv_io.specs.Answers.{IsErrOr}
 use Rattle.inform_tree.specs.declared.programs.Program.{Program}
 
-abbrev good : List DirectiveTree × Spot → Answer (List DirectiveTree)
+abbrev good : List DirectiveTree × Input → Answer (List DirectiveTree)
 good x = Ok x
 
-abbrev tree_at : List DirectiveTree → Spot → List DirectiveTree × Spot
+abbrev tree_at : List DirectiveTree → Input → List DirectiveTree × Input
 tree_at p s = (p, s)
 
 abbrev bad : Fault → Answer (List DirectiveTree)
 bad f = Err f
 
-module _ (bytes : List ℕ) (tokens : List Token) (after : Spot) where
+module _ (bytes : List ℕ) (tokens : List Token) (after : Input) where
   abbrev whole : Answer (List DirectiveTree)
-  whole = read program (spot 0 (lexemes bytes tokens))
+  whole = read program (input 0 (lexemes bytes tokens))
 
   pub found : ReadIsSentence → (p : List DirectiveTree) → whole ≡ Ok (p, after) → IsProgramOf bytes tokens p
   unfolding read
   found law p e = law within_limit p (lexemes bytes tokens) after.opened after.rest e
 
-  read_whole : SentenceIsRead → (p : List DirectiveTree) → IsProgramOf bytes tokens p → whole ≡ Ok (p, spot 0 [])
+  read_whole : SentenceIsRead → (p : List DirectiveTree) → IsProgramOf bytes tokens p → whole ≡ Ok (p, input 0 [])
   unfolding read
   read_whole law p h = law within_limit p (lexemes bytes tokens) h
 
   pub same : SentenceIsRead → (p q : List DirectiveTree) → whole ≡ Ok (q, after) → IsProgramOf bytes tokens p → q ≡ p
-  same law p q e h = let both : good (q, after) ≡ good (p, spot 0 []) = sym e ∙ read_whole law p h in
-      let pair : tree_at q after ≡ tree_at p (spot 0 []) = cc in ap (λ (x : List DirectiveTree × Spot). x.0) pair
+  same law p q e h = let both : good (q, after) ≡ good (p, input 0 []) = sym e ∙ read_whole law p h in
+      let pair : tree_at q after ≡ tree_at p (input 0 []) = cc in ap (λ (x : List DirectiveTree × Input). x.0) pair
 
   pub no_fault : SentenceIsRead → (s : Stop) (at : ℕ) → StopsAt after s whole → (p : List DirectiveTree) → IsProgramOf bytes tokens p → fault_at s at ≡ Memory
-  no_fault law stop.Unexpected at e p h = let both : bad (fault kind.Unexpected after.rest) ≡ good (p, spot 0 []) = sym e ∙ read_whole law p h in absurd (cc)
-  no_fault law stop.Mixed at e p h = let both : bad (fault kind.Mixed after.rest) ≡ good (p, spot 0 []) = sym e ∙ read_whole law p h in absurd (cc)
-  no_fault law stop.TooDeep at e p h = let both : bad (fault kind.TooDeep after.rest) ≡ good (p, spot 0 []) = sym e ∙ read_whole law p h in absurd (cc)
+  no_fault law stop.Unexpected at e p h = let both : bad (fault kind.Unexpected after.rest) ≡ good (p, input 0 []) = sym e ∙ read_whole law p h in absurd (cc)
+  no_fault law stop.Mixed at e p h = let both : bad (fault kind.Mixed after.rest) ≡ good (p, input 0 []) = sym e ∙ read_whole law p h in absurd (cc)
+  no_fault law stop.TooDeep at e p h = let both : bad (fault kind.TooDeep after.rest) ≡ good (p, input 0 []) = sym e ∙ read_whole law p h in absurd (cc)
   no_fault law stop.Memory at e p h = refl
 
   pub first : FaultIsFirst → (s : Stop) (at : ℕ) → StopsAt after s whole → at ≡ place_before bytes tokens (length after.rest) → IsFaultOf bytes tokens (fault_at s at)

@@ -11,7 +11,7 @@ use Rattle.inform_grammar.specs.Lexemes.{heads}
 use Rattle.inform_grammar.specs.StatementRules.{range_after, choice, further_choice, choices_after, head_after}
 use Rattle.inform_grammar.specs.Plan.{Plan, done, refuse, next, ◌>>=◌, take, one, many}
 use Rattle.inform_grammar.specs.Rule.{rule}
-use Rattle.inform_grammar.specs.Reading.{Spot, spot, step, reads, within_limit}
+use Rattle.inform_grammar.specs.Reading.{Input, input, step, reads, within_limit}
 use Rattle.inform_grammar.proofs.Binding.{assoc}
 use Rattle.inform_grammar.proofs.Steps.{starts, one-as, many-no, many-yes, done-here}
 use Rattle.inform_parser.specs.Reading.{read}
@@ -19,13 +19,13 @@ use Rattle.inform_parser.specs.Reading.{read}
 abbrev pub range_plan : Const → Plan Choice
 range_plan x = next (is_word w.To) (λ _. one r.Constant (λ y. done (x, Some y))) (done (x, None))
 
-pub range_as : (x : Const) (s : Spot) → read (range_after x) s ≡ read (range_plan x) s
+pub range_as : (x : Const) (s : Input) → read (range_after x) s ≡ read (range_plan x) s
 unfolding range_after
 range_as x s = refl
 
 pub ruleset ranges = (range_as)
 
-pub choice_as : (s : Spot) → read (one r.Choice done) s ≡ read (one r.Constant (λ x. range_after x >>= done)) s
+pub choice_as : (s : Input) → read (one r.Choice done) s ≡ read (one r.Constant (λ x. range_after x >>= done)) s
 unfolding read rule choice
 choice_as s = one-as within_limit s.rest r.Choice r.Constant range_after done s.opened (λ t. refl)
 
@@ -33,13 +33,13 @@ abbrev pub further_choice_plan : Plan Choice
 further_choice_plan =
     next (is_sign Comma) (λ _. one r.Choice done >>= done) refuse
 
-further_choice_by : (xs : List Lexeme) (n : ℕ) → read (one r.FurtherChoice done) (spot n xs) ≡ read further_choice_plan (spot n xs)
+further_choice_by : (xs : List Lexeme) (n : ℕ) → read (one r.FurtherChoice done) (input n xs) ≡ read further_choice_plan (input n xs)
 unfolding read reads step rule further_choice
 further_choice_by [] n = refl
 further_choice_by (Sign Comma ∷ xs) n = refl
 further_choice_by (x ∷ xs) n = refl
 
-pub further_choice_as : (s : Spot) → read (one r.FurtherChoice done) s ≡ read further_choice_plan s
+pub further_choice_as : (s : Input) → read (one r.FurtherChoice done) s ≡ read further_choice_plan s
 further_choice_as s = further_choice_by s.rest s.opened
 
 choice_starts : (xs : List Lexeme) → heads (is_sign Comma) xs ≡ heads (starts r.FurtherChoice) xs
@@ -48,21 +48,21 @@ choice_starts [] = refl
 choice_starts (Sign Comma ∷ xs) = refl
 choice_starts (_ ∷ xs) = refl
 
-pub choice_more : (front : List Choice) (s : Spot) → heads (is_sign Comma) s.rest ≡ true
+pub choice_more : (front : List Choice) (s : Input) → heads (is_sign Comma) s.rest ≡ true
     → read (many r.FurtherChoice front done) s ≡ read (one r.FurtherChoice (λ x. many r.FurtherChoice (front ++ x ∷ []) done)) s
 unfolding read
 choice_more front s e = many-yes within_limit s.rest r.FurtherChoice (rw (choice_starts s.rest) at e) front done s.opened
 
-pub choice_last : (front : List Choice) (s : Spot) → heads (is_sign Comma) s.rest ≡ false → read (many r.FurtherChoice front done) s ≡ Ok (front, s)
+pub choice_last : (front : List Choice) (s : Input) → heads (is_sign Comma) s.rest ≡ false → read (many r.FurtherChoice front done) s ≡ Ok (front, s)
 unfolding read
 choice_last front s e = many-no within_limit s.rest r.FurtherChoice (rw (choice_starts s.rest) at e) front done s.opened ∙ done-here within_limit s.rest front s.opened
 
 pub ruleset choice_loop = (choice_more, choice_last)
 
-pub choices_after_as : (x : Choice) (s : Spot) → read (choices_after x) s ≡ read (many r.FurtherChoice (x ∷ []) (λ xs. take (is_sign Colon) (done xs))) s
+pub choices_after_as : (x : Choice) (s : Input) → read (choices_after x) s ≡ read (many r.FurtherChoice (x ∷ []) (λ xs. take (is_sign Colon) (done xs))) s
 unfolding choices_after
 choices_after_as x s = refl
 
-pub head_after_as : (x : Const) (s : Spot) → read (head_after x) s ≡ read (range_after x >>= λ y. choices_after y >>= λ xs. done (Head xs)) s
+pub head_after_as : (x : Const) (s : Input) → read (head_after x) s ≡ read (range_after x >>= λ y. choices_after y >>= λ xs. done (Head xs)) s
 unfolding head_after
 head_after_as x s = ap (λ (p : Plan SwitchPart). read p s) (assoc (range_after x) choices_after (λ xs. done (Head xs)))

@@ -14,7 +14,7 @@ use Rattle.inform_grammar.specs.ValueRules.{value}
 use Rattle.inform_grammar.specs.ConditionRules.{relation_after, bracket_after, test, member, members_after, tests_after, guarded}
 use Rattle.inform_grammar.specs.Plan.{Plan, done, refuse, next, chain, ◌>>=◌, take, one}
 use Rattle.inform_grammar.specs.Rule.{rule}
-use Rattle.inform_grammar.specs.Reading.{Spot, spot, step, reads, within_limit}
+use Rattle.inform_grammar.specs.Reading.{Input, input, step, reads, within_limit}
 use Rattle.inform_grammar.proofs.Steps.{one-as, one-as-here, done-here}
 use Rattle.inform_parser.specs.Reading.{read}
 use Rattle.inform_parser.specs.Nexts.{relation_next}
@@ -30,7 +30,7 @@ module _ (x : Expression) where
   abbrev pub compared_plan : Plan Guard
   compared_plan = relation_next >>= λ op. one r.Value (λ y. done (Tested (c.Compare op x y)))
 
-  compared_by : (xs : List Lexeme) (n : ℕ) → heads is_relation xs ≡ true → read (relation_after x) (spot n xs) ≡ read compared_plan (spot n xs)
+  compared_by : (xs : List Lexeme) (n : ℕ) → heads is_relation xs ≡ true → read (relation_after x) (input n xs) ≡ read compared_plan (input n xs)
   unfolding read reads step relation_after relation_next
   compared_by (Sign Equal ∷ xs) n e = refl
   compared_by (Sign NotEqual ∷ xs) n e = refl
@@ -40,7 +40,7 @@ module _ (x : Expression) where
   compared_by (Sign GreaterEqual ∷ xs) n e = refl
   compared_by _ n e = absurd (cc)
 
-  plain_by : (xs : List Lexeme) (n : ℕ) → heads is_relation xs ≡ false → read (relation_after x) (spot n xs) ≡ Ok (Plain x, spot n xs)
+  plain_by : (xs : List Lexeme) (n : ℕ) → heads is_relation xs ≡ false → read (relation_after x) (input n xs) ≡ Ok (Plain x, input n xs)
   unfolding read reads step relation_after
   plain_by [] n e = refl
   plain_by (Sign Equal ∷ xs) n e = absurd (cc)
@@ -51,10 +51,10 @@ module _ (x : Expression) where
   plain_by (Sign GreaterEqual ∷ xs) n e = absurd (cc)
   plain_by (_ ∷ xs) n e = refl
 
-pub compared : (x : Expression) (s : Spot) → heads is_relation s.rest ≡ true → read (relation_after x) s ≡ read (compared_plan x) s
+pub compared : (x : Expression) (s : Input) → heads is_relation s.rest ≡ true → read (relation_after x) s ≡ read (compared_plan x) s
 compared x s e = compared_by x s.rest s.opened e
 
-pub plain : (x : Expression) (s : Spot) → heads is_relation s.rest ≡ false → read (relation_after x) s ≡ Ok (Plain x, s)
+pub plain : (x : Expression) (s : Input) → heads is_relation s.rest ≡ false → read (relation_after x) s ≡ Ok (Plain x, s)
 plain x s e = plain_by x s.rest s.opened e
 
 pub ruleset relations = (compared, plain)
@@ -65,20 +65,20 @@ test_plan =
     (next (is_sign LeftRound) (λ _. one r.Condition (λ x. take (is_sign RightRound) (bracket_after x >>= done)))
     compared_test)
 
-test_by : (xs : List Lexeme) (n : ℕ) → read (one r.Test done) (spot n xs) ≡ read test_plan (spot n xs)
+test_by : (xs : List Lexeme) (n : ℕ) → read (one r.Test done) (input n xs) ≡ read test_plan (input n xs)
 unfolding read reads step rule test guard_in_brackets
 test_by [] n = refl
 test_by (Sign Not ∷ xs) n = refl
 test_by (Sign LeftRound ∷ xs) n = refl
 test_by (x ∷ xs) n = one-as-here within_limit _ xs r.Test r.Value relation_after done n refl
 
-pub test_as : (s : Spot) → read (one r.Test done) s ≡ read test_plan s
+pub test_as : (s : Input) → read (one r.Test done) s ≡ read test_plan s
 test_as s = test_by s.rest s.opened
 
 -- ---- chains
 
 member_by : (j : Join) (xs : List Lexeme) (n : ℕ)
-    → read (one (r.Member j) done) (spot n xs) ≡ read (connective_next j >>= λ _. one r.Test (λ x. done (condition x))) (spot n xs)
+    → read (one (r.Member j) done) (input n xs) ≡ read (connective_next j >>= λ _. one r.Test (λ x. done (condition x))) (input n xs)
 unfolding read reads step rule member connective_next
 member_by AllOf [] n = refl
 member_by AllOf (Sign And ∷ xs) n = refl
@@ -87,36 +87,36 @@ member_by AnyOf [] n = refl
 member_by AnyOf (Sign Or ∷ xs) n = refl
 member_by AnyOf (_ ∷ xs) n = refl
 
-pub member_as : (j : Join) (s : Spot) → read (one (r.Member j) done) s ≡ read (connective_next j >>= λ _. one r.Test (λ x. done (condition x))) s
+pub member_as : (j : Join) (s : Input) → read (one (r.Member j) done) s ≡ read (connective_next j >>= λ _. one r.Test (λ x. done (condition x))) s
 member_as j s = member_by j s.rest s.opened
 
 more_by : (j : Join) (front : List Condition) (xs : List Lexeme) (n : ℕ) → at_connective j xs ≡ true
-    → read (members_from j front) (spot n xs) ≡ read (one (r.Member j) (λ x. members_from j (front ++ x ∷ []))) (spot n xs)
+    → read (members_from j front) (input n xs) ≡ read (one (r.Member j) (λ x. members_from j (front ++ x ∷ []))) (input n xs)
 unfolding read reads step rule member members_from at_connective at_other
 more_by AllOf front (Sign And ∷ xs) n e = refl
 more_by AllOf front _ n e = absurd (cc)
 more_by AnyOf front (Sign Or ∷ xs) n e = refl
 more_by AnyOf front _ n e = absurd (cc)
 
-pub member_more : (j : Join) (front : List Condition) (s : Spot) → at_connective j s.rest ≡ true
+pub member_more : (j : Join) (front : List Condition) (s : Input) → at_connective j s.rest ≡ true
     → read (members_from j front) s ≡ read (one (r.Member j) (λ x. members_from j (front ++ x ∷ []))) s
 member_more j front s e = more_by j front s.rest s.opened e
 
 mixed_by : (j : Join) (front : List Condition) (xs : List Lexeme) (n : ℕ) → at_other j xs ≡ true
-    → read (members_from j front) (spot n xs) ≡ Err (fault Mixed xs)
+    → read (members_from j front) (input n xs) ≡ Err (fault Mixed xs)
 unfolding read reads step rule member members_from at_connective at_other
 mixed_by AllOf front (Sign Or ∷ xs) n e = refl
 mixed_by AllOf front _ n e = absurd (cc)
 mixed_by AnyOf front (Sign And ∷ xs) n e = refl
 mixed_by AnyOf front _ n e = absurd (cc)
 
-pub member_mixed : (j : Join) (front : List Condition) (s : Spot) → at_other j s.rest ≡ true
+pub member_mixed : (j : Join) (front : List Condition) (s : Input) → at_other j s.rest ≡ true
     → read (members_from j front) s ≡ Err (fault Mixed s.rest)
 member_mixed j front s e = mixed_by j front s.rest s.opened e
 
 -- the members of a condition end where neither their own connective nor the other one stands
 last_by : (j : Join) (front : List Condition) (xs : List Lexeme) (n : ℕ) → at_connective j xs ≡ false
-    → at_other j xs ≡ false → read (members_from j front) (spot n xs) ≡ Ok (front, spot n xs)
+    → at_other j xs ≡ false → read (members_from j front) (input n xs) ≡ Ok (front, input n xs)
 unfolding read reads step rule member members_from at_connective at_other
 last_by AllOf front [] n e f = refl
 last_by AllOf front (Sign And ∷ xs) n e f = absurd (cc)
@@ -127,14 +127,14 @@ last_by AnyOf front (Sign And ∷ xs) n e f = absurd (cc)
 last_by AnyOf front (Sign Or ∷ xs) n e f = absurd (cc)
 last_by AnyOf front (_ ∷ xs) n e f = refl
 
-pub member_last : (j : Join) (front : List Condition) (s : Spot) → at_connective j s.rest ≡ false
+pub member_last : (j : Join) (front : List Condition) (s : Input) → at_connective j s.rest ≡ false
     → at_other j s.rest ≡ false → read (members_from j front) s ≡ Ok (front, s)
 member_last j front s e f = last_by j front s.rest s.opened e f
 
 pub conditions_push : (xs : List Cond) (x : Cond) → map condition_of (xs ++ x ∷ []) ≡ map condition_of xs ++ condition_of x ∷ []
 conditions_push xs x = map_push condition_of xs x
 
-pub members_after_as : (j : Join) (x y : Condition) (s : Spot)
+pub members_after_as : (j : Join) (x y : Condition) (s : Input)
     → read (members_after j x y) s ≡ read (members_from j (x ∷ y ∷ []) >>= λ xs. done (Tested (joined j xs))) s
 unfolding members_after members_from
 members_after_as j x y s = refl
@@ -143,46 +143,46 @@ pub ruleset member_loop = (member_more, member_mixed, member_last, conditions_pu
 
 module _ (x : Guard) where
   and_by : (xs : List Lexeme) (n : ℕ) → heads (is_sign And) xs ≡ true
-      → read (tests_after x) (spot n xs) ≡ read (one (r.Member AllOf) (λ y. members_after AllOf (condition x) y)) (spot n xs)
+      → read (tests_after x) (input n xs) ≡ read (one (r.Member AllOf) (λ y. members_after AllOf (condition x) y)) (input n xs)
   unfolding read reads step rule member tests_after
   and_by (Sign And ∷ xs) n e = refl
   and_by _ n e = absurd (cc)
 
   or_by : (xs : List Lexeme) (n : ℕ) → heads (is_sign Or) xs ≡ true
-      → read (tests_after x) (spot n xs) ≡ read (one (r.Member AnyOf) (λ y. members_after AnyOf (condition x) y)) (spot n xs)
+      → read (tests_after x) (input n xs) ≡ read (one (r.Member AnyOf) (λ y. members_after AnyOf (condition x) y)) (input n xs)
   unfolding read reads step rule member tests_after
   or_by (Sign Or ∷ xs) n e = refl
   or_by _ n e = absurd (cc)
 
-  alone_by : (xs : List Lexeme) (n : ℕ) → heads (is_sign And) xs ≡ false → heads (is_sign Or) xs ≡ false → read (tests_after x) (spot n xs) ≡ Ok (x, spot n xs)
+  alone_by : (xs : List Lexeme) (n : ℕ) → heads (is_sign And) xs ≡ false → heads (is_sign Or) xs ≡ false → read (tests_after x) (input n xs) ≡ Ok (x, input n xs)
   unfolding read reads step rule member tests_after
   alone_by [] n e f = refl
   alone_by (Sign And ∷ xs) n e f = absurd (cc)
   alone_by (Sign Or ∷ xs) n e f = absurd (cc)
   alone_by (_ ∷ xs) n e f = refl
 
-pub tests_and : (x : Guard) (s : Spot) → heads (is_sign And) s.rest ≡ true
+pub tests_and : (x : Guard) (s : Input) → heads (is_sign And) s.rest ≡ true
     → read (tests_after x) s ≡ read (one (r.Member AllOf) (λ y. members_after AllOf (condition x) y)) s
 tests_and x s e = and_by x s.rest s.opened e
 
-pub tests_or : (x : Guard) (s : Spot) → heads (is_sign Or) s.rest ≡ true
+pub tests_or : (x : Guard) (s : Input) → heads (is_sign Or) s.rest ≡ true
     → read (tests_after x) s ≡ read (one (r.Member AnyOf) (λ y. members_after AnyOf (condition x) y)) s
 tests_or x s e = or_by x s.rest s.opened e
 
-pub tests_alone : (x : Guard) (s : Spot) → heads (is_sign And) s.rest ≡ false → heads (is_sign Or) s.rest ≡ false → read (tests_after x) s ≡ Ok (x, s)
+pub tests_alone : (x : Guard) (s : Input) → heads (is_sign And) s.rest ≡ false → heads (is_sign Or) s.rest ≡ false → read (tests_after x) s ≡ Ok (x, s)
 tests_alone x s e f = alone_by x s.rest s.opened e f
 
 pub ruleset tests_after_steps = (tests_and, tests_or, tests_alone)
 
-pub condition_as : (s : Spot) → read (one r.Condition done) s ≡ read (one r.Test (λ x. tests_after x >>= done)) s
+pub condition_as : (s : Input) → read (one r.Condition done) s ≡ read (one r.Test (λ x. tests_after x >>= done)) s
 unfolding read rule guarded
 condition_as s = one-as within_limit s.rest r.Condition r.Test tests_after done s.opened (λ t. refl)
 
-pub connective_all : (j : Joint) (s : Spot) → j ≡ joint.All → read (connective_next (join_of j)) s ≡ read (take (is_sign And) (done tt)) s
+pub connective_all : (j : Joint) (s : Input) → j ≡ joint.All → read (connective_next (join_of j)) s ≡ read (take (is_sign And) (done tt)) s
 unfolding connective_next
 connective_all j s e = rw e refl
 
-pub connective_any : (j : Joint) (s : Spot) → j ≡ joint.Any → read (connective_next (join_of j)) s ≡ read (take (is_sign Or) (done tt)) s
+pub connective_any : (j : Joint) (s : Input) → j ≡ joint.Any → read (connective_next (join_of j)) s ≡ read (take (is_sign Or) (done tt)) s
 unfolding connective_next
 connective_any j s e = rw e refl
 

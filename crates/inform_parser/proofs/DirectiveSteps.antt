@@ -12,14 +12,14 @@ use Rattle.inform_grammar.specs.Lexemes.{heads, name_in, any_lexeme}
 use Rattle.inform_grammar.specs.ValueRules.{entry}
 use Rattle.inform_grammar.specs.Plan.{Plan, done, refuse, next, look, ◌>>=◌, take, one, many}
 use Rattle.inform_grammar.specs.Rule.{named, constant_after, global_after, array_after, routine_after, directive, local, rule}
-use Rattle.inform_grammar.specs.Reading.{Spot, spot, step, reads, within_limit}
+use Rattle.inform_grammar.specs.Reading.{Input, input, step, reads, within_limit}
 use Rattle.inform_grammar.proofs.Steps.{starts, many-no, many-yes, done-here}
 use Rattle.inform_parser.specs.Glances.{first_glance}
 use Rattle.inform_parser.specs.Reading.{read}
 use Rattle.inform_parser.specs.Begins.{begins_entry, begins_directive}
 use Rattle.inform_parser.specs.Nexts.{arrow_next}
 
-pub array_after_as : (s : Spot) → read array_after s ≡ read (named (λ name. arrow_next >>= λ words. one r.Entry (λ x. many r.Entry (x ∷ []) (λ xs. take (is_sign Semicolon) (done (d.Array name words xs)))))) s
+pub array_after_as : (s : Input) → read array_after s ≡ read (named (λ name. arrow_next >>= λ words. one r.Entry (λ x. many r.Entry (x ∷ []) (λ xs. take (is_sign Semicolon) (done (d.Array name words xs)))))) s
 unfolding array_after arrow_next
 array_after_as s = refl
 
@@ -27,13 +27,13 @@ abbrev pub local_plan : Plan (List ℕ)
 local_plan =
     next is_name (λ x. done (name_in x)) refuse
 
-local_by : (xs : List Lexeme) (n : ℕ) → read (one r.Local done) (spot n xs) ≡ read local_plan (spot n xs)
+local_by : (xs : List Lexeme) (n : ℕ) → read (one r.Local done) (input n xs) ≡ read local_plan (input n xs)
 unfolding read reads step rule local
 local_by [] n = refl
 local_by (Sign Semicolon ∷ xs) n = refl
 local_by (x ∷ xs) n = refl
 
-pub local_as : (s : Spot) → read (one r.Local done) s ≡ read local_plan s
+pub local_as : (s : Input) → read (one r.Local done) s ≡ read local_plan s
 local_as s = local_by s.rest s.opened
 
 abbrev pub directive_plan : Plan DirectiveTree
@@ -43,14 +43,14 @@ directive_plan =
     (next (is_word w.Array) (λ _. array_after >>= done)
     (next (is_sign LeftSquare) (λ _. routine_after >>= done) refuse)))
 
-directive_by : (xs : List Lexeme) (n : ℕ) → read (one r.Directive done) (spot n xs) ≡ read directive_plan (spot n xs)
+directive_by : (xs : List Lexeme) (n : ℕ) → read (one r.Directive done) (input n xs) ≡ read directive_plan (input n xs)
 unfolding read reads step rule directive
 directive_by [] n = refl
 directive_by (Sign LeftSquare ∷ xs) n = refl
 directive_by (Word w.Constant ∷ xs) n = refl
 directive_by (x ∷ xs) n = refl
 
-pub directive_as : (s : Spot) → read (one r.Directive done) s ≡ read directive_plan s
+pub directive_as : (s : Input) → read (one r.Directive done) s ≡ read directive_plan s
 directive_as s = directive_by s.rest s.opened
 
 entry_starts : (xs : List Lexeme) → heads begins_entry xs ≡ heads (starts r.Entry) xs
@@ -59,12 +59,12 @@ entry_starts [] = refl
 entry_starts (Sign LeftRound ∷ xs) = refl
 entry_starts (_ ∷ xs) = refl
 
-pub entry_more : (front : List Const) (s : Spot) → heads begins_entry s.rest ≡ true
+pub entry_more : (front : List Const) (s : Input) → heads begins_entry s.rest ≡ true
     → read (many r.Entry front done) s ≡ read (one r.Entry (λ x. many r.Entry (front ++ x ∷ []) done)) s
 unfolding read
 entry_more front s e = many-yes within_limit s.rest r.Entry (rw (entry_starts s.rest) at e) front done s.opened
 
-pub entry_last : (front : List Const) (s : Spot) → heads begins_entry s.rest ≡ false → read (many r.Entry front done) s ≡ Ok (front, s)
+pub entry_last : (front : List Const) (s : Input) → heads begins_entry s.rest ≡ false → read (many r.Entry front done) s ≡ Ok (front, s)
 unfolding read
 entry_last front s e = many-no within_limit s.rest r.Entry (rw (entry_starts s.rest) at e) front done s.opened ∙ done-here within_limit s.rest front s.opened
 
@@ -76,12 +76,12 @@ local_starts [] = refl
 local_starts (Sign LeftRound ∷ xs) = refl
 local_starts (_ ∷ xs) = refl
 
-pub local_more : (front : List (List ℕ)) (s : Spot) → heads is_name s.rest ≡ true
+pub local_more : (front : List (List ℕ)) (s : Input) → heads is_name s.rest ≡ true
     → read (many r.Local front done) s ≡ read (one r.Local (λ x. many r.Local (front ++ x ∷ []) done)) s
 unfolding read
 local_more front s e = many-yes within_limit s.rest r.Local (rw (local_starts s.rest) at e) front done s.opened
 
-pub local_last : (front : List (List ℕ)) (s : Spot) → heads is_name s.rest ≡ false → read (many r.Local front done) s ≡ Ok (front, s)
+pub local_last : (front : List (List ℕ)) (s : Input) → heads is_name s.rest ≡ false → read (many r.Local front done) s ≡ Ok (front, s)
 unfolding read
 local_last front s e = many-no within_limit s.rest r.Local (rw (local_starts s.rest) at e) front done s.opened ∙ done-here within_limit s.rest front s.opened
 
@@ -94,12 +94,12 @@ directive_starts (Sign LeftSquare ∷ xs) = refl
 directive_starts (Word w.Constant ∷ xs) = refl
 directive_starts (_ ∷ xs) = refl
 
-pub directive_more : (front : List DirectiveTree) (s : Spot) → heads begins_directive s.rest ≡ true
+pub directive_more : (front : List DirectiveTree) (s : Input) → heads begins_directive s.rest ≡ true
     → read (many r.Directive front done) s ≡ read (one r.Directive (λ x. many r.Directive (front ++ x ∷ []) done)) s
 unfolding read
 directive_more front s e = many-yes within_limit s.rest r.Directive (rw (directive_starts s.rest) at e) front done s.opened
 
-pub directive_last : (front : List DirectiveTree) (s : Spot) → heads begins_directive s.rest ≡ false → read (many r.Directive front done) s ≡ Ok (front, s)
+pub directive_last : (front : List DirectiveTree) (s : Input) → heads begins_directive s.rest ≡ false → read (many r.Directive front done) s ≡ Ok (front, s)
 unfolding read
 directive_last front s e = many-no within_limit s.rest r.Directive (rw (directive_starts s.rest) at e) front done s.opened ∙ done-here within_limit s.rest front s.opened
 
@@ -107,20 +107,20 @@ pub ruleset directive_loop = (directive_more, directive_last)
 
 -- ---- the end
 
-end_by : (xs : List Lexeme) (n : ℕ) (ds : List DirectiveTree) → is_some (first_glance xs) ≡ false → read (look any_lexeme refuse (done ds)) (spot n xs) ≡ Ok (ds, spot n xs)
+end_by : (xs : List Lexeme) (n : ℕ) (ds : List DirectiveTree) → is_some (first_glance xs) ≡ false → read (look any_lexeme refuse (done ds)) (input n xs) ≡ Ok (ds, input n xs)
 unfolding read reads step
 end_by [] n ds e = refl
 end_by (x ∷ xs) n ds e = absurd (cc)
 
-pub at_end : (s : Spot) (ds : List DirectiveTree) → is_some (first_glance s.rest) ≡ false → read (look any_lexeme refuse (done ds)) s ≡ Ok (ds, s)
+pub at_end : (s : Input) (ds : List DirectiveTree) → is_some (first_glance s.rest) ≡ false → read (look any_lexeme refuse (done ds)) s ≡ Ok (ds, s)
 at_end s ds e = end_by s.rest s.opened ds e
 
-more_by : (xs : List Lexeme) (n : ℕ) (ds : List DirectiveTree) → is_some (first_glance xs) ≡ true → read (look any_lexeme refuse (done ds)) (spot n xs) ≡ Err (fault Unexpected xs)
+more_by : (xs : List Lexeme) (n : ℕ) (ds : List DirectiveTree) → is_some (first_glance xs) ≡ true → read (look any_lexeme refuse (done ds)) (input n xs) ≡ Err (fault Unexpected xs)
 unfolding read reads step
 more_by [] n ds e = absurd (cc)
 more_by (x ∷ xs) n ds e = refl
 
-pub not_at_end : (s : Spot) (ds : List DirectiveTree) → is_some (first_glance s.rest) ≡ true → read (look any_lexeme refuse (done ds)) s ≡ Err (fault Unexpected s.rest)
+pub not_at_end : (s : Input) (ds : List DirectiveTree) → is_some (first_glance s.rest) ≡ true → read (look any_lexeme refuse (done ds)) s ≡ Err (fault Unexpected s.rest)
 not_at_end s ds e = more_by s.rest s.opened ds e
 
 pub ruleset program_steps = (at_end, not_at_end)

@@ -19,7 +19,7 @@ use Rattle.inform_lexer.specs.Spans.{glance_of, lexemes}
 use Rattle.inform_grammar.specs.Lexemes.{heads, is_opener, is_closer, one_less}
 use Rattle.inform_grammar.specs.Faults.{Unexpected, TooDeep, fault}
 use Rattle.inform_grammar.specs.Plan.{done}
-use Rattle.inform_grammar.specs.Reading.{Spot, spot, Answer, step, reads, within_limit}
+use Rattle.inform_grammar.specs.Reading.{Input, input, Answer, step, reads, within_limit}
 use Rattle.inform_parser.specs.Glances.{first_glance, opens, closes, opened_within}
 use Rattle.inform_parser.specs.Reading.{read}
 use Rattle.inform_parser.specs.Nexts.{any_next}
@@ -65,18 +65,18 @@ closer_seen : (x : Lexeme) → is_closer x ≡ closes (glance_of x)
 closer_seen (Sign LeftRound) = refl
 closer_seen _ = refl
 
-nothing_next : (xs : List Lexeme) (n : ℕ) → first_glance xs ≡ None → read any_next (spot n xs) ≡ Err (fault Unexpected xs)
+nothing_next : (xs : List Lexeme) (n : ℕ) → first_glance xs ≡ None → read any_next (input n xs) ≡ Err (fault Unexpected xs)
 unfolding read reads step
 nothing_next [] n e = refl
 nothing_next (x ∷ xs) n e = absurd (cc)
 
-pub ended : (s : Spot) → first_glance s.rest ≡ None → read any_next s ≡ Err (fault Unexpected s.rest)
+pub ended : (s : Input) → first_glance s.rest ≡ None → read any_next s ≡ Err (fault Unexpected s.rest)
 ended s e = nothing_next s.rest s.opened e
 
 -- what is read of a lexeme that is taken
 abbrev taken_as : List Lexeme → ℕ → Option ℕ → Answer (Unit {0})
 taken_as xs n None = Err (fault TooDeep xs)
-taken_as xs n (Some m) = Ok (tt, spot m (drop 1 xs))
+taken_as xs n (Some m) = Ok (tt, input m (drop 1 xs))
 
 room_cases : (a b r : Bool) (x : Lexeme) (xs : List Lexeme) (n : ℕ)
     → cond a (cond r (reads within_limit xs (done tt) (suc n)) (Err (fault TooDeep (x ∷ xs)))) (reads within_limit xs (done tt) (cond a (suc n) (cond b (one_less n) n)))
@@ -85,14 +85,14 @@ room_cases true b true x xs n = done-here within_limit xs tt (suc n)
 room_cases true b false x xs n = refl
 room_cases false b r x xs n = done-here within_limit xs tt (cond b (one_less n) n)
 
-taken_by : (x : Lexeme) (xs : List Lexeme) (n : ℕ) → read any_next (spot n (x ∷ xs)) ≡ taken_as (x ∷ xs) n (opened_within (glance_of x) n)
+taken_by : (x : Lexeme) (xs : List Lexeme) (n : ℕ) → read any_next (input n (x ∷ xs)) ≡ taken_as (x ∷ xs) n (opened_within (glance_of x) n)
 unfolding read reads step
 taken_by x xs n =
     room_cases (is_opener x) (is_closer x) (within_limit n) x xs n
     ∙ ap₂ (λ a b. taken_as (x ∷ xs) n (cond a (cond (within_limit n) (Some (suc n)) None) (Some (cond b (one_less n) n)))) (opener_seen x) (closer_seen x)
 
 -- what is seen is what is taken
-seen_taken : (xs : List Lexeme) (n : ℕ) (x : Glance) → first_glance xs ≡ Some x → read any_next (spot n xs) ≡ taken_as xs n (opened_within x n)
+seen_taken : (xs : List Lexeme) (n : ℕ) (x : Glance) → first_glance xs ≡ Some x → read any_next (input n xs) ≡ taken_as xs n (opened_within x n)
 seen_taken [] n x e = absurd (cc)
 seen_taken (y ∷ ys) n x e =
     let same : glance_of y ≡ x = cc in taken_by y ys n ∙ ap (λ g. taken_as (y ∷ ys) n (opened_within g n)) same
@@ -103,12 +103,12 @@ pub fewer_left : (bytes : List ℕ) (ts : List Token) (x : Glance) → first_gla
 fewer_left bytes [] x e = absurd (cc)
 fewer_left bytes (t ∷ ts) x e = omega (arith, ap length (rest_lexemes bytes t ts))
 
-pub no_room : (s : Spot) (x : Glance) → first_glance s.rest ≡ Some x → opened_within x s.opened ≡ None → read any_next s ≡ Err (fault TooDeep s.rest)
+pub no_room : (s : Input) (x : Glance) → first_glance s.rest ≡ Some x → opened_within x s.opened ≡ None → read any_next s ≡ Err (fault TooDeep s.rest)
 no_room s x e h = seen_taken s.rest s.opened x e ∙ ap (taken_as s.rest s.opened) h
 
 pub one_taken : (bytes : List ℕ) (ts : List Token) (n m : ℕ) (x : Glance) → first_glance (lexemes bytes ts) ≡ Some x → opened_within x n ≡ Some m
-    → read any_next (spot n (lexemes bytes ts)) ≡ Ok (tt, spot m (lexemes bytes (take (length ts - 1) (drop 1 ts))))
+    → read any_next (input n (lexemes bytes ts)) ≡ Ok (tt, input m (lexemes bytes (take (length ts - 1) (drop 1 ts))))
 one_taken bytes [] n m x e h = absurd (cc)
 one_taken bytes (t ∷ ts) n m x e h =
     seen_taken (lexemes bytes (t ∷ ts)) n x e ∙ ap (taken_as (lexemes bytes (t ∷ ts)) n) h
-    ∙ ap (λ xs. Ok (tt, spot m xs)) (sym (rest_lexemes bytes t ts))
+    ∙ ap (λ xs. Ok (tt, input m xs)) (sym (rest_lexemes bytes t ts))

@@ -6,7 +6,7 @@ use Rattle.inform_lexemes.specs.Lexemes.{Lexeme, Word, Number, Character, Sign, 
 use Rattle.inform_lexemes.proofs.Told.{symbols_told, keywords_told}
 use Rattle.inform_grammar.specs.Lexemes.{heads, is_opener, is_closer}
 use Rattle.inform_grammar.specs.Plan.{done, refuse, next}
-use Rattle.inform_grammar.specs.Reading.{Spot, spot, step, reads, within_limit}
+use Rattle.inform_grammar.specs.Reading.{Input, input, step, reads, within_limit}
 use Rattle.inform_grammar.proofs.Steps.{done-here}
 use Rattle.inform_lexer.specs.declared.glances.Glance.TheVariants as g
 use Rattle.inform_parser.specs.Glances.{first_glance}
@@ -14,24 +14,24 @@ use Rattle.inform_parser.specs.Reading.{read, Passes}
 use Rattle.inform_parser.specs.Nexts.{next_of}
 
 passed_as : (xs : List Lexeme) (n : ℕ) (x : Lexeme) (test : Lexeme → Bool) → test x ≡ true → is_opener x ≡ false → is_closer x ≡ false
-    → read (next_of test) (spot n (x ∷ xs)) ≡ Ok (x, spot n xs)
+    → read (next_of test) (input n (x ∷ xs)) ≡ Ok (x, input n xs)
 unfolding read reads step
 passed_as xs n x test passes opens closes = rw passes (rw opens (rw closes (done-here within_limit xs x n)))
 
 passed_next : (xs : List Lexeme) (n : ℕ) (x : Lexeme) (test : Lexeme → Bool) → ((y : Lexeme) → test y ≡ true → y ≡ x) → heads test xs ≡ true
-    → is_opener x ≡ false → is_closer x ≡ false → read (next_of test) (spot n xs) ≡ Ok (x, spot n (drop 1 xs))
+    → is_opener x ≡ false → is_closer x ≡ false → read (next_of test) (input n xs) ≡ Ok (x, input n (drop 1 xs))
 passed_next [] n x test told e opens closes = absurd (cc)
 passed_next (y ∷ ys) n x test told e opens closes =
     let same : y ≡ x = told y e in
-    subst (λ (z : Lexeme). read (next_of test) (spot n (z ∷ ys)) ≡ Ok (x, spot n ys)) (sym same)
+    subst (λ (z : Lexeme). read (next_of test) (input n (z ∷ ys)) ≡ Ok (x, input n ys)) (sym same)
     (passed_as ys n x test (subst (λ (z : Lexeme). test z ≡ true) same e) opens closes)
 
-sign_passed : (s : Spot) (a : Symbol) → heads (is_sign a) s.rest ≡ true → is_opener (Sign a) ≡ false → is_closer (Sign a) ≡ false
-    → read (next_of (is_sign a)) s ≡ Ok (Sign a, spot s.opened (drop 1 s.rest))
+sign_passed : (s : Input) (a : Symbol) → heads (is_sign a) s.rest ≡ true → is_opener (Sign a) ≡ false → is_closer (Sign a) ≡ false
+    → read (next_of (is_sign a)) s ≡ Ok (Sign a, input s.opened (drop 1 s.rest))
 sign_passed s a e opens closes = passed_next s.rest s.opened (Sign a) (is_sign a) (symbols_told a) e opens closes
 
-word_passed : (s : Spot) (a : Keyword) → heads (is_word a) s.rest ≡ true → is_opener (Word a) ≡ false
-    → read (next_of (is_word a)) s ≡ Ok (Word a, spot s.opened (drop 1 s.rest))
+word_passed : (s : Input) (a : Keyword) → heads (is_word a) s.rest ≡ true → is_opener (Word a) ≡ false
+    → read (next_of (is_word a)) s ≡ Ok (Word a, input s.opened (drop 1 s.rest))
 word_passed s a e opens = passed_next s.rest s.opened (Word a) (is_word a) (keywords_told a) e opens refl
 
 -- something stands next
@@ -49,29 +49,29 @@ fewer_left : (xs : List Lexeme) → 1 ≤ length xs → length (drop 1 xs) < len
 fewer_left [] some = absurd (omega arith)
 fewer_left (x ∷ xs) some = omega arith
 
-pub sign_passes : (s after : Spot) (a : Symbol) → heads (is_sign a) s.rest ≡ true → is_opener (Sign a) ≡ false → is_closer (Sign a) ≡ false
-    → after ≡ spot s.opened (drop 1 s.rest) → Passes (is_sign a) (Sign a) s after
+pub sign_passes : (s after : Input) (a : Symbol) → heads (is_sign a) s.rest ≡ true → is_opener (Sign a) ≡ false → is_closer (Sign a) ≡ false
+    → after ≡ input s.opened (drop 1 s.rest) → Passes (is_sign a) (Sign a) s after
 sign_passes s after a e opens closes same =
-    subst (λ (after : Spot). Passes (is_sign a) (Sign a) s after) (sym same)
+    subst (λ (after : Input). Passes (is_sign a) (Sign a) s after) (sym same)
     (record { gives = sign_passed s a e opens closes; taken = fewer_left s.rest (sign_there s.rest a e) })
 
-pub word_passes : (s after : Spot) (a : Keyword) → heads (is_word a) s.rest ≡ true → is_opener (Word a) ≡ false
-    → after ≡ spot s.opened (drop 1 s.rest) → Passes (is_word a) (Word a) s after
+pub word_passes : (s after : Input) (a : Keyword) → heads (is_word a) s.rest ≡ true → is_opener (Word a) ≡ false
+    → after ≡ input s.opened (drop 1 s.rest) → Passes (is_word a) (Word a) s after
 word_passes s after a e opens same =
-    subst (λ (after : Spot). Passes (is_word a) (Word a) s after) (sym same)
+    subst (λ (after : Input). Passes (is_word a) (Word a) s after) (sym same)
     (record { gives = word_passed s a e opens; taken = fewer_left s.rest (word_there s.rest a e) })
 
 pub ruleset passed = (sign_there, word_there)
 
 -- ---- numbers and characters
 
-number_by : (xs : List Lexeme) (n m : ℕ) → first_glance xs ≡ Some (g.Number m) → read (next_of is_number) (spot n xs) ≡ Ok (Number m, spot n (drop 1 xs))
+number_by : (xs : List Lexeme) (n m : ℕ) → first_glance xs ≡ Some (g.Number m) → read (next_of is_number) (input n xs) ≡ Ok (Number m, input n (drop 1 xs))
 number_by (Number x ∷ xs) n m e =
     let same : x ≡ m = cc in
-    subst (λ (y : ℕ). read (next_of is_number) (spot n (Number x ∷ xs)) ≡ Ok (Number y, spot n xs)) same (passed_as xs n (Number x) is_number refl refl refl)
+    subst (λ (y : ℕ). read (next_of is_number) (input n (Number x ∷ xs)) ≡ Ok (Number y, input n xs)) same (passed_as xs n (Number x) is_number refl refl refl)
 number_by _ n m e = absurd (cc)
 
-pub number_passed : (s : Spot) (m : ℕ) → first_glance s.rest ≡ Some (g.Number m) → read (next_of is_number) s ≡ Ok (Number m, spot s.opened (drop 1 s.rest))
+pub number_passed : (s : Input) (m : ℕ) → first_glance s.rest ≡ Some (g.Number m) → read (next_of is_number) s ≡ Ok (Number m, input s.opened (drop 1 s.rest))
 number_passed s m e = number_by s.rest s.opened m e
 
 pub number_there : (xs : List Lexeme) → heads is_number xs ≡ true → 1 ≤ length xs
@@ -84,15 +84,15 @@ number_seen (Number x ∷ xs) e h = h x refl
 number_seen (_ ∷ xs) e h = absurd (cc)
 
 character_by : (xs : List Lexeme) (n m : ℕ) → first_glance xs ≡ Some (g.Character m)
-    → read (next_of is_character) (spot n xs) ≡ Ok (Character m, spot n (drop 1 xs))
+    → read (next_of is_character) (input n xs) ≡ Ok (Character m, input n (drop 1 xs))
 character_by (Character x ∷ xs) n m e =
     let same : x ≡ m = cc in
-    subst (λ (y : ℕ). read (next_of is_character) (spot n (Character x ∷ xs)) ≡ Ok (Character y, spot n xs)) same
+    subst (λ (y : ℕ). read (next_of is_character) (input n (Character x ∷ xs)) ≡ Ok (Character y, input n xs)) same
     (passed_as xs n (Character x) is_character refl refl refl)
 character_by _ n m e = absurd (cc)
 
-pub character_passed : (s : Spot) (m : ℕ) → first_glance s.rest ≡ Some (g.Character m)
-    → read (next_of is_character) s ≡ Ok (Character m, spot s.opened (drop 1 s.rest))
+pub character_passed : (s : Input) (m : ℕ) → first_glance s.rest ≡ Some (g.Character m)
+    → read (next_of is_character) s ≡ Ok (Character m, input s.opened (drop 1 s.rest))
 character_passed s m e = character_by s.rest s.opened m e
 
 pub character_there : (xs : List Lexeme) → heads is_character xs ≡ true → 1 ≤ length xs

@@ -10,7 +10,7 @@ use Rattle.inform_lexer.specs.declared.glances.Glance.TheVariants as g
 use Rattle.inform_grammar.specs.Lexemes.{heads, is_arrow, is_factor_sign, is_term_sign, is_relation, relation_of}
 use Rattle.inform_grammar.specs.Faults.{Unexpected, fault}
 use Rattle.inform_grammar.specs.Plan.{done, refuse, next}
-use Rattle.inform_grammar.specs.Reading.{Spot, spot, Answer, step, reads}
+use Rattle.inform_grammar.specs.Reading.{Input, input, Answer, step, reads}
 use Rattle.inform_grammar.proofs.Binding.{and_then}
 use Rattle.inform_parser.specs.Glances.{first_glance}
 use Rattle.inform_lexer.specs.declared.kinds.Token.{Token}
@@ -85,7 +85,7 @@ relation_known : (op : Relation) → relation_of (relation_lexeme op) ≡ op
 relation_known Eq = refl
 relation_known _ = refl
 
-relation_by : (s : Spot) → read relation_next s ≡ and_then (read (next_of is_relation) s) (λ x s. Ok (relation_of x, s))
+relation_by : (s : Input) → read relation_next s ≡ and_then (read (next_of is_relation) s) (λ x s. Ok (relation_of x, s))
 unfolding relation_next
 relation_by s = read-then (λ x. done (relation_of x)) (next_of is_relation) s ∙ ended (read (next_of is_relation) s)
   where
@@ -93,17 +93,17 @@ relation_by s = read-then (λ x. done (relation_of x)) (next_of is_relation) s �
     ended (Ok y) = read-done (relation_of y.0) y.1
     ended (Err fault) = refl
 
-pub relation_fails : (s : Spot) → heads is_relation s.rest ≡ false → read relation_next s ≡ Err (fault Unexpected s.rest)
+pub relation_fails : (s : Input) → heads is_relation s.rest ≡ false → read relation_next s ≡ Err (fault Unexpected s.rest)
 relation_fails s e = relation_by s ∙ ap (λ a. and_then a (λ x s. Ok (relation_of x, s))) (fails s is_relation done e)
 
-module _ (s : Spot) (op : Relation) (first : StandsNext (relation_lexeme op) s) where
-  pub relation_taken : (mid : Spot) → read any_next s ≡ Ok (tt, mid) → read relation_next s ≡ Ok (op, mid)
+module _ (s : Input) (op : Relation) (first : StandsNext (relation_lexeme op) s) where
+  pub relation_taken : (mid : Input) → read any_next s ≡ Ok (tt, mid) → read relation_next s ≡ Ok (op, mid)
   relation_taken mid e =
       relation_by s
       ∙ ap (λ a. and_then a (λ x s. Ok (relation_of x, s))) (first_taken s is_relation (relation_lexeme op) first (relation_kind op) mid e)
       ∙ ap (λ op. Ok (op, mid)) (relation_known op)
 
-  pub relation_stops : (after : Spot) (stop : Stop) → StopsAt after stop (read any_next s) → StopsAt after stop (read relation_next s)
+  pub relation_stops : (after : Input) (stop : Stop) → StopsAt after stop (read any_next s) → StopsAt after stop (read relation_next s)
   relation_stops after stop e =
       subst (λ a. StopsAt after stop a) (sym (relation_by s))
       (stops-then after stop (λ x s. Ok (relation_of x, s)) (read (next_of is_relation) s)
@@ -114,13 +114,13 @@ at_relation xs op e = rw e (relation_kind op)
 
 -- ---- arrows and signs
 
-arrow_at : (xs : List Lexeme) (n : ℕ) → read arrow_next (spot n xs) ≡ read (next (is_sign WordArrow) (λ _. done true) (next (is_sign ByteArrow) (λ _. done false) refuse)) (spot n xs)
+arrow_at : (xs : List Lexeme) (n : ℕ) → read arrow_next (input n xs) ≡ read (next (is_sign WordArrow) (λ _. done true) (next (is_sign ByteArrow) (λ _. done false) refuse)) (input n xs)
 unfolding read reads step arrow_next
 arrow_at [] n = refl
 arrow_at (Sign WordArrow ∷ xs) n = refl
 arrow_at (_ ∷ xs) n = refl
 
-pub arrow_as : (s : Spot) → read arrow_next s ≡ read (next (is_sign WordArrow) (λ _. done true) (next (is_sign ByteArrow) (λ _. done false) refuse)) s
+pub arrow_as : (s : Input) → read arrow_next s ≡ read (next (is_sign WordArrow) (λ _. done true) (next (is_sign ByteArrow) (λ _. done false) refuse)) s
 arrow_as s = arrow_at s.rest s.opened
 
 pub ruleset arrows = (arrow_as)

@@ -12,7 +12,7 @@ use Rattle.inform_grammar.specs.ConditionRules.{value_after}
 use Rattle.inform_grammar.specs.StatementRules.{change_after, change, item, further_item, return_after, print_after, read_after}
 use Rattle.inform_grammar.specs.Plan.{Plan, done, refuse, next, ◌>>=◌, take, one, many}
 use Rattle.inform_grammar.specs.Rule.{rule}
-use Rattle.inform_grammar.specs.Reading.{Spot, spot, step, reads, within_limit}
+use Rattle.inform_grammar.specs.Reading.{Input, input, step, reads, within_limit}
 use Rattle.inform_grammar.proofs.Steps.{starts, one-as-here, many-no, many-yes, done-here}
 use Rattle.inform_parser.specs.Reading.{read}
 use Rattle.inform_parser.specs.Nexts.{text_in, arrow_next}
@@ -27,19 +27,19 @@ module _ (name : List ℕ) where
   abbrev pub by_one_plan : Plan Assignment
   by_one_plan = next (is_sign Increment) (λ _. done (s.Inc name)) (next (is_sign Decrement) (λ _. done (s.Dec name)) refuse)
 
-  set_by : (xs : List Lexeme) (n : ℕ) → heads (is_sign Assign) xs ≡ true → read (change_after name) (spot n xs) ≡ read set_plan (spot n xs)
+  set_by : (xs : List Lexeme) (n : ℕ) → heads (is_sign Assign) xs ≡ true → read (change_after name) (input n xs) ≡ read set_plan (input n xs)
   unfolding read reads step change_after
   set_by (Sign Assign ∷ xs) n e = refl
   set_by _ n e = absurd (cc)
 
-  set_entry_by : (xs : List Lexeme) (n : ℕ) → heads is_arrow xs ≡ true → read (change_after name) (spot n xs) ≡ read (entry_change name) (spot n xs)
+  set_entry_by : (xs : List Lexeme) (n : ℕ) → heads is_arrow xs ≡ true → read (change_after name) (input n xs) ≡ read (entry_change name) (input n xs)
   unfolding read reads step change_after arrow_next
   set_entry_by (Sign ByteArrow ∷ xs) n e = refl
   set_entry_by (Sign WordArrow ∷ xs) n e = refl
   set_entry_by _ n e = absurd (cc)
 
   by_one_by : (xs : List Lexeme) (n : ℕ) → heads (is_sign Assign) xs ≡ false → heads is_arrow xs ≡ false
-      → read (change_after name) (spot n xs) ≡ read by_one_plan (spot n xs)
+      → read (change_after name) (input n xs) ≡ read by_one_plan (input n xs)
   unfolding read reads step change_after
   by_one_by [] n e f = refl
   by_one_by (Sign Assign ∷ xs) n e f = absurd (cc)
@@ -47,41 +47,41 @@ module _ (name : List ℕ) where
   by_one_by (Sign WordArrow ∷ xs) n e f = absurd (cc)
   by_one_by (_ ∷ xs) n e f = refl
 
-pub set_as : (name : List ℕ) (s : Spot) → heads (is_sign Assign) s.rest ≡ true → read (change_after name) s ≡ read (set_plan name) s
+pub set_as : (name : List ℕ) (s : Input) → heads (is_sign Assign) s.rest ≡ true → read (change_after name) s ≡ read (set_plan name) s
 set_as name s e = set_by name s.rest s.opened e
 
-pub set_entry_as : (name : List ℕ) (s : Spot) → heads is_arrow s.rest ≡ true → read (change_after name) s ≡ read (entry_change name) s
+pub set_entry_as : (name : List ℕ) (s : Input) → heads is_arrow s.rest ≡ true → read (change_after name) s ≡ read (entry_change name) s
 set_entry_as name s e = set_entry_by name s.rest s.opened e
 
-pub by_one_as : (name : List ℕ) (s : Spot) → heads (is_sign Assign) s.rest ≡ false → heads is_arrow s.rest ≡ false → read (change_after name) s ≡ read (by_one_plan name) s
+pub by_one_as : (name : List ℕ) (s : Input) → heads (is_sign Assign) s.rest ≡ false → heads is_arrow s.rest ≡ false → read (change_after name) s ≡ read (by_one_plan name) s
 by_one_as name s e f = by_one_by name s.rest s.opened e f
 
 pub ruleset changes = (set_as, set_entry_as, by_one_as)
 
-change_by : (xs : List Lexeme) (n : ℕ) → read (one r.Change done) (spot n xs) ≡ read (next is_name (λ x. change_after (name_in x) >>= done) refuse) (spot n xs)
+change_by : (xs : List Lexeme) (n : ℕ) → read (one r.Change done) (input n xs) ≡ read (next is_name (λ x. change_after (name_in x) >>= done) refuse) (input n xs)
 unfolding read reads step rule change
 change_by [] n = refl
 change_by (Sign Comma ∷ xs) n = refl
 change_by (_ ∷ xs) n = refl
 
-pub change_as : (s : Spot) → read (one r.Change done) s ≡ read (next is_name (λ x. change_after (name_in x) >>= done) refuse) s
+pub change_as : (s : Input) → read (one r.Change done) s ≡ read (next is_name (λ x. change_after (name_in x) >>= done) refuse) s
 change_as s = change_by s.rest s.opened
 
-no_change_by : (xs : List Lexeme) (n : ℕ) → heads is_name xs ≡ false → read change_if_any (spot n xs) ≡ Ok (None, spot n xs)
+no_change_by : (xs : List Lexeme) (n : ℕ) → heads is_name xs ≡ false → read change_if_any (input n xs) ≡ Ok (None, input n xs)
 unfolding read reads step rule change change_if_any
 no_change_by [] n e = refl
 no_change_by (Name name ∷ xs) n e = absurd (cc)
 no_change_by (_ ∷ xs) n e = refl
 
-pub no_change : (s : Spot) → heads is_name s.rest ≡ false → read change_if_any s ≡ Ok (None, s)
+pub no_change : (s : Input) → heads is_name s.rest ≡ false → read change_if_any s ≡ Ok (None, s)
 no_change s e = no_change_by s.rest s.opened e
 
-some_change_by : (xs : List Lexeme) (n : ℕ) → heads is_name xs ≡ true → read change_if_any (spot n xs) ≡ read (one r.Change (λ x. done (Some x))) (spot n xs)
+some_change_by : (xs : List Lexeme) (n : ℕ) → heads is_name xs ≡ true → read change_if_any (input n xs) ≡ read (one r.Change (λ x. done (Some x))) (input n xs)
 unfolding read reads step rule change change_if_any
 some_change_by (Name name ∷ xs) n e = refl
 some_change_by _ n e = absurd (cc)
 
-pub some_change : (s : Spot) → heads is_name s.rest ≡ true → read change_if_any s ≡ read (one r.Change (λ x. done (Some x))) s
+pub some_change : (s : Input) → heads is_name s.rest ≡ true → read change_if_any s ≡ read (one r.Change (λ x. done (Some x))) s
 some_change s e = some_change_by s.rest s.opened e
 
 pub ruleset change_if = (no_change, some_change)
@@ -92,7 +92,7 @@ abbrev pub item_inside_plan : Plan PrintItem
 item_inside_plan =
     next (is_word w.Char) (λ _. char_after) value_inside
 
-item_inside_by : (xs : List Lexeme) (n : ℕ) → read item_inside (spot n xs) ≡ read item_inside_plan (spot n xs)
+item_inside_by : (xs : List Lexeme) (n : ℕ) → read item_inside (input n xs) ≡ read item_inside_plan (input n xs)
 unfolding read reads step rule item_inside value product unary primary
 item_inside_by [] n = refl
 item_inside_by (Word w.Char ∷ xs) n = refl
@@ -100,7 +100,7 @@ item_inside_by (Sign LeftRound ∷ xs) n = refl
 item_inside_by (Sign Minus ∷ xs) n = refl
 item_inside_by (x ∷ xs) n = refl
 
-pub item_inside_as : (s : Spot) → read item_inside s ≡ read item_inside_plan s
+pub item_inside_as : (s : Input) → read item_inside s ≡ read item_inside_plan s
 item_inside_as s = item_inside_by s.rest s.opened
 
 abbrev pub item_plan : Plan PrintItem
@@ -109,27 +109,27 @@ item_plan =
     (next (is_sign LeftRound) (λ _. item_inside >>= done)
     value_item)
 
-item_by : (xs : List Lexeme) (n : ℕ) → read (one r.Item done) (spot n xs) ≡ read item_plan (spot n xs)
+item_by : (xs : List Lexeme) (n : ℕ) → read (one r.Item done) (input n xs) ≡ read item_plan (input n xs)
 unfolding read reads step rule item item_inside
 item_by [] n = refl
 item_by (Quoted text ∷ xs) n = refl
 item_by (Sign LeftRound ∷ xs) n = refl
 item_by (x ∷ xs) n = one-as-here within_limit _ xs r.Item r.Value (λ x. done (s.Value x)) done n refl
 
-pub item_as : (s : Spot) → read (one r.Item done) s ≡ read item_plan s
+pub item_as : (s : Input) → read (one r.Item done) s ≡ read item_plan s
 item_as s = item_by s.rest s.opened
 
 abbrev pub further_item_plan : Plan PrintItem
 further_item_plan =
     next (is_sign Comma) (λ _. one r.Item done >>= done) refuse
 
-further_item_by : (xs : List Lexeme) (n : ℕ) → read (one r.FurtherItem done) (spot n xs) ≡ read further_item_plan (spot n xs)
+further_item_by : (xs : List Lexeme) (n : ℕ) → read (one r.FurtherItem done) (input n xs) ≡ read further_item_plan (input n xs)
 unfolding read reads step rule further_item
 further_item_by [] n = refl
 further_item_by (Sign Comma ∷ xs) n = refl
 further_item_by (x ∷ xs) n = refl
 
-pub further_item_as : (s : Spot) → read (one r.FurtherItem done) s ≡ read further_item_plan s
+pub further_item_as : (s : Input) → read (one r.FurtherItem done) s ≡ read further_item_plan s
 further_item_as s = further_item_by s.rest s.opened
 
 item_starts : (xs : List Lexeme) → heads (is_sign Comma) xs ≡ heads (starts r.FurtherItem) xs
@@ -138,12 +138,12 @@ item_starts [] = refl
 item_starts (Sign Comma ∷ xs) = refl
 item_starts (_ ∷ xs) = refl
 
-pub item_more : (front : List PrintItem) (s : Spot) → heads (is_sign Comma) s.rest ≡ true
+pub item_more : (front : List PrintItem) (s : Input) → heads (is_sign Comma) s.rest ≡ true
     → read (many r.FurtherItem front done) s ≡ read (one r.FurtherItem (λ x. many r.FurtherItem (front ++ x ∷ []) done)) s
 unfolding read
 item_more front s e = many-yes within_limit s.rest r.FurtherItem (rw (item_starts s.rest) at e) front done s.opened
 
-pub item_last : (front : List PrintItem) (s : Spot) → heads (is_sign Comma) s.rest ≡ false → read (many r.FurtherItem front done) s ≡ Ok (front, s)
+pub item_last : (front : List PrintItem) (s : Input) → heads (is_sign Comma) s.rest ≡ false → read (many r.FurtherItem front done) s ≡ Ok (front, s)
 unfolding read
 item_last front s e = many-no within_limit s.rest r.FurtherItem (rw (item_starts s.rest) at e) front done s.opened ∙ done-here within_limit s.rest front s.opened
 
@@ -156,7 +156,7 @@ return_after_plan =
     next (is_sign Semicolon) (λ _. done (s.Return None))
     (one r.Value (λ x. take (is_sign Semicolon) (done (s.Return (Some x)))))
 
-return_after_by : (xs : List Lexeme) (n : ℕ) → read return_after (spot n xs) ≡ read return_after_plan (spot n xs)
+return_after_by : (xs : List Lexeme) (n : ℕ) → read return_after (input n xs) ≡ read return_after_plan (input n xs)
 unfolding read reads step rule return_after value product unary primary
 return_after_by [] n = refl
 return_after_by (Sign Semicolon ∷ xs) n = refl
@@ -164,7 +164,7 @@ return_after_by (Sign LeftRound ∷ xs) n = refl
 return_after_by (Sign Minus ∷ xs) n = refl
 return_after_by (x ∷ xs) n = refl
 
-pub return_after_as : (s : Spot) → read return_after s ≡ read return_after_plan s
+pub return_after_as : (s : Input) → read return_after s ≡ read return_after_plan s
 return_after_as s = return_after_by s.rest s.opened
 
 abbrev pub simple_plan : Plan Statement
@@ -174,6 +174,6 @@ simple_plan =
     (next (is_word w.Read) (λ _. read_after)
     plain_statement))
 
-pub simple_as : (s : Spot) → read simple_statement s ≡ read simple_plan s
+pub simple_as : (s : Input) → read simple_statement s ≡ read simple_plan s
 unfolding simple_statement
 simple_as s = refl

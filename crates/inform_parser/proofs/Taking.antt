@@ -9,7 +9,7 @@ use Rattle.inform_lexer.specs.declared.glances.Glance.TheVariants as g
 use Rattle.inform_grammar.specs.Faults.{Unexpected, fault}
 use Rattle.inform_grammar.specs.Lexemes.{heads, any_lexeme, one_less}
 use Rattle.inform_grammar.specs.Plan.{Plan, done, refuse, next, take}
-use Rattle.inform_grammar.specs.Reading.{Spot, spot, Answer, step, reads}
+use Rattle.inform_grammar.specs.Reading.{Input, input, Answer, step, reads}
 use Rattle.inform_grammar.proofs.Binding.{and_then}
 use Rattle.inform_parser.specs.Glances.{first_glance}
 use Rattle.inform_parser.specs.declared.stops.Stop.{Stop}
@@ -22,13 +22,13 @@ less_by_one zero = refl
 less_by_one (suc n) = omega arith
 
 -- what stands next, after it was taken
-abbrev pub kept : Lexeme → Unit {0} → Spot → Answer Lexeme
+abbrev pub kept : Lexeme → Unit {0} → Input → Answer Lexeme
 kept x _ s = Ok (x, s)
 
 -- ---- a lexeme that passes a test is taken as any is
 
 passed_as : (xs ys : List Lexeme) (n : ℕ) (x : Lexeme) (test : Lexeme → Bool) → xs ≡ x ∷ ys → test x ≡ true
-    → read (next_of test) (spot n xs) ≡ read (take any_lexeme (done x)) (spot n xs)
+    → read (next_of test) (input n xs) ≡ read (take any_lexeme (done x)) (input n xs)
 unfolding read reads step
 passed_as xs ys n x test e h = rw e (rw h refl)
 
@@ -37,22 +37,22 @@ keeps x (Ok y) = read-done x y.1
 keeps x (Err fault) = refl
 
 -- what stands next stops, or is this
-abbrev pub Taken : (Lexeme → Bool) → Lexeme → Spot → Type 0
+abbrev pub Taken : (Lexeme → Bool) → Lexeme → Input → Type 0
 Taken test x s = read (next_of test) s ≡ and_then (read any_next s) (kept x)
 
-passes : (s : Spot) (ys : List Lexeme) (x : Lexeme) (test : Lexeme → Bool) → s.rest ≡ x ∷ ys → test x ≡ true
+passes : (s : Input) (ys : List Lexeme) (x : Lexeme) (test : Lexeme → Bool) → s.rest ≡ x ∷ ys → test x ≡ true
     → read (next_of test) s ≡ and_then (read any_next s) (kept x)
 passes s ys x test e h =
     passed_as s.rest ys s.opened x test e h ∙ read-then (λ _. done x) any_next s ∙ keeps x (read any_next s)
 
 -- what doesn't pass can't stand there
 fails_at : {X : Type 0} (xs : List Lexeme) (n : ℕ) (test : Lexeme → Bool) (k : Lexeme → Plan X) → heads test xs ≡ false
-    → read (next test k refuse) (spot n xs) ≡ Err (fault Unexpected xs)
+    → read (next test k refuse) (input n xs) ≡ Err (fault Unexpected xs)
 unfolding read reads step
 fails_at [] n test k e = refl
 fails_at (x ∷ xs) n test k e = rw e refl
 
-pub fails : {X : Type 0} (s : Spot) (test : Lexeme → Bool) (k : Lexeme → Plan X) → heads test s.rest ≡ false → read (next test k refuse) s ≡ Err (fault Unexpected s.rest)
+pub fails : {X : Type 0} (s : Input) (test : Lexeme → Bool) (k : Lexeme → Plan X) → heads test s.rest ≡ false → read (next test k refuse) s ≡ Err (fault Unexpected s.rest)
 fails s test k e = fails_at s.rest s.opened test k e
 
 -- ---- symbols and words
@@ -64,42 +64,42 @@ told_first test x (y ∷ ys) told e = ap (λ z. z ∷ ys) (told y e)
 same_first : (test : Lexeme → Bool) (x : Lexeme) (xs : List Lexeme) → xs ≡ x ∷ drop 1 xs → heads test xs ≡ true → test x ≡ true
 same_first test x xs e h = subst (λ xs. heads test xs ≡ true) e h
 
-after_any : (test : Lexeme → Bool) (x : Lexeme) (s mid : Spot) → Taken test x s → read any_next s ≡ Ok (tt, mid) → read (next_of test) s ≡ Ok (x, mid)
+after_any : (test : Lexeme → Bool) (x : Lexeme) (s mid : Input) → Taken test x s → read any_next s ≡ Ok (tt, mid) → read (next_of test) s ≡ Ok (x, mid)
 after_any test x s mid e h = e ∙ ap (λ r. and_then r (kept x)) h
 
-stops_any : (test : Lexeme → Bool) (x : Lexeme) (s after : Spot) (stop : Stop) → Taken test x s → StopsAt after stop (read any_next s) → StopsAt after stop (read (next_of test) s)
+stops_any : (test : Lexeme → Bool) (x : Lexeme) (s after : Input) (stop : Stop) → Taken test x s → StopsAt after stop (read any_next s) → StopsAt after stop (read (next_of test) s)
 stops_any test x s after stop e h =
     subst (λ r. StopsAt after stop r) (sym e) (stops-then after stop (kept x) (read any_next s) h)
 
-sign_told : (s : Spot) (a : Symbol) → heads (is_sign a) s.rest ≡ true → Taken (is_sign a) (Sign a) s
+sign_told : (s : Input) (a : Symbol) → heads (is_sign a) s.rest ≡ true → Taken (is_sign a) (Sign a) s
 sign_told s a h =
     let e = told_first (is_sign a) (Sign a) s.rest (symbols_told a) h in
     passes s (drop 1 s.rest) (Sign a) (is_sign a) e (same_first (is_sign a) (Sign a) s.rest e h)
 
-word_told : (s : Spot) (a : Keyword) → heads (is_word a) s.rest ≡ true → Taken (is_word a) (Word a) s
+word_told : (s : Input) (a : Keyword) → heads (is_word a) s.rest ≡ true → Taken (is_word a) (Word a) s
 word_told s a h =
     let e = told_first (is_word a) (Word a) s.rest (keywords_told a) h in
     passes s (drop 1 s.rest) (Word a) (is_word a) e (same_first (is_word a) (Word a) s.rest e h)
 
-pub sign_taken : (s mid : Spot) (a : Symbol) → heads (is_sign a) s.rest ≡ true → read any_next s ≡ Ok (tt, mid) → read (next_of (is_sign a)) s ≡ Ok (Sign a, mid)
+pub sign_taken : (s mid : Input) (a : Symbol) → heads (is_sign a) s.rest ≡ true → read any_next s ≡ Ok (tt, mid) → read (next_of (is_sign a)) s ≡ Ok (Sign a, mid)
 sign_taken s mid a h e = after_any (is_sign a) (Sign a) s mid (sign_told s a h) e
 
-pub sign_stops : (s after : Spot) (stop : Stop) (a : Symbol) → heads (is_sign a) s.rest ≡ true → StopsAt after stop (read any_next s) → StopsAt after stop (read (next_of (is_sign a)) s)
+pub sign_stops : (s after : Input) (stop : Stop) (a : Symbol) → heads (is_sign a) s.rest ≡ true → StopsAt after stop (read any_next s) → StopsAt after stop (read (next_of (is_sign a)) s)
 sign_stops s after stop a h e = stops_any (is_sign a) (Sign a) s after stop (sign_told s a h) e
 
-pub word_taken : (s mid : Spot) (a : Keyword) → heads (is_word a) s.rest ≡ true → read any_next s ≡ Ok (tt, mid) → read (next_of (is_word a)) s ≡ Ok (Word a, mid)
+pub word_taken : (s mid : Input) (a : Keyword) → heads (is_word a) s.rest ≡ true → read any_next s ≡ Ok (tt, mid) → read (next_of (is_word a)) s ≡ Ok (Word a, mid)
 word_taken s mid a h e = after_any (is_word a) (Word a) s mid (word_told s a h) e
 
-pub word_stops : (s after : Spot) (stop : Stop) (a : Keyword) → heads (is_word a) s.rest ≡ true → StopsAt after stop (read any_next s) → StopsAt after stop (read (next_of (is_word a)) s)
+pub word_stops : (s after : Input) (stop : Stop) (a : Keyword) → heads (is_word a) s.rest ≡ true → StopsAt after stop (read any_next s) → StopsAt after stop (read (next_of (is_word a)) s)
 word_stops s after stop a h e = stops_any (is_word a) (Word a) s after stop (word_told s a h) e
 
 -- ---- what is seen to be of a kind
 
-module _ (s : Spot) (test : Lexeme → Bool) (x : Lexeme) (first : s.rest ≡ x ∷ drop 1 s.rest) (kind : test x ≡ true) where
-  pub first_taken : (mid : Spot) → read any_next s ≡ Ok (tt, mid) → read (next_of test) s ≡ Ok (x, mid)
+module _ (s : Input) (test : Lexeme → Bool) (x : Lexeme) (first : s.rest ≡ x ∷ drop 1 s.rest) (kind : test x ≡ true) where
+  pub first_taken : (mid : Input) → read any_next s ≡ Ok (tt, mid) → read (next_of test) s ≡ Ok (x, mid)
   first_taken mid e = after_any test x s mid (passes s (drop 1 s.rest) x test first kind) e
 
-  pub first_stops : (after : Spot) (stop : Stop) → StopsAt after stop (read any_next s) → StopsAt after stop (read (next_of test) s)
+  pub first_stops : (after : Input) (stop : Stop) → StopsAt after stop (read any_next s) → StopsAt after stop (read (next_of test) s)
   first_stops after stop e = stops_any test x s after stop (passes s (drop 1 s.rest) x test first kind) e
 
 pub ruleset taken = (sign_taken, sign_stops, word_taken, word_stops, fails, first_taken, first_stops)

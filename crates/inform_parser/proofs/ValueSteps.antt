@@ -16,7 +16,7 @@ use Rattle.inform_grammar.specs.ValueRules.{number_in, minus_number, constant, e
 use Rattle.inform_grammar.specs.Trees.{product_of, sum_of}
 use Rattle.inform_grammar.specs.Plan.{Plan, done, refuse, next, ◌>>=◌, take, one, many}
 use Rattle.inform_grammar.specs.Rule.{rule}
-use Rattle.inform_grammar.specs.Reading.{Spot, spot, step, reads, within_limit}
+use Rattle.inform_grammar.specs.Reading.{Input, input, step, reads, within_limit}
 use Rattle.inform_grammar.proofs.Steps.{starts, one-as, many-no, many-yes, done-here}
 use Rattle.inform_parser.specs.Reading.{read}
 use Rattle.inform_parser.specs.Nexts.{character_in, arrow_next, factor_next, term_next}
@@ -32,13 +32,13 @@ constant_plan =
     (next is_name (λ x. done (k.Name (name_in x)))
     (take (is_sign Minus) minus_number)))
 
-constant_by : (xs : List Lexeme) (n : ℕ) → read (one r.Constant done) (spot n xs) ≡ read constant_plan (spot n xs)
+constant_by : (xs : List Lexeme) (n : ℕ) → read (one r.Constant done) (input n xs) ≡ read constant_plan (input n xs)
 unfolding read reads step rule constant minus_number
 constant_by [] n = refl
 constant_by (Sign Minus ∷ xs) n = refl
 constant_by (_ ∷ xs) n = refl
 
-pub constant_as : (s : Spot) → read (one r.Constant done) s ≡ read constant_plan s
+pub constant_as : (s : Input) → read (one r.Constant done) s ≡ read constant_plan s
 constant_as s = constant_by s.rest s.opened
 
 abbrev pub entry_plan : Plan Const
@@ -48,13 +48,13 @@ entry_plan =
     (next is_name (λ x. done (k.Name (name_in x)))
     negative_entry))
 
-entry_by : (xs : List Lexeme) (n : ℕ) → read (one r.Entry done) (spot n xs) ≡ read entry_plan (spot n xs)
+entry_by : (xs : List Lexeme) (n : ℕ) → read (one r.Entry done) (input n xs) ≡ read entry_plan (input n xs)
 unfolding read reads step rule entry minus_number
 entry_by [] n = refl
 entry_by (Sign LeftRound ∷ xs) n = refl
 entry_by (_ ∷ xs) n = refl
 
-pub entry_as : (s : Spot) → read (one r.Entry done) s ≡ read entry_plan s
+pub entry_as : (s : Input) → read (one r.Entry done) s ≡ read entry_plan s
 entry_as s = entry_by s.rest s.opened
 
 -- ---- operands
@@ -64,50 +64,50 @@ arguments_plan =
     next (is_sign RightRound) (λ _. done [])
     some_arguments
 
-arguments_by : (xs : List Lexeme) (n : ℕ) → read arguments (spot n xs) ≡ read arguments_plan (spot n xs)
+arguments_by : (xs : List Lexeme) (n : ℕ) → read arguments (input n xs) ≡ read arguments_plan (input n xs)
 unfolding read reads step rule arguments value product unary primary
 arguments_by [] n = refl
 arguments_by (Sign LeftRound ∷ xs) n = refl
 arguments_by (Sign Minus ∷ xs) n = refl
 arguments_by (_ ∷ xs) n = refl
 
-pub arguments_as : (s : Spot) → read arguments s ≡ read arguments_plan s
+pub arguments_as : (s : Input) → read arguments s ≡ read arguments_plan s
 arguments_as s = arguments_by s.rest s.opened
 
 abbrev pub argument_plan : Plan Expression
 argument_plan =
     next (is_sign Comma) (λ _. one r.Value done >>= done) refuse
 
-argument_by : (xs : List Lexeme) (n : ℕ) → read (one r.Argument done) (spot n xs) ≡ read argument_plan (spot n xs)
+argument_by : (xs : List Lexeme) (n : ℕ) → read (one r.Argument done) (input n xs) ≡ read argument_plan (input n xs)
 unfolding read reads step rule argument
 argument_by [] n = refl
 argument_by (Sign Comma ∷ xs) n = refl
 argument_by (_ ∷ xs) n = refl
 
-pub argument_as : (s : Spot) → read (one r.Argument done) s ≡ read argument_plan s
+pub argument_as : (s : Input) → read (one r.Argument done) s ≡ read argument_plan s
 argument_as s = argument_by s.rest s.opened
 
 module _ (name : List ℕ) where
   abbrev pub entry_read : Plan Expression
   entry_read = arrow_next >>= λ words. one r.Primary (λ x. done (v.Entry name words x))
 
-  with_arrow : (xs : List Lexeme) (n : ℕ) → heads is_arrow xs ≡ true → read (entry_after name) (spot n xs) ≡ read entry_read (spot n xs)
+  with_arrow : (xs : List Lexeme) (n : ℕ) → heads is_arrow xs ≡ true → read (entry_after name) (input n xs) ≡ read entry_read (input n xs)
   unfolding read reads step entry_after arrow_next
   with_arrow (Sign ByteArrow ∷ xs) n e = refl
   with_arrow (Sign WordArrow ∷ xs) n e = refl
   with_arrow _ n e = absurd (cc)
 
-  without_arrow : (xs : List Lexeme) (n : ℕ) → heads is_arrow xs ≡ false → read (entry_after name) (spot n xs) ≡ read (name_after name) (spot n xs)
+  without_arrow : (xs : List Lexeme) (n : ℕ) → heads is_arrow xs ≡ false → read (entry_after name) (input n xs) ≡ read (name_after name) (input n xs)
   unfolding read reads step entry_after
   without_arrow (Sign ByteArrow ∷ xs) n e = absurd (cc)
   without_arrow (Sign WordArrow ∷ xs) n e = absurd (cc)
   without_arrow [] n e = refl
   without_arrow (_ ∷ xs) n e = refl
 
-pub entry_after_arrow : (name : List ℕ) (s : Spot) → heads is_arrow s.rest ≡ true → read (entry_after name) s ≡ read (entry_read name) s
+pub entry_after_arrow : (name : List ℕ) (s : Input) → heads is_arrow s.rest ≡ true → read (entry_after name) s ≡ read (entry_read name) s
 entry_after_arrow name s e = with_arrow name s.rest s.opened e
 
-pub entry_after_name : (name : List ℕ) (s : Spot) → heads is_arrow s.rest ≡ false → read (entry_after name) s ≡ read (name_after name) s
+pub entry_after_name : (name : List ℕ) (s : Input) → heads is_arrow s.rest ≡ false → read (entry_after name) s ≡ read (name_after name) s
 entry_after_name name s e = without_arrow name s.rest s.opened e
 
 pub ruleset entries_after = (entry_after_arrow, entry_after_name)
@@ -120,14 +120,14 @@ primary_plan =
     (next (is_word w.Random) (λ _. value_in_brackets >>= λ x. done (v.Random x))
     value_in_brackets)))
 
-primary_by : (xs : List Lexeme) (n : ℕ) → read (one r.Primary done) (spot n xs) ≡ read primary_plan (spot n xs)
+primary_by : (xs : List Lexeme) (n : ℕ) → read (one r.Primary done) (input n xs) ≡ read primary_plan (input n xs)
 unfolding read reads step rule primary value_in_brackets
 primary_by [] n = refl
 primary_by (Word w.Random ∷ xs) n = refl
 primary_by (Sign LeftRound ∷ xs) n = refl
 primary_by (_ ∷ xs) n = refl
 
-pub primary_as : (s : Spot) → read (one r.Primary done) s ≡ read primary_plan s
+pub primary_as : (s : Input) → read (one r.Primary done) s ≡ read primary_plan s
 primary_as s = primary_by s.rest s.opened
 
 abbrev pub unary_plan : Plan Expression
@@ -136,7 +136,7 @@ unary_plan =
     (next (is_sign Minus) (λ _. negation)
     (one r.Primary done))
 
-unary_by : (xs : List Lexeme) (n : ℕ) → read (one r.Unary done) (spot n xs) ≡ read unary_plan (spot n xs)
+unary_by : (xs : List Lexeme) (n : ℕ) → read (one r.Unary done) (input n xs) ≡ read unary_plan (input n xs)
 unfolding read reads step rule unary primary
 unary_by [] n = refl
 unary_by (Word w.Random ∷ xs) n = refl
@@ -144,34 +144,34 @@ unary_by (Sign LeftRound ∷ xs) n = refl
 unary_by (Sign Minus ∷ xs) n = refl
 unary_by (_ ∷ xs) n = refl
 
-pub unary_as : (s : Spot) → read (one r.Unary done) s ≡ read unary_plan s
+pub unary_as : (s : Input) → read (one r.Unary done) s ≡ read unary_plan s
 unary_as s = unary_by s.rest s.opened
 
 -- ---- chains
 
-factor_by : (xs : List Lexeme) (n : ℕ) → read (one r.Factor done) (spot n xs) ≡ read (factor_next >>= λ op. one r.Unary (λ x. done (op, x))) (spot n xs)
+factor_by : (xs : List Lexeme) (n : ℕ) → read (one r.Factor done) (input n xs) ≡ read (factor_next >>= λ op. one r.Unary (λ x. done (op, x))) (input n xs)
 unfolding read reads step rule factor factor_next
 factor_by [] n = refl
 factor_by (Sign Times ∷ xs) n = refl
 factor_by (_ ∷ xs) n = refl
 
-pub factor_as : (s : Spot) → read (one r.Factor done) s ≡ read (factor_next >>= λ op. one r.Unary (λ x. done (op, x))) s
+pub factor_as : (s : Input) → read (one r.Factor done) s ≡ read (factor_next >>= λ op. one r.Unary (λ x. done (op, x))) s
 factor_as s = factor_by s.rest s.opened
 
-pub product_as : (s : Spot) → read (one r.Product done) s ≡ read (one r.Unary (λ x. factors_after x >>= done)) s
+pub product_as : (s : Input) → read (one r.Product done) s ≡ read (one r.Unary (λ x. factors_after x >>= done)) s
 unfolding read rule product
 product_as s = one-as within_limit s.rest r.Product r.Unary factors_after done s.opened (λ t. refl)
 
-term_by : (xs : List Lexeme) (n : ℕ) → read (one r.Term done) (spot n xs) ≡ read (term_next >>= λ op. one r.Product (λ x. done (op, x))) (spot n xs)
+term_by : (xs : List Lexeme) (n : ℕ) → read (one r.Term done) (input n xs) ≡ read (term_next >>= λ op. one r.Product (λ x. done (op, x))) (input n xs)
 unfolding read reads step rule term term_next
 term_by [] n = refl
 term_by (Sign Plus ∷ xs) n = refl
 term_by (_ ∷ xs) n = refl
 
-pub term_as : (s : Spot) → read (one r.Term done) s ≡ read (term_next >>= λ op. one r.Product (λ x. done (op, x))) s
+pub term_as : (s : Input) → read (one r.Term done) s ≡ read (term_next >>= λ op. one r.Product (λ x. done (op, x))) s
 term_as s = term_by s.rest s.opened
 
-pub value_as : (s : Spot) → read (one r.Value done) s ≡ read (one r.Product (λ x. terms_after x >>= done)) s
+pub value_as : (s : Input) → read (one r.Value done) s ≡ read (one r.Product (λ x. terms_after x >>= done)) s
 unfolding read rule value
 value_as s = one-as within_limit s.rest r.Value r.Product terms_after done s.opened (λ t. refl)
 
@@ -183,12 +183,12 @@ argument_starts [] = refl
 argument_starts (Sign Comma ∷ xs) = refl
 argument_starts (_ ∷ xs) = refl
 
-pub argument_more : (front : List (Expression)) (s : Spot) → heads (is_sign Comma) s.rest ≡ true
+pub argument_more : (front : List (Expression)) (s : Input) → heads (is_sign Comma) s.rest ≡ true
     → read (many r.Argument front done) s ≡ read (one r.Argument (λ x. many r.Argument (front ++ x ∷ []) done)) s
 unfolding read
 argument_more front s e = many-yes within_limit s.rest r.Argument (rw (argument_starts s.rest) at e) front done s.opened
 
-pub argument_last : (front : List (Expression)) (s : Spot) → heads (is_sign Comma) s.rest ≡ false → read (many r.Argument front done) s ≡ Ok (front, s)
+pub argument_last : (front : List (Expression)) (s : Input) → heads (is_sign Comma) s.rest ≡ false → read (many r.Argument front done) s ≡ Ok (front, s)
 unfolding read
 argument_last front s e = many-no within_limit s.rest r.Argument (rw (argument_starts s.rest) at e) front done s.opened ∙ done-here within_limit s.rest front s.opened
 
@@ -198,16 +198,16 @@ factor_starts [] = refl
 factor_starts (Sign Times ∷ xs) = refl
 factor_starts (_ ∷ xs) = refl
 
-pub factor_more : (front : List (ProdOp × Expression)) (s : Spot) → heads is_factor_sign s.rest ≡ true
+pub factor_more : (front : List (ProdOp × Expression)) (s : Input) → heads is_factor_sign s.rest ≡ true
     → read (many r.Factor front done) s ≡ read (one r.Factor (λ x. many r.Factor (front ++ x ∷ []) done)) s
 unfolding read
 factor_more front s e = many-yes within_limit s.rest r.Factor (rw (factor_starts s.rest) at e) front done s.opened
 
-pub factor_last : (front : List (ProdOp × Expression)) (s : Spot) → heads is_factor_sign s.rest ≡ false → read (many r.Factor front done) s ≡ Ok (front, s)
+pub factor_last : (front : List (ProdOp × Expression)) (s : Input) → heads is_factor_sign s.rest ≡ false → read (many r.Factor front done) s ≡ Ok (front, s)
 unfolding read
 factor_last front s e = many-no within_limit s.rest r.Factor (rw (factor_starts s.rest) at e) front done s.opened ∙ done-here within_limit s.rest front s.opened
 
-pub no_factors : (x : Expression) (s : Spot) → heads is_factor_sign s.rest ≡ false → read (many r.Factor [] (λ ys. done (product_of x ys))) s ≡ Ok (x, s)
+pub no_factors : (x : Expression) (s : Input) → heads is_factor_sign s.rest ≡ false → read (many r.Factor [] (λ ys. done (product_of x ys))) s ≡ Ok (x, s)
 unfolding read
 no_factors x s e = many-no within_limit s.rest r.Factor (rw (factor_starts s.rest) at e) [] (λ ys. done (product_of x ys)) s.opened ∙ done-here within_limit s.rest x s.opened
 
@@ -217,16 +217,16 @@ term_starts [] = refl
 term_starts (Sign Plus ∷ xs) = refl
 term_starts (_ ∷ xs) = refl
 
-pub term_more : (front : List (SumOp × Expression)) (s : Spot) → heads is_term_sign s.rest ≡ true
+pub term_more : (front : List (SumOp × Expression)) (s : Input) → heads is_term_sign s.rest ≡ true
     → read (many r.Term front done) s ≡ read (one r.Term (λ x. many r.Term (front ++ x ∷ []) done)) s
 unfolding read
 term_more front s e = many-yes within_limit s.rest r.Term (rw (term_starts s.rest) at e) front done s.opened
 
-pub term_last : (front : List (SumOp × Expression)) (s : Spot) → heads is_term_sign s.rest ≡ false → read (many r.Term front done) s ≡ Ok (front, s)
+pub term_last : (front : List (SumOp × Expression)) (s : Input) → heads is_term_sign s.rest ≡ false → read (many r.Term front done) s ≡ Ok (front, s)
 unfolding read
 term_last front s e = many-no within_limit s.rest r.Term (rw (term_starts s.rest) at e) front done s.opened ∙ done-here within_limit s.rest front s.opened
 
-pub no_terms : (x : Expression) (s : Spot) → heads is_term_sign s.rest ≡ false → read (many r.Term [] (λ ys. done (sum_of x ys))) s ≡ Ok (x, s)
+pub no_terms : (x : Expression) (s : Input) → heads is_term_sign s.rest ≡ false → read (many r.Term [] (λ ys. done (sum_of x ys))) s ≡ Ok (x, s)
 unfolding read
 no_terms x s e = many-no within_limit s.rest r.Term (rw (term_starts s.rest) at e) [] (λ ys. done (sum_of x ys)) s.opened ∙ done-here within_limit s.rest x s.opened
 

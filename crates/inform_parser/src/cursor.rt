@@ -3,7 +3,7 @@ ghost use Rattle.std.specs.Prelude.{◌≡◌, ◌≤◌, IfOk, MatchOption, len
 ghost use Rattle.inform_lexemes.specs.Lexemes.{Word, Name as NameLexeme, Number, Character, Quoted, Sign, is_sign, is_word, is_name, is_number, is_character, is_quoted};
 ghost use Rattle.inform_lexer.specs.Spans.{lexemes};
 ghost use Rattle.inform_grammar.specs.Lexemes.{heads, is_arrow, is_factor_sign, is_term_sign, is_relation, relation_in, is_opener, is_closer};
-ghost use Rattle.inform_grammar.specs.Reading.{spot};
+ghost use Rattle.inform_grammar.specs.Reading.{input};
 ghost use Rattle.inform_parser.specs.Glances.{first_glance, opens, closes, opened_within};
 ghost use Rattle.inform_parser.specs.Reading.{ReadsSome, Passes, StandsNext, shut_spot};
 ghost use Rattle.inform_parser.specs.Nexts.{next_of, any_next, arrow_next, relation_next, factor_next, term_next, relation_lexeme};
@@ -31,12 +31,12 @@ pub struct Cursor<'a> {
 impl<'a> Model for Cursor<'a> {
     ghost use Rattle.std.specs.Prelude.{◌≡◌};
     ghost use Rattle.inform_lexer.specs.Spans.{lexemes};
-    ghost use Rattle.inform_grammar.specs.Reading.{Spot, spot};
+    ghost use Rattle.inform_grammar.specs.Reading.{Input, input};
     ghost use Rattle.inform_parser.specs.Glances.{first_glance};
 
-    ghost Value = { Spot };
+    ghost Value = { Input };
 
-    ghost view = { λ c. spot c.opened (lexemes c.bytes.now c.rest.now) };
+    ghost view = { λ c. input c.opened (lexemes c.bytes.now c.rest.now) };
 
     ghost invariant = { λ c. c.seen ≡ first_glance (lexemes c.bytes.now c.rest.now) };
 }
@@ -114,7 +114,7 @@ fn relation_by(symbol: Symbol) -> Option<Relation>
 impl<'a> Cursor<'a> {
     /// The cursor before the first of these tokens, which are those of these bytes.
     pub fn new(bytes: &'a [u8], tokens: &'a [Token]) -> Cursor<'a>
-        ensures { result ≡ spot 0 (lexemes bytes.now tokens.now) }
+        ensures { result ≡ input 0 (lexemes bytes.now tokens.now) }
     {
         let mut seen = None;
         see(&mut seen, bytes, tokens);
@@ -269,7 +269,7 @@ impl<'a> Cursor<'a> {
     #[inline(always)]
     fn skip(&mut self)
         requires { 1 ≤ length self.old.rest }
-        ensures { self.new ≡ spot self.old.opened (drop 1 self.old.rest) }
+        ensures { self.new ≡ input self.old.opened (drop 1 self.old.rest) }
     {
         self.rest = &self.rest[1..];
         see(&mut self.seen, self.bytes, self.rest);

@@ -14,7 +14,7 @@ use Rattle.inform_moves.specs.Heights.{calls_open}
 use Rattle.inform_moves.specs.Laws.{IsSettled, MovesMean, MovesFall, MovesNeed, OpensAtMost, MovesOpen}
 use Rattle.inform_entered.specs.Entered as e
 use Rattle.inform_entered.specs.Entered.{open_routines, still_open, newly_entered}
-use Rattle.inform_steps.specs.Standing.{Needs, Stands, CallIsDue}
+use Rattle.inform_steps.specs.Standing.{Needs, WaitsAt, CallIsDue}
 use Rattle.inform_steps.specs.Pieces.{standing, IsSpent, afresh, next_piece}
 use Rattle.inform_steps.specs.Laws.{RunsStand, PiecesJoin, StoppedStays, OnlyCallsEnter}
 use Rattle.inform_steps.proofs.Settling.{moves_settle}
@@ -231,7 +231,7 @@ module _ (means : MovesMean) (falls : MovesFall) (needs : MovesNeed) (opens : Mo
       (due_open at.top at.rest at.is) in
       none_more here later (omega (arith, few, now, same, before))
 
-  by : (e : Outcome) → here.0 ≡ e → Stands e here.1 → (CallIsDue (begun_of here.0) → ⊥)
+  by : (e : Outcome) → here.0 ≡ e → WaitsAt e here.1 → (CallIsDue (begun_of here.0) → ⊥)
       → newly_entered here later ≡ []
   by (Waits Spent fs) is at plain =
       goes_on (subst (λ fs. Needs fs AStep) (sym (ap begun_of is)) at.0) plain

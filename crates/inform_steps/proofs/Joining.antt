@@ -10,7 +10,7 @@ use Rattle.inform_moves.specs.Moves.{Move, Goes, Ticks, Reads, Draws, next}
 use Rattle.inform_moves.specs.Needs.{AStep, need_in}
 use Rattle.inform_moves.specs.Done.{effected, after_step, move_run}
 use Rattle.inform_moves.specs.Laws.{MovesMean, MovesNeed, RunsAdd}
-use Rattle.inform_steps.specs.Standing.{Needs, Stands}
+use Rattle.inform_steps.specs.Standing.{Needs, WaitsAt}
 use Rattle.inform_steps.specs.Pieces.{after_past, run_after, standing, next_piece, Joins}
 use Rattle.inform_steps.specs.Laws.{PastCountsForNothing, RunsStand, PiecesJoin, SpentGoesOn, StoppedStays}
 use Rattle.inform_steps.proofs.ByMoves.{effected-steps}
@@ -64,7 +64,7 @@ module _ (p : Program) (k : ℕ) where
       })
 
   -- a piece of a run and the next one are the whole, whatever the first came to
-  joined : MovesMean → StopStays → PastCountsForNothing → (e : Outcome) (c : Config) → Stands e c
+  joined : MovesMean → StopStays → PastCountsForNothing → (e : Outcome) (c : Config) → WaitsAt e c
       → Joins (e, c) (next_piece p (e, c) k) (going_on p k [] [] (e, c))
   joined means stops aside (Value a) c at = over stops f.Quits (Value a) c refl refl
   joined means stops aside (Truth b) c at = over stops f.Quits (Truth b) c refl refl
@@ -94,7 +94,7 @@ module _ (p : Program) (k : ℕ) where
       ∙ splits p frames k [] [] (record c { steps = n })
 
   -- one that stopped for anything but steps leaves them over
-  stays : MovesMean → (e : Outcome) (c : Config) → Stands e c → (stop_of e ≡ Lacking Spent → ⊥)
+  stays : MovesMean → (e : Outcome) (c : Config) → WaitsAt e c → (stop_of e ≡ Lacking Spent → ⊥)
       → going_on p k [] [] (e, c) ≡ (e, record c { steps = c.steps + k })
   stays means (Value a) c at other = ap (λ c. (Value a, c)) (more-nil k c)
   stays means (Truth b) c at other = ap (λ c. (Truth b, c)) (more-nil k c)
@@ -133,7 +133,7 @@ module _ (p : Program) (k : ℕ) where
       (needs p (room_in CALL_LIMIT n.rest) c.world n.top f.Normal ∙ n.is) some))
 
   -- a run that lacks steps has none left, and takes one of those that the next piece is given
-  taken : MovesMean → MovesNeed → RunsAdd → (e : Outcome) (c : Config) → Stands e c
+  taken : MovesMean → MovesNeed → RunsAdd → (e : Outcome) (c : Config) → WaitsAt e c
       → stop_of e ≡ Lacking Spent
       → (c.steps ≡ 0) × ((next_piece p (e, c) (k + 1)).1.steps ≤ k)
   taken means needs adds (Value a) c at is = absurd (cc)

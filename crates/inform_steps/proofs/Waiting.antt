@@ -9,7 +9,7 @@ use Rattle.inform_moves.specs.Moves.{Move, Goes, Ticks, Reads, Draws, next}
 use Rattle.inform_moves.specs.Needs.{AStep, ALine, ADraw, need, need_in}
 use Rattle.inform_moves.specs.Done.{after_step, after_line, after_draw, move_run}
 use Rattle.inform_moves.specs.Laws.{IsSettled, MovesFall, MovesMean, MovesNeed}
-use Rattle.inform_steps.specs.Standing.{StandsBefore, Stands}
+use Rattle.inform_steps.specs.Standing.{StandsBefore, WaitsAt}
 use Rattle.inform_steps.specs.Laws.{RunsStand, LacksMore, WaitsStay}
 use Rattle.inform_steps.proofs.ByMoves.{Of, After, by_moves}
 
@@ -31,13 +31,13 @@ step-due Main e is = absurd (cc)
 step-due (Over halt) e is = absurd (cc)
 
 abbrev RunStands : Outcome × Config → Type 0
-RunStands r = Stands r.0 r.1
+RunStands r = WaitsAt r.0 r.1
 
 module _ (p : Program) where
   abbrev Standing : Of
   Standing frames e c = RunStands (resume_at p CALL_LIMIT frames e c)
 
-  settled-stands : (e : Outcome) (c : Config) → IsSettled e → Stands e c
+  settled-stands : (e : Outcome) (c : Config) → IsSettled e → WaitsAt e c
   settled-stands (Value a) c h = tt
   settled-stands (Truth b) c h = tt
   settled-stands Normal c h = tt

@@ -8,7 +8,7 @@ use Rattle.inform_meaning.specs.Frames.{Frame, Lack, NeedsLine, NeedsDraw, Waits
 use Rattle.inform_meaning.specs.Runs.{resume, begun_of, main_begun}
 use Rattle.inform_meaning.specs.Programs.{no_notes, program_in, routine_named, body_of, opening}
 use Rattle.inform_meaning.specs.Laws.{with_more}
-use Rattle.inform_steps.specs.Standing.{Stands, CallIsDue}
+use Rattle.inform_steps.specs.Standing.{WaitsAt, CallIsDue}
 use Rattle.inform_entered.specs.Entered.{newly_entered, entered}
 use Rattle.inform_steps.specs.Pieces.{after_past, run_after, standing, IsSpent, afresh, next_piece, Joins, entered_in}
 
@@ -20,7 +20,7 @@ PastCountsForNothing = (p : Program) (frames : List Frame) (past : List Step) (c
 -- A run that waits needs next what it lacks, and none is left of that.
 abbrev pub RunsStand : Type 0
 RunsStand = (p : Program) (frames : List Frame) (c : Config)
-    → Stands (resume p frames c).0 (resume p frames c).1
+    → WaitsAt (resume p frames c).0 (resume p frames c).1
 
 -- it lacks a line or a draw
 abbrev pub LacksMore : Lack → Type 0

@@ -17,9 +17,9 @@ StandsBefore NeedsLine frames c = (name : List ℕ) × Needs frames (ALine name)
 StandsBefore NeedsDraw frames c = (n : ℤ) × Needs frames (ADraw n) × (c.draws ≡ [])
 StandsBefore Spent frames c = Needs frames AStep × (c.steps ≡ 0)
 
-abbrev pub Stands : Outcome → Config → Type 0
-Stands (Waits lack frames) c = StandsBefore lack frames c
-Stands e c = ⊤
+abbrev pub WaitsAt : Outcome → Config → Type 0
+WaitsAt (Waits lack frames) c = StandsBefore lack frames c
+WaitsAt e c = ⊤
 
 -- the next move of these frames is a call
 abbrev pub CallIsDue : List Frame → Type 0

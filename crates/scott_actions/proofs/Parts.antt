@@ -10,7 +10,7 @@ use Rattle.scott_types.specs.declared.states.State.{State}
 use Rattle.scott_types.specs.Style.{Game}
 use Rattle.scott_types.specs.Opcode.{opcode_of}
 use Rattle.adv_io.specs.Steps.{Traced, after, traced}
-use Rattle.scott_rules.specs.Outcomes.{Outcome, goes_on, and_then, then_if_on}
+use Rattle.scott_rules.specs.Progress.{Progress, goes_on, and_then, then_if_on}
 use Rattle.scott_rules.specs.Opcodes.{op, takes, run_opcodes}
 
 -- without an opcode nothing is done
@@ -29,15 +29,15 @@ run_opcodes-first game noun (number ∷ others) params s h =
     ap (λ ns. and_then (op game noun (opcode_of number) params s) (run_opcodes game noun (map opcode_of ns) (drop (takes game.db s (opcode_of number)) params))) (sym all)
 
 -- after a part that doesn't end the game comes the next one
-pub and_then-on : (t : Traced ℕ Outcome) (next : State → Traced ℕ Outcome) → t.value.over ≡ None → and_then t next ≡ after t.events (next t.value.state)
+pub and_then-on : (t : Traced ℕ Progress) (next : State → Traced ℕ Progress) → t.value.over ≡ None → and_then t next ≡ after t.events (next t.value.state)
 and_then-on t next on = ap (λ over. then_if_on over t next) on
 
 -- a part that ends the game is the whole
-pub and_then-over : (t : Traced ℕ Outcome) (next : State → Traced ℕ Outcome) {ending : ℕ} → t.value.over ≡ Some ending → and_then t next ≡ t
+pub and_then-over : (t : Traced ℕ Progress) (next : State → Traced ℕ Progress) {ending : ℕ} → t.value.over ≡ Some ending → and_then t next ≡ t
 and_then-over t next ended = ap (λ over. then_if_on over t next) ended
 
 -- a part that failed, whatever was to come after it
-pub part_stop : {T U D E : Type 0} {old new : ConsoleView} {d : D} (e : E) (over : Option ℕ) (t : Traced ℕ Outcome) (next : State → Traced ℕ Outcome)
+pub part_stop : {T U D E : Type 0} {old new : ConsoleView} {d : D} (e : E) (over : Option ℕ) (t : Traced ℕ Progress) (next : State → Traced ℕ Progress)
     → Speaks {T = T} old new (Err d) (says t.events)
     → Speaks {T = U} old new (Err e) (says (then_if_on over t next).events)
 part_stop e None t next stop =
@@ -52,7 +52,7 @@ part_stop e (Some ending) t next stop = record {
 }
 
 -- a part that was said, and the next one after it
-pub part_then : {S T D E : Type 0} {old mid new : ConsoleView} {x : S} {r : Result T E} (t : Traced ℕ Outcome) (next : State → Traced ℕ Outcome) → t.value.over ≡ None
+pub part_then : {S T D E : Type 0} {old mid new : ConsoleView} {x : S} {r : Result T E} (t : Traced ℕ Progress) (next : State → Traced ℕ Progress) → t.value.over ≡ None
     → Speaks {E = D} old mid (Ok x) (says t.events)
     → Speaks mid new r (says (next t.value.state).events)
     → Speaks old new r (says (and_then t next).events)

@@ -1,7 +1,7 @@
 -- A file read on by its header and its lists, where bytes come in pieces.
 use Rattle.std.proofs.Common.{◌≡◌, ℕ, ◌+◌, ◌-◌, ◌≤◌, ◌<◌, List, [], ◌∷◌, length, Result, Ok, Err, refl, sym, ap, subst, ◌∙◌, arith}
 use Rattle.std.specs.Prelude.{IfOk, IfErr, OnOk}
-use Rattle.adv_text.specs.Reading.{Spot, spot, with_more}
+use Rattle.adv_text.specs.Reading.{Input, input, with_more}
 use Rattle.scott_types.specs.declared.parts.Action.{Action}
 use Rattle.scott_types.specs.declared.parts.Word.{Word}
 use Rattle.scott_types.specs.declared.parts.Room.{Room}
@@ -36,7 +36,7 @@ on_ok_with B (Err e) a b = tt
 
 pub due_first : {X Y : Type 0} (what : Due) (p : Plan X) (f : X → Plan Y) → IsDue what p → IsDue what (p >>= f)
 due_first {X = X} what p f due at =
-    run-then f p (spot at []) ∙ ap (λ (r : Result (X × Spot) Fault). and_then r (λ x after. run (f x) after)) (due at)
+    run-then f p (input at []) ∙ ap (λ (r : Result (X × Input) Fault). and_then r (λ x after. run (f x) after)) (due at)
 
 -- ---- lists that are read whole
 
@@ -176,7 +176,7 @@ body_new h =
     (list_new action (h.sizes.actions + 1)) (λ a. same_words h a)
 
 body_due : (what : Due) → ((k : ℕ) → IsDue what (action k)) → (h : Head) → IsDue what (body_of h)
-body_due what due h at = body_new h (spot at []) ∙ list_due action (h.sizes.actions + 1) (new_words h) [] (omega arith) what (due 0) at
+body_due what due h at = body_new h (input at []) ∙ list_due action (h.sizes.actions + 1) (new_words h) [] (omega arith) what (due 0) at
 
 -- ---- the header
 
@@ -199,12 +199,12 @@ from_numbers counts numbers = closing >>= from_closing counts numbers
 abbrev from_sizes : Sizes → Plan Head
 from_sizes counts = play_numbers counts.rooms >>= from_numbers counts
 
-pub sizes_stop : (s : Spot) (fault : FormatFault) → Stands fault (run sizes s) → Stands fault (run head s)
+pub sizes_stop : (s : Input) (fault : FormatFault) → Stands fault (run sizes s) → Stands fault (run head s)
 unfolding head
 sizes_stop s fault h = Stands-then from_sizes sizes s fault h
 
-module _ (s mid : Spot) (counts : Sizes) where
-  pub head_read : (last after : Spot) (numbers : PlayNumbers) (end : Closing) → run sizes s ≡ Ok (counts, mid) → run (play_numbers counts.rooms) mid ≡ Ok (numbers, last)
+module _ (s mid : Input) (counts : Sizes) where
+  pub head_read : (last after : Input) (numbers : PlayNumbers) (end : Closing) → run sizes s ≡ Ok (counts, mid) → run (play_numbers counts.rooms) mid ≡ Ok (numbers, last)
       → run closing last ≡ Ok (end, after) → run head s ≡ Ok (made counts numbers end, after)
   unfolding head
   head_read last after numbers end e f g =
@@ -215,7 +215,7 @@ module _ (s mid : Spot) (counts : Sizes) where
   unfolding head
   numbers_stop fault e h = Stands-after from_sizes sizes s mid counts fault e (Stands-then (from_numbers counts) (play_numbers counts.rooms) mid fault h)
 
-  pub closing_stop : (last : Spot) (numbers : PlayNumbers) (fault : FormatFault) → run sizes s ≡ Ok (counts, mid) → run (play_numbers counts.rooms) mid ≡ Ok (numbers, last)
+  pub closing_stop : (last : Input) (numbers : PlayNumbers) (fault : FormatFault) → run sizes s ≡ Ok (counts, mid) → run (play_numbers counts.rooms) mid ≡ Ok (numbers, last)
       → Stands fault (run closing last) → Stands fault (run head s)
   unfolding head
   closing_stop last numbers fault e f h =
@@ -231,7 +231,7 @@ file_head =
     ∙ (λ i. sizes >>= λ counts. play_numbers counts.rooms >>= λ numbers. assoc closing (λ end. done (made counts numbers end)) body_of i)
 
 -- the header is read, and no entry yet
-pub head_moves : (then : Due) (h : Head) (b : Body) (s after : Spot) → Takes head then s (Ok h) after → IsNew h b → Moves file s (body_from b) after
+pub head_moves : (then : Due) (h : Head) (b : Body) (s after : Input) → Takes head then s (Ok h) after → IsNew h b → Moves file s (body_from b) after
 head_moves then h b s after taken new = record {
   ends = taken.0;
   reads = λ more.
@@ -241,23 +241,23 @@ head_moves then h b s after taken new = record {
       ∙ ap (λ (p : Plan Database). run p (with_more after more)) (is_new h b new);
 }
 
-pub heads_move : (then : Due) (h : Head) (s after : Spot) (r : Result Body Stop) → Takes head then s (Ok h) after → IfOk r (λ b. IsNew h b)
+pub heads_move : (then : Due) (h : Head) (s after : Input) (r : Result Body Stop) → Takes head then s (Ok h) after → IfOk r (λ b. IsNew h b)
     → IfOk r (λ b. Moves file s (body_from b) after)
 heads_move then h s after (Ok b) taken new = head_moves then h b s after taken new
 heads_move then h s after (Err why) taken new = tt
 
 -- the header isn't read
-pub head_stops : (then : Due) (s after : Spot) (why : Stop) → ((k : ℕ) → IsDue then (action k)) → Takes head then s (Err why) after → StopsAt file s why after
+pub head_stops : (then : Due) (s after : Input) (why : Stop) → ((k : ℕ) → IsDue then (action k)) → Takes head then s (Err why) after → StopsAt file s why after
 head_stops then s after (stop.Cut fault) due h =
     (h.0, subst (λ (p : Plan Database). IsFaultOf fault (run p s)) file_head (h.1 body_of (λ x. body_due then due x)))
 head_stops then s after (stop.Fault fault) due h =
     λ more. subst (λ (p : Plan Database). Stands fault (run p (with_more s more))) file_head (Stands-then body_of head (with_more s more) fault (h more))
 
 -- a stop at the header is one of the file
-pub stops_file : (T : Type 0) (s after : Spot) (why : Stop) → StopsAt file s why after → Advances {T = T} file s (Err why) file after
+pub stops_file : (T : Type 0) (s after : Input) (why : Stop) → StopsAt file s why after → Advances {T = T} file s (Err why) file after
 stops_file T s after (stop.Cut fault) h = (
-  record { ends = ap (λ (t : Spot). t.at + length t.rest) h.0; reads = λ more. ap (λ (t : Spot). run file (with_more t more)) (sym h.0) },
-  subst (λ (t : Spot). IsFaultOf fault (run file t)) (sym h.0) h.1,
+  record { ends = ap (λ (t : Input). t.at + length t.rest) h.0; reads = λ more. ap (λ (t : Input). run file (with_more t more)) (sym h.0) },
+  subst (λ (t : Input). IsFaultOf fault (run file t)) (sym h.0) h.1,
 )
 stops_file T s after (stop.Fault fault) h = h
 
@@ -275,7 +275,7 @@ pub news_order : (h : Head) (r : Result Body Stop) → IfOk r (λ b. IsNew h b) 
 news_order h (Ok b) new = new_order h b new
 news_order h (Err why) new = tt
 
-pub memory_stops : (s after : Spot) (r : Result Body Stop) → IfErr r (λ why. why ≡ stop.Fault Memory) → IfErr r (λ why. StopsAt file s why after)
+pub memory_stops : (s after : Input) (r : Result Body Stop) → IfErr r (λ why. why ≡ stop.Fault Memory) → IfErr r (λ why. StopsAt file s why after)
 memory_stops s after (Ok b) h = tt
 memory_stops s after (Err why) h = subst (λ (w : Stop). StopsAt file s w after) (sym h) (λ more. tt)
 
@@ -294,9 +294,9 @@ closed b last = record {
   trailer = last;
 }
 
-pub trailer_read : (b : Body) (s after : Spot) (last : Trailer) → AreRead b → run trailer s ≡ Ok (last, after) → run (body_from b) s ≡ Ok (closed b last, after)
+pub trailer_read : (b : Body) (s after : Input) (last : Trailer) → AreRead b → run trailer s ≡ Ok (last, after) → run (body_from b) s ≡ Ok (closed b last, after)
 trailer_read b s after last h e = to_trailer b h s ∙ run-ok (λ t. done (closed b t)) trailer s after last e
 
-pub trailer_stops : (b : Body) (s : Spot) (fault : FormatFault) → AreRead b → Stands fault (run trailer s) → Stands fault (run (body_from b) s)
+pub trailer_stops : (b : Body) (s : Input) (fault : FormatFault) → AreRead b → Stands fault (run trailer s) → Stands fault (run (body_from b) s)
 trailer_stops b s fault h e =
-    subst (λ (r : Result (Database × Spot) Fault). Stands fault r) (sym (to_trailer b h s)) (Stands-then (λ t. done (closed b t)) trailer s fault e)
+    subst (λ (r : Result (Database × Input) Fault). Stands fault r) (sym (to_trailer b h s)) (Stands-then (λ t. done (closed b t)) trailer s fault e)

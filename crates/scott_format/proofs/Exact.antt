@@ -1,6 +1,6 @@
 -- A plan reads exactly what it spells.
 use Rattle.std.proofs.Common.{◌≡◌, ℕ, ◌+◌, Bool, true, false, cond, ◌⊎◌, inl, inr, List, Option, Some, None, ℤ, Result, Ok, Err, refl, sym, ap, subst, ◌∙◌}
-use Rattle.adv_text.specs.Reading.{Spot, number_at, quoted_at, no_number, big_number, no_quote, open_string, long_string}
+use Rattle.adv_text.specs.Reading.{Input, number_at, quoted_at, no_number, big_number, no_quote, open_string, long_string}
 use Rattle.adv_text.specs.Reading.{Fault as TextFault}
 use Rattle.scott_format.specs.Faults.{Fault}
 use Rattle.scott_format.specs.Plan.{Plan, done, check, number, quoted, perhaps, Spelled, onward, onward_perhaps, run}
@@ -18,17 +18,17 @@ value_is x y e = cc
 pub one_fault : {A : Type 0} {r : Result A Fault} (f g : Fault) → r ≡ Err f → r ≡ Err g → f ≡ g
 one_fault f g e h = cc
 
-pub check-ok : {X : Type 0} (test : Bool) (fault : Fault) (r : Result (X × Spot) Fault) (x : X × Spot) → cond test r (Err fault) ≡ Ok x → (test ≡ true) × (r ≡ Ok x)
+pub check-ok : {X : Type 0} (test : Bool) (fault : Fault) (r : Result (X × Input) Fault) (x : X × Input) → cond test r (Err fault) ≡ Ok x → (test ≡ true) × (r ≡ Ok x)
 check-ok true fault r x e = (refl, e)
 check-ok false fault r x e = absurd (cc)
 
-pub onward-ok : {A X : Type 0} (r : Result (A × Spot) TextFault) (go_on : A → Spot → Result (X × Spot) Fault) (x : X × Spot) → onward r go_on ≡ Ok x
-    → (a : A) × (s : Spot) × (r ≡ Ok (a, s)) × (go_on a s ≡ Ok x)
+pub onward-ok : {A X : Type 0} (r : Result (A × Input) TextFault) (go_on : A → Input → Result (X × Input) Fault) (x : X × Input) → onward r go_on ≡ Ok x
+    → (a : A) × (s : Input) × (r ≡ Ok (a, s)) × (go_on a s ≡ Ok x)
 onward-ok (Ok y) go_on x e = (y.0, y.1, refl, e)
 onward-ok (Err fault) go_on x e = absurd (cc)
 
-perhaps-ok : {X : Type 0} (r : Result (ℤ × Spot) TextFault) (s : Spot) (go_on : Option ℤ → Spot → Result (X × Spot) Fault) (x : X × Spot) → onward_perhaps r s go_on ≡ Ok x
-    → ((z : ℤ) × (after : Spot) × (r ≡ Ok (z, after)) × (go_on (Some z) after ≡ Ok x)) ⊎ ((at : ℕ) × (r ≡ Err (no_number at)) × (go_on None s ≡ Ok x))
+perhaps-ok : {X : Type 0} (r : Result (ℤ × Input) TextFault) (s : Input) (go_on : Option ℤ → Input → Result (X × Input) Fault) (x : X × Input) → onward_perhaps r s go_on ≡ Ok x
+    → ((z : ℤ) × (after : Input) × (r ≡ Ok (z, after)) × (go_on (Some z) after ≡ Ok x)) ⊎ ((at : ℕ) × (r ≡ Err (no_number at)) × (go_on None s ≡ Ok x))
 perhaps-ok (Ok y) s go_on x e = inl (y.0, y.1, refl, e)
 perhaps-ok (Err (no_number at)) s go_on x e = inr (at, refl, e)
 perhaps-ok (Err (big_number at)) s go_on x e = absurd (cc)
@@ -38,9 +38,9 @@ perhaps-ok (Err (long_string at)) s go_on x e = absurd (cc)
 
 module _ (laws : TextLaws) where
   -- what is read is so spelled
-  pub run-spelled : {X : Type 0} (p : Plan X) (s after : Spot) (x : X) → run p s ≡ Ok (x, after) → Spelled p x s.rest after.rest
+  pub run-spelled : {X : Type 0} (p : Plan X) (s after : Input) (x : X) → run p s ≡ Ok (x, after) → Spelled p x s.rest after.rest
   run-spelled {X = X} (done y) s after x e =
-      let same = value_is (y, s) (x, after) e in (ap (λ (p : X × Spot). p.0) same, ap (λ (p : X × Spot). p.1.rest) same)
+      let same = value_is (y, s) (x, after) e in (ap (λ (p : X × Input). p.0) same, ap (λ (p : X × Input). p.1.rest) same)
   run-spelled (check test fault p) s after x e =
       let h = check-ok test fault (run p s) (x, after) e in (h.0, run-spelled p s after x h.1)
   run-spelled (number next) s after x e =
@@ -55,12 +55,12 @@ module _ (laws : TextLaws) where
         | inr h ↦ let missing = (laws.number_fault_is_exact s (no_number h.0)).0 h.1 in inr ((missing.0, missing.1), run-spelled (next None) s after x h.2)
       ]
 
-  -- a plan reads this value at a spot, and leaves this rest
-  abbrev pub ReadsTo : {X : Type 0} → Plan X → Spot → X → List ℕ → Type 0
-  ReadsTo p s x rest = (after : Spot) × (after.rest ≡ rest) × (run p s ≡ Ok (x, after))
+  -- a plan reads this value at an input, and leaves this rest
+  abbrev pub ReadsTo : {X : Type 0} → Plan X → Input → X → List ℕ → Type 0
+  ReadsTo p s x rest = (after : Input) × (after.rest ≡ rest) × (run p s ≡ Ok (x, after))
 
   -- what is so spelled is read
-  pub spelled-run : {X : Type 0} (p : Plan X) (s : Spot) (x : X) (rest : List ℕ) → Spelled p x s.rest rest → ReadsTo p s x rest
+  pub spelled-run : {X : Type 0} (p : Plan X) (s : Input) (x : X) (rest : List ℕ) → Spelled p x s.rest rest → ReadsTo p s x rest
   spelled-run (done y) s x rest h = (s, h.1, ap (λ v. Ok (v, s)) h.0)
   spelled-run (check test fault p) s x rest h =
       let more = spelled-run p s x rest h.1 in (more.0, more.1, rw h.0 more.2)

@@ -1,7 +1,7 @@
 -- Plans one after the other: what they give, and their faults. Each is about eight of them. Fewer
 -- are eight too, of which the last ones read nothing (`nothing`).
 use Rattle.std.proofs.Common.{◌≡◌, ◌∙◌, Unit, tt, Ok}
-use Rattle.adv_text.specs.Reading.{Spot}
+use Rattle.adv_text.specs.Reading.{Input}
 use Rattle.scott_format.specs.Plan.{Plan, done, ◌>>=◌, run}
 use Rattle.scott_format.specs.Reading.{Stands}
 use Rattle.scott_format.specs.declared.faults.FormatFault.{FormatFault}
@@ -38,7 +38,7 @@ three p q r made = record {
   made = λ a b c _ _ _ _ _. made a b c;
 }
 
-module _ {A B C D E F G H X : Type 0} (p : Eight A B C D E F G H X) (s : Spot) where
+module _ {A B C D E F G H X : Type 0} (p : Eight A B C D E F G H X) (s : Input) where
   -- what is left to do after the first ones
   abbrev from_eighth : A → B → C → D → E → F → G → Plan X
   from_eighth a b c d e f g = p.eighth >>= λ h. done (p.made a b c d e f g h)
@@ -66,8 +66,8 @@ module _ {A B C D E F G H X : Type 0} (p : Eight A B C D E F G H X) (s : Spot) w
   whole = p.first >>= λ a. from_second a
 
   -- where each gave a value, they give what is made of the eight values
-  pub eight_read : {a : A} {s₁ : Spot} {b : B} {s₂ : Spot} {c : C} {s₃ : Spot} {d : D} {s₄ : Spot}
-      {e : E} {s₅ : Spot} {f : F} {s₆ : Spot} {g : G} {s₇ : Spot} {h : H} {s₈ : Spot}
+  pub eight_read : {a : A} {s₁ : Input} {b : B} {s₂ : Input} {c : C} {s₃ : Input} {d : D} {s₄ : Input}
+      {e : E} {s₅ : Input} {f : F} {s₆ : Input} {g : G} {s₇ : Input} {h : H} {s₈ : Input}
       → run p.first s ≡ Ok (a, s₁) → run p.second s₁ ≡ Ok (b, s₂) → run p.third s₂ ≡ Ok (c, s₃)
       → run p.fourth s₃ ≡ Ok (d, s₄) → run p.fifth s₄ ≡ Ok (e, s₅) → run p.sixth s₅ ≡ Ok (f, s₆)
       → run p.seventh s₆ ≡ Ok (g, s₇) → run p.eighth s₇ ≡ Ok (h, s₈)
@@ -89,13 +89,13 @@ module _ {A B C D E F G H X : Type 0} (p : Eight A B C D E F G H X) (s : Spot) w
     stops_first h₁ =
         Stands-then from_second p.first s fault h₁
 
-    pub stops_second : {a : A} {s₁ : Spot}
+    pub stops_second : {a : A} {s₁ : Input}
         → run p.first s ≡ Ok (a, s₁) → Stands fault (run p.second s₁) → Stands fault (run whole s)
     stops_second {a = a} {s₁ = s₁} h₁ h₂ =
         Stands-after from_second p.first s s₁ a fault h₁
         (Stands-then (from_third a) p.second s₁ fault h₂)
 
-    pub stops_third : {a : A} {s₁ : Spot} {b : B} {s₂ : Spot}
+    pub stops_third : {a : A} {s₁ : Input} {b : B} {s₂ : Input}
         → run p.first s ≡ Ok (a, s₁) → run p.second s₁ ≡ Ok (b, s₂) → Stands fault (run p.third s₂)
         → Stands fault (run whole s)
     stops_third {a = a} {s₁ = s₁} {b = b} {s₂ = s₂} h₁ h₂ h₃ =
@@ -103,7 +103,7 @@ module _ {A B C D E F G H X : Type 0} (p : Eight A B C D E F G H X) (s : Spot) w
         (Stands-after (from_third a) p.second s₁ s₂ b fault h₂
         (Stands-then (from_fourth a b) p.third s₂ fault h₃))
 
-    pub stops_fourth : {a : A} {s₁ : Spot} {b : B} {s₂ : Spot} {c : C} {s₃ : Spot}
+    pub stops_fourth : {a : A} {s₁ : Input} {b : B} {s₂ : Input} {c : C} {s₃ : Input}
         → run p.first s ≡ Ok (a, s₁) → run p.second s₁ ≡ Ok (b, s₂) → run p.third s₂ ≡ Ok (c, s₃)
         → Stands fault (run p.fourth s₃) → Stands fault (run whole s)
     stops_fourth {a = a} {s₁ = s₁} {b = b} {s₂ = s₂} {c = c} {s₃ = s₃} h₁ h₂ h₃ h₄ =
@@ -112,8 +112,8 @@ module _ {A B C D E F G H X : Type 0} (p : Eight A B C D E F G H X) (s : Spot) w
         (Stands-after (from_fourth a b) p.third s₂ s₃ c fault h₃
         (Stands-then (from_fifth a b c) p.fourth s₃ fault h₄)))
 
-    pub stops_fifth : {a : A} {s₁ : Spot} {b : B} {s₂ : Spot} {c : C} {s₃ : Spot}
-        {d : D} {s₄ : Spot}
+    pub stops_fifth : {a : A} {s₁ : Input} {b : B} {s₂ : Input} {c : C} {s₃ : Input}
+        {d : D} {s₄ : Input}
         → run p.first s ≡ Ok (a, s₁) → run p.second s₁ ≡ Ok (b, s₂) → run p.third s₂ ≡ Ok (c, s₃)
         → run p.fourth s₃ ≡ Ok (d, s₄) → Stands fault (run p.fifth s₄) → Stands fault (run whole s)
     stops_fifth {a = a} {s₁ = s₁} {b = b} {s₂ = s₂} {c = c} {s₃ = s₃} {d = d} {s₄ = s₄} h₁ h₂ h₃
@@ -124,8 +124,8 @@ module _ {A B C D E F G H X : Type 0} (p : Eight A B C D E F G H X) (s : Spot) w
         (Stands-after (from_fifth a b c) p.fourth s₃ s₄ d fault h₄
         (Stands-then (from_sixth a b c d) p.fifth s₄ fault h₅))))
 
-    pub stops_sixth : {a : A} {s₁ : Spot} {b : B} {s₂ : Spot} {c : C} {s₃ : Spot}
-        {d : D} {s₄ : Spot} {e : E} {s₅ : Spot}
+    pub stops_sixth : {a : A} {s₁ : Input} {b : B} {s₂ : Input} {c : C} {s₃ : Input}
+        {d : D} {s₄ : Input} {e : E} {s₅ : Input}
         → run p.first s ≡ Ok (a, s₁) → run p.second s₁ ≡ Ok (b, s₂) → run p.third s₂ ≡ Ok (c, s₃)
         → run p.fourth s₃ ≡ Ok (d, s₄) → run p.fifth s₄ ≡ Ok (e, s₅) → Stands fault (run p.sixth s₅)
         → Stands fault (run whole s)
@@ -138,8 +138,8 @@ module _ {A B C D E F G H X : Type 0} (p : Eight A B C D E F G H X) (s : Spot) w
         (Stands-after (from_sixth a b c d) p.fifth s₄ s₅ e fault h₅
         (Stands-then (from_seventh a b c d e) p.sixth s₅ fault h₆)))))
 
-    pub stops_seventh : {a : A} {s₁ : Spot} {b : B} {s₂ : Spot} {c : C} {s₃ : Spot}
-        {d : D} {s₄ : Spot} {e : E} {s₅ : Spot} {f : F} {s₆ : Spot}
+    pub stops_seventh : {a : A} {s₁ : Input} {b : B} {s₂ : Input} {c : C} {s₃ : Input}
+        {d : D} {s₄ : Input} {e : E} {s₅ : Input} {f : F} {s₆ : Input}
         → run p.first s ≡ Ok (a, s₁) → run p.second s₁ ≡ Ok (b, s₂) → run p.third s₂ ≡ Ok (c, s₃)
         → run p.fourth s₃ ≡ Ok (d, s₄) → run p.fifth s₄ ≡ Ok (e, s₅) → run p.sixth s₅ ≡ Ok (f, s₆)
         → Stands fault (run p.seventh s₆) → Stands fault (run whole s)
@@ -153,8 +153,8 @@ module _ {A B C D E F G H X : Type 0} (p : Eight A B C D E F G H X) (s : Spot) w
         (Stands-after (from_seventh a b c d e) p.sixth s₅ s₆ f fault h₆
         (Stands-then (from_eighth a b c d e f) p.seventh s₆ fault h₇))))))
 
-    pub stops_eighth : {a : A} {s₁ : Spot} {b : B} {s₂ : Spot} {c : C} {s₃ : Spot}
-        {d : D} {s₄ : Spot} {e : E} {s₅ : Spot} {f : F} {s₆ : Spot} {g : G} {s₇ : Spot}
+    pub stops_eighth : {a : A} {s₁ : Input} {b : B} {s₂ : Input} {c : C} {s₃ : Input}
+        {d : D} {s₄ : Input} {e : E} {s₅ : Input} {f : F} {s₆ : Input} {g : G} {s₇ : Input}
         → run p.first s ≡ Ok (a, s₁) → run p.second s₁ ≡ Ok (b, s₂) → run p.third s₂ ≡ Ok (c, s₃)
         → run p.fourth s₃ ≡ Ok (d, s₄) → run p.fifth s₄ ≡ Ok (e, s₅) → run p.sixth s₅ ≡ Ok (f, s₆)
         → run p.seventh s₆ ≡ Ok (g, s₇) → Stands fault (run p.eighth s₇)

@@ -2,7 +2,7 @@
 use Rattle.std.proofs.Common.{◌≡◌, ℕ, ◌+◌, ◌≤◌, ◌<◌, Bool, true, false, ltb, ◌⊎◌, inl, inr, List, length, ℤ, Result, Ok, Err, refl, sym, ap, subst, ◌∙◌, arith}
 use Rattle.std.specs.Prelude.{not}
 use borrow.Author.Tests.{ltb-true}
-use Rattle.adv_text.specs.Reading.{Spot, SameEnd, with_more, number_at, quoted_at, no_number, big_number, no_quote, open_string, long_string}
+use Rattle.adv_text.specs.Reading.{Input, SameEnd, with_more, number_at, quoted_at, no_number, big_number, no_quote, open_string, long_string}
 use Rattle.adv_text.specs.Reading.{Fault as TextFault}
 use Rattle.adv_text.specs.Laws.{NumberFault, StringFault, IsSettled, Stays}
 use Rattle.scott_format.specs.Faults.{Fault, text, limit, no_start, negative_action, fault_answer}
@@ -17,13 +17,13 @@ is_false : (b : Bool) → not b ≡ true → b ≡ false
 is_false true e = absurd cc
 is_false false e = refl
 
-abbrev Settles : Fault → Spot → Type 0
+abbrev Settles : Fault → Input → Type 0
 Settles fault s = settles (fault_answer fault) s ≡ true
 
--- ---- faults at a later spot
+-- ---- faults at a later input
 
--- a settled fault is settled at a later spot
-settled_on : (fault : Fault) (s after : Spot) → SameEnd s after → Leaves 34 s.rest after.rest → Settles fault s → Settles fault after
+-- a settled fault is settled at a later input
+settled_on : (fault : Fault) (s after : Input) → SameEnd s after → Leaves 34 s.rest after.rest → Settles fault s → Settles fault after
 settled_on (text (no_number at)) s after same left h = ap (λ e. ltb (at + 1) e) same ∙ h
 settled_on (text (big_number at)) s after same left h = refl
 settled_on (text (no_quote at)) s after same left h = ap (λ e. ltb at e) same ∙ h
@@ -34,7 +34,7 @@ settled_on (no_start value) s after same left h = ap (λ b. not (may_end b)) (le
 settled_on (negative_action k) s after same left h = ap (λ b. not (may_end b)) (left.1 (is_false _ h)).1 ∙ h
 
 -- a fault of the text is settled as the laws of the text have it
-settled_text : (own : TextFault) (s : Spot) → Settles (text own) s → IsSettled (s.at + length s.rest) own
+settled_text : (own : TextFault) (s : Input) → Settles (text own) s → IsSettled (s.at + length s.rest) own
 settled_text (no_number at) s h = ltb-true _ _ h
 settled_text (big_number at) s h = tt
 settled_text (no_quote at) s h = ltb-true _ _ h
@@ -42,14 +42,14 @@ settled_text (open_string at) s h = absurd cc
 settled_text (long_string at) s h = tt
 
 -- a settled fault of a number or a string needs a byte
-some_number : (own : TextFault) (s : Spot) → NumberFault s own → Settles (text own) s → 0 < length s.rest
+some_number : (own : TextFault) (s : Input) → NumberFault s own → Settles (text own) s → 0 < length s.rest
 some_number (no_number at) s h settled = let less : at + 1 < s.at + length s.rest = ltb-true _ _ settled in omega (arith, h.2)
 some_number (big_number at) s h settled = some_big h.0 s.rest h.1
 some_number (no_quote at) s h settled = absurd h
 some_number (open_string at) s h settled = absurd h
 some_number (long_string at) s h settled = absurd h
 
-some_string : (own : TextFault) (s : Spot) → StringFault s own → Settles (text own) s → 0 < length s.rest
+some_string : (own : TextFault) (s : Input) → StringFault s own → Settles (text own) s → 0 < length s.rest
 some_string (no_number at) s h settled = absurd h
 some_string (big_number at) s h settled = absurd h
 some_string (no_quote at) s h settled = let less : at < s.at + length s.rest = ltb-true _ _ settled in omega (arith, h.2)
@@ -57,17 +57,17 @@ some_string (open_string at) s h settled = absurd cc
 some_string (long_string at) s h settled = some_long h.0 s.rest h.1
 
 module _ (laws : TextLaws) where
-  number_left : (s after : Spot) (z : ℤ) → number_at s ≡ Ok (z, after) → Leaves 34 s.rest after.rest
+  number_left : (s after : Input) (z : ℤ) → number_at s ≡ Ok (z, after) → Leaves 34 s.rest after.rest
   number_left s after z e = number_leaves z s.rest after.rest (laws.number_is_spelled s after z e)
 
-  string_left : (s after : Spot) (t : List ℕ) → quoted_at s ≡ Ok (t, after) → Leaves 34 s.rest after.rest
+  string_left : (s after : Input) (t : List ℕ) → quoted_at s ≡ Ok (t, after) → Leaves 34 s.rest after.rest
   string_left s after t e = string_leaves t s.rest after.rest (laws.string_is_spelled s after t e)
 
   -- ---- values
 
   -- no more is left than there was
-  left_by : {X : Type 0} (p : Plan X) (s after : Spot) (x : X) → IsSteady p → run p s ≡ Ok (x, after) → length after.rest ≤ length s.rest
-  left_by {X = X} (done y) s after x steady e = let same : s ≡ after = ap (λ (r : X × Spot). r.1) (value_is (y, s) (x, after) e) in omega (arith, ap (λ (t : Spot). length t.rest) same)
+  left_by : {X : Type 0} (p : Plan X) (s after : Input) (x : X) → IsSteady p → run p s ≡ Ok (x, after) → length after.rest ≤ length s.rest
+  left_by {X = X} (done y) s after x steady e = let same : s ≡ after = ap (λ (r : X × Input). r.1) (value_is (y, s) (x, after) e) in omega (arith, ap (λ (t : Input). length t.rest) same)
   left_by (check test fault p) s after x steady e = left_by p s after x steady.1 (check-ok test fault (run p s) (x, after) e).1
   left_by (number next) s after x steady e =
       let h = onward-ok (number_at s) (λ z mid. run (next z) mid) (x, after) e in
@@ -78,8 +78,8 @@ module _ (laws : TextLaws) where
   left_by (perhaps next) s after x steady e = absurd steady
 
   -- the end stays where it is
-  pub ends_by : {X : Type 0} (p : Plan X) (s after : Spot) (x : X) → IsSteady p → run p s ≡ Ok (x, after) → SameEnd s after
-  ends_by {X = X} (done y) s after x steady e = ap (λ (r : X × Spot). r.1.at + length r.1.rest) (sym (value_is (y, s) (x, after) e))
+  pub ends_by : {X : Type 0} (p : Plan X) (s after : Input) (x : X) → IsSteady p → run p s ≡ Ok (x, after) → SameEnd s after
+  ends_by {X = X} (done y) s after x steady e = ap (λ (r : X × Input). r.1.at + length r.1.rest) (sym (value_is (y, s) (x, after) e))
   ends_by (check test fault p) s after x steady e = ends_by p s after x steady.1 (check-ok test fault (run p s) (x, after) e).1
   ends_by (number next) s after x steady e =
       let h = onward-ok (number_at s) (λ z mid. run (next z) mid) (x, after) e in
@@ -90,26 +90,26 @@ module _ (laws : TextLaws) where
   ends_by (perhaps next) s after x steady e = absurd steady
 
   module _ (more : List ℕ) where
-    number_on : (s mid : Spot) (z : ℤ) → number_at s ≡ Ok (z, mid) → 0 < length mid.rest → number_at (with_more s more) ≡ Ok (z, with_more mid more)
+    number_on : (s mid : Input) (z : ℤ) → number_at s ≡ Ok (z, mid) → 0 < length mid.rest → number_at (with_more s more) ≡ Ok (z, with_more mid more)
     number_on s mid z e some =
-        subst (λ (r : Result (ℤ × Spot) TextFault). Stays more (s.at + length s.rest) r (number_at (with_more s more))) e (laws.number_stays s more) some
+        subst (λ (r : Result (ℤ × Input) TextFault). Stays more (s.at + length s.rest) r (number_at (with_more s more))) e (laws.number_stays s more) some
 
-    string_on : (s mid : Spot) (t : List ℕ) → quoted_at s ≡ Ok (t, mid) → 0 < length mid.rest → quoted_at (with_more s more) ≡ Ok (t, with_more mid more)
+    string_on : (s mid : Input) (t : List ℕ) → quoted_at s ≡ Ok (t, mid) → 0 < length mid.rest → quoted_at (with_more s more) ≡ Ok (t, with_more mid more)
     string_on s mid t e some =
-        subst (λ (r : Result (List ℕ × Spot) TextFault). Stays more (s.at + length s.rest) r (quoted_at (with_more s more))) e (laws.string_stays s more) some
+        subst (λ (r : Result (List ℕ × Input) TextFault). Stays more (s.at + length s.rest) r (quoted_at (with_more s more))) e (laws.string_stays s more) some
 
-    number_off : (s : Spot) (own : TextFault) → number_at s ≡ Err own → Settles (text own) s → number_at (with_more s more) ≡ Err own
+    number_off : (s : Input) (own : TextFault) → number_at s ≡ Err own → Settles (text own) s → number_at (with_more s more) ≡ Err own
     number_off s own e settled =
-        subst (λ (r : Result (ℤ × Spot) TextFault). Stays more (s.at + length s.rest) r (number_at (with_more s more))) e (laws.number_stays s more) (settled_text own s settled)
+        subst (λ (r : Result (ℤ × Input) TextFault). Stays more (s.at + length s.rest) r (number_at (with_more s more))) e (laws.number_stays s more) (settled_text own s settled)
 
-    string_off : (s : Spot) (own : TextFault) → quoted_at s ≡ Err own → Settles (text own) s → quoted_at (with_more s more) ≡ Err own
+    string_off : (s : Input) (own : TextFault) → quoted_at s ≡ Err own → Settles (text own) s → quoted_at (with_more s more) ≡ Err own
     string_off s own e settled =
-        subst (λ (r : Result (List ℕ × Spot) TextFault). Stays more (s.at + length s.rest) r (quoted_at (with_more s more))) e (laws.string_stays s more) (settled_text own s settled)
+        subst (λ (r : Result (List ℕ × Input) TextFault). Stays more (s.at + length s.rest) r (quoted_at (with_more s more))) e (laws.string_stays s more) (settled_text own s settled)
 
     -- a value stays where a byte follows it
-    pub value_stays : {X : Type 0} (p : Plan X) (s after : Spot) (x : X) → IsSteady p → run p s ≡ Ok (x, after) → 0 < length after.rest
+    pub value_stays : {X : Type 0} (p : Plan X) (s after : Input) (x : X) → IsSteady p → run p s ≡ Ok (x, after) → 0 < length after.rest
         → run p (with_more s more) ≡ Ok (x, with_more after more)
-    value_stays {X = X} (done y) s after x steady e some = ap (λ (r : X × Spot). Ok (r.0, with_more r.1 more)) (value_is (y, s) (x, after) e)
+    value_stays {X = X} (done y) s after x steady e some = ap (λ (r : X × Input). Ok (r.0, with_more r.1 more)) (value_is (y, s) (x, after) e)
     value_stays (check test fault p) s after x steady e some =
         let h = check-ok test fault (run p s) (x, after) e in
         rw h.0 (value_stays p s after x steady.1 h.1 some)
@@ -126,7 +126,7 @@ module _ (laws : TextLaws) where
   -- ---- faults
 
   -- a settled fault of the text needs a byte
-  some_text : {X : Type 0} (p : Plan X) (s : Spot) (own : TextFault) → IsSteady p → run p s ≡ Err (text own) → Settles (text own) s → 0 < length s.rest
+  some_text : {X : Type 0} (p : Plan X) (s : Input) (own : TextFault) → IsSteady p → run p s ≡ Err (text own) → Settles (text own) s → 0 < length s.rest
   some_text (done y) s own steady e settled = absurd cc
   some_text (check test fault p) s own steady e settled =
       elim (check-err test fault (text own) (run p s) e) [
@@ -156,7 +156,7 @@ module _ (laws : TextLaws) where
   some_text (perhaps next) s own steady e settled = absurd steady
 
   -- where a settled fault comes after a number or a string, a byte stands there
-  some_between : {X : Type 0} (p : Plan X) (s mid : Spot) (fault : Fault) → IsSteady p → SameEnd s mid → Leaves 34 s.rest mid.rest → run p mid ≡ Err fault → Settles fault s → 0 < length mid.rest
+  some_between : {X : Type 0} (p : Plan X) (s mid : Input) (fault : Fault) → IsSteady p → SameEnd s mid → Leaves 34 s.rest mid.rest → run p mid ≡ Err fault → Settles fault s → 0 < length mid.rest
   some_between p s mid (text own) steady same left e settled = some_text p mid own steady e (settled_on (text own) s mid same left settled)
   some_between p s mid (limit field value) steady same left e settled = (left.1 (is_false _ settled)).0
   some_between p s mid (no_start value) steady same left e settled = (left.1 (is_false _ settled)).0
@@ -164,7 +164,7 @@ module _ (laws : TextLaws) where
 
   module _ (more : List ℕ) where
     -- a settled fault stays
-    pub fault_stays : {X : Type 0} (p : Plan X) (s : Spot) (fault : Fault) → IsSteady p → run p s ≡ Err fault → Settles fault s → run p (with_more s more) ≡ Err fault
+    pub fault_stays : {X : Type 0} (p : Plan X) (s : Input) (fault : Fault) → IsSteady p → run p s ≡ Err fault → Settles fault s → run p (with_more s more) ≡ Err fault
     fault_stays (done y) s fault steady e settled = absurd cc
     fault_stays (check test own p) s fault steady e settled =
         elim (check-err test own fault (run p s) e) [

@@ -1,6 +1,6 @@
 -- A plan tells just the fault that the bytes have.
 use Rattle.std.proofs.Common.{◌≡◌, ℕ, ◌+◌, Bool, true, false, cond, ◌⊎◌, inl, inr, List, length, Option, Some, None, ℤ, Result, Ok, Err, refl, sym, ap, ◌∙◌, arith}
-use Rattle.adv_text.specs.Reading.{Spot, SameEnd, number_at, quoted_at, no_number, big_number, no_quote, open_string, long_string}
+use Rattle.adv_text.specs.Reading.{Input, SameEnd, number_at, quoted_at, no_number, big_number, no_quote, open_string, long_string}
 use Rattle.adv_text.specs.Reading.{Fault as TextFault}
 use Rattle.adv_text.specs.Laws.{NumberFault}
 use Rattle.scott_format.specs.Faults.{Fault, text}
@@ -11,52 +11,52 @@ use Rattle.scott_format.proofs.Exact.{one_fault}
 
 -- ---- what a reading that gave a fault went through
 
-pub check-err : {X : Type 0} (test : Bool) (own fault : Fault) (r : Result (X × Spot) Fault) → cond test r (Err own) ≡ Err fault
+pub check-err : {X : Type 0} (test : Bool) (own fault : Fault) (r : Result (X × Input) Fault) → cond test r (Err own) ≡ Err fault
     → ((test ≡ false) × (fault ≡ own)) ⊎ ((test ≡ true) × (r ≡ Err fault))
 check-err true own fault r e = inr (refl, e)
-check-err {X = X} false own fault r e = inl (refl, sym (one_fault {A = X × Spot} own fault refl e))
+check-err {X = X} false own fault r e = inl (refl, sym (one_fault {A = X × Input} own fault refl e))
 
-pub onward-err : {A X : Type 0} (r : Result (A × Spot) TextFault) (go_on : A → Spot → Result (X × Spot) Fault) (fault : Fault) → onward r go_on ≡ Err fault
-    → ((own : TextFault) × (r ≡ Err own) × (fault ≡ text own)) ⊎ ((a : A) × (after : Spot) × (r ≡ Ok (a, after)) × (go_on a after ≡ Err fault))
+pub onward-err : {A X : Type 0} (r : Result (A × Input) TextFault) (go_on : A → Input → Result (X × Input) Fault) (fault : Fault) → onward r go_on ≡ Err fault
+    → ((own : TextFault) × (r ≡ Err own) × (fault ≡ text own)) ⊎ ((a : A) × (after : Input) × (r ≡ Ok (a, after)) × (go_on a after ≡ Err fault))
 onward-err (Ok y) go_on fault e = inr (y.0, y.1, refl, e)
-onward-err {X = X} (Err own) go_on fault e = inl (own, refl, sym (one_fault {A = X × Spot} (text own) fault refl e))
+onward-err {X = X} (Err own) go_on fault e = inl (own, refl, sym (one_fault {A = X × Input} (text own) fault refl e))
 
 -- where a number may be missing, a fault is that of a number that is too big, of what follows the
 -- number, or of what is read on without one
-perhaps-err : {X : Type 0} (r : Result (ℤ × Spot) TextFault) (s : Spot) (go_on : Option ℤ → Spot → Result (X × Spot) Fault) (fault : Fault)
+perhaps-err : {X : Type 0} (r : Result (ℤ × Input) TextFault) (s : Input) (go_on : Option ℤ → Input → Result (X × Input) Fault) (fault : Fault)
     → ((own : TextFault) → r ≡ Err own → NumberFault s own) → onward_perhaps r s go_on ≡ Err fault
     → ((place : ℕ) × (r ≡ Err (big_number place)) × (fault ≡ text (big_number place)))
-    ⊎ ((z : ℤ) × (after : Spot) × (r ≡ Ok (z, after)) × (go_on (Some z) after ≡ Err fault))
+    ⊎ ((z : ℤ) × (after : Input) × (r ≡ Ok (z, after)) × (go_on (Some z) after ≡ Err fault))
     ⊎ ((place : ℕ) × (r ≡ Err (no_number place)) × (go_on None s ≡ Err fault))
 perhaps-err (Ok y) s go_on fault exact e = inr (inl (y.0, y.1, refl, e))
 perhaps-err (Err (no_number place)) s go_on fault exact e = inr (inr (place, refl, e))
-perhaps-err {X = X} (Err (big_number place)) s go_on fault exact e = inl (place, refl, sym (one_fault {A = X × Spot} (text (big_number place)) fault refl e))
+perhaps-err {X = X} (Err (big_number place)) s go_on fault exact e = inl (place, refl, sym (one_fault {A = X × Input} (text (big_number place)) fault refl e))
 perhaps-err (Err (no_quote place)) s go_on fault exact e = absurd (exact (no_quote place) refl)
 perhaps-err (Err (open_string place)) s go_on fault exact e = absurd (exact (open_string place) refl)
 perhaps-err (Err (long_string place)) s go_on fault exact e = absurd (exact (long_string place) refl)
 
--- ---- a spot is known by its rest and the end
+-- ---- an input is known by its rest and the end
 
-same_spot : (s a b : Spot) → a.rest ≡ b.rest → SameEnd s a → SameEnd s b → a ≡ b
+same_spot : (s a b : Input) → a.rest ≡ b.rest → SameEnd s a → SameEnd s b → a ≡ b
 same_spot s a b rest ends_a ends_b =
     let sizes : length a.rest ≡ length b.rest = ap length rest in
     let at : a.at ≡ b.at = omega (arith, sizes, ends_a, ends_b) in
     λ i. record { at = at i; rest = rest i }
 
 module _ (laws : TextLaws) where
-  -- a number that is spelled up to a spot is read up to it
-  number_to : (s after : Spot) (z : ℤ) → NumberTo s z after → number_at s ≡ Ok (z, after)
+  -- a number that is spelled up to an input is read up to it
+  number_to : (s after : Input) (z : ℤ) → NumberTo s z after → number_at s ≡ Ok (z, after)
   number_to s after z to =
       let r = laws.spelled_number_is_read s z after.rest to.0 in
-      r.2 ∙ ap (λ (a : Spot). Ok (z, a)) (same_spot s r.0 after r.1 (laws.number_ends s r.0 z r.2) to.1)
+      r.2 ∙ ap (λ (a : Input). Ok (z, a)) (same_spot s r.0 after r.1 (laws.number_ends s r.0 z r.2) to.1)
 
-  string_to : (s after : Spot) (t : List ℕ) → StringTo s t after → quoted_at s ≡ Ok (t, after)
+  string_to : (s after : Input) (t : List ℕ) → StringTo s t after → quoted_at s ≡ Ok (t, after)
   string_to s after t to =
       let r = laws.spelled_string_is_read s t after.rest to.0 in
-      r.2 ∙ ap (λ (a : Spot). Ok (t, a)) (same_spot s r.0 after r.1 (laws.string_ends s r.0 t r.2) to.1)
+      r.2 ∙ ap (λ (a : Input). Ok (t, a)) (same_spot s r.0 after r.1 (laws.string_ends s r.0 t r.2) to.1)
 
   -- the fault that is known is the first thing that is wrong
-  pub run-faulty : {X : Type 0} (p : Plan X) (s : Spot) (fault : Fault) → run p s ≡ Err fault → Faulty p s fault
+  pub run-faulty : {X : Type 0} (p : Plan X) (s : Input) (fault : Fault) → run p s ≡ Err fault → Faulty p s fault
   run-faulty (done x) s fault e = absurd cc
   run-faulty (check test own p) s fault e =
       elim (check-err test own fault (run p s) e) [
@@ -81,7 +81,7 @@ module _ (laws : TextLaws) where
       ]
 
   -- the first thing that is wrong is known
-  pub faulty-run : {X : Type 0} (p : Plan X) (s : Spot) (fault : Fault) → Faulty p s fault → run p s ≡ Err fault
+  pub faulty-run : {X : Type 0} (p : Plan X) (s : Input) (fault : Fault) → Faulty p s fault → run p s ≡ Err fault
   faulty-run (done x) s fault h = absurd h
   faulty-run (check test own p) s fault (inl h) = rw (h.0, h.1) refl
   faulty-run (check test own p) s fault (inr h) = rw (h.0) (faulty-run p s fault h.1)

@@ -1,6 +1,6 @@
 -- A database's text.
 use Rattle.std.specs.Prelude.{ℕ, ◌≡◌, ◌+◌, List, Result, Ok, Err}
-use Rattle.adv_text.specs.Reading.{Spot, spot}
+use Rattle.adv_text.specs.Reading.{Input, input}
 use Rattle.scott_types.specs.declared.parts.Header.{Header}
 use Rattle.scott_types.specs.Database.{Database}
 use Rattle.scott_format.specs.declared.header.Sizes.{Sizes}
@@ -57,19 +57,19 @@ DatText bytes db = (rest : List ℕ) × Spelled file db bytes rest
 
 -- reading from the start gives the database
 abbrev pub IsReadFrom : List ℕ → Database → Type 0
-IsReadFrom bytes db = (after : Spot) × (run file (spot 0 bytes) ≡ Ok (db, after))
+IsReadFrom bytes db = (after : Input) × (run file (input 0 bytes) ≡ Ok (db, after))
 
 -- the first fault in the order of the file
 abbrev pub DatFault : List ℕ → Fault → Type 0
-DatFault bytes fault = run file (spot 0 bytes) ≡ Err fault
+DatFault bytes fault = run file (input 0 bytes) ≡ Err fault
 
 -- ---- reading as a function of the bytes
 
--- what was read, without the spot after it
-abbrev pub value_of : {X : Type 0} → Result (X × Spot) Fault → Result X Fault
+-- what was read, without the input after it
+abbrev pub value_of : {X : Type 0} → Result (X × Input) Fault → Result X Fault
 value_of (Ok read) = Ok read.0
 value_of (Err fault) = Err fault
 
 -- what the bytes read as: the database that they are a text of, or their first fault
 unfoldable pub database_in : List ℕ → Result Database Fault
-database_in bytes = value_of (run file (spot 0 bytes))
+database_in bytes = value_of (run file (input 0 bytes))

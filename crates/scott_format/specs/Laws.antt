@@ -1,6 +1,6 @@
 -- The laws of the format.
 use Rattle.std.specs.Prelude.{ℕ, ◌≡◌, ◌⊎◌, ◌↔◌, ◌++◌, List, Ok, Err}
-use Rattle.adv_text.specs.Reading.{spot}
+use Rattle.adv_text.specs.Reading.{input}
 use Rattle.adv_text.specs.Laws.{AreBytes}
 use Rattle.scott_types.specs.Database.{Database}
 use Rattle.scott_types.specs.Limits.{KeepsLimits}
@@ -23,7 +23,7 @@ NeverBoth =
 -- the fault of bytes is the first thing that is wrong with them
 abbrev pub FirstFault : Type 0
 FirstFault =
-    (bytes : List ℕ) (fault : Fault) → DatFault bytes fault ↔ Faulty file (spot 0 bytes) fault
+    (bytes : List ℕ) (fault : Fault) → DatFault bytes fault ↔ Faulty file (input 0 bytes) fault
 
 -- a text is one of one database
 abbrev pub OneDatabase : Type 0

@@ -3,7 +3,7 @@ use Rattle.std.specs.Prelude.{ℕ, suc, not, ◌≡◌, ◌+◌, ◌-◌, ◌<�
 use Rattle.std.specs.Char.{is_ascii_digit}
 use Rattle.adv_io.specs.Text.{quote}
 use Rattle.adv_io.specs.Answers.{IsExactly}
-use Rattle.adv_text.specs.Reading.{Spot, spot, with_more, SameEnd, no_number, no_quote}
+use Rattle.adv_text.specs.Reading.{Input, input, with_more, SameEnd, no_number, no_quote}
 use Rattle.scott_format.specs.declared.faults.FormatFault.{FormatFault}
 use Rattle.scott_format.specs.declared.faults.FormatFault.TheVariants as answer
 use Rattle.scott_format.specs.declared.stops.Due.{Due}
@@ -31,9 +31,9 @@ may_end b = is_ascii_digit b || b == quote
 abbrev pub ends_value : List ℕ → Bool
 ends_value bytes = may_end (last_or quote bytes)
 
--- The fault of what stands at a spot is the same whatever follows. A sign at the end may get a
+-- The fault of what stands at an input is the same whatever follows. A sign at the end may get a
 -- digit, and a number at the end another digit.
-abbrev pub settles : FormatFault → Spot → Bool
+abbrev pub settles : FormatFault → Input → Bool
 settles (answer.NoNumber at) s = nat_lt (at + 1) (s.at + length s.rest)
 settles (answer.BigNumber at) s = true
 settles (answer.NoQuote at) s = nat_lt at (s.at + length s.rest)
@@ -75,31 +75,31 @@ abbrev pub fault_at : Stop → FormatFault
 fault_at (Cut fault) = fault
 fault_at (stop.Fault fault) = fault
 
--- whatever follows, one plan reads from a spot what another reads from a later one
-pub record Moves {X : Type 0} (p : Plan X) (s : Spot) (q : Plan X) (after : Spot) : Type 0 where
+-- whatever follows, one plan reads from an input what another reads from a later one
+pub record Moves {X : Type 0} (p : Plan X) (s : Input) (q : Plan X) (after : Input) : Type 0 where
   pub ends : SameEnd s after
   pub reads : (more : List ℕ) → run p (with_more s more) ≡ run q (with_more after more)
 
--- a function goes on from a plan and a spot to others, unless it stops with a fault that stays;
+-- a function goes on from a plan and an input to others, unless it stops with a fault that stays;
 -- where the bytes end too early, it tells the fault of a file that ends there too
-abbrev pub Advances : {T X : Type 0} → Plan X → Spot → Result T Stop → Plan X → Spot → Type 0
+abbrev pub Advances : {T X : Type 0} → Plan X → Input → Result T Stop → Plan X → Input → Type 0
 Advances p s (Ok given) q after = Moves p s q after
 Advances p s (Err (Cut fault)) q after = Moves p s q after × IsFaultOf fault (run q after)
 Advances p s (Err (stop.Fault fault)) q after =
     (more : List ℕ) → Stands fault (run p (with_more s more))
 
 -- a stop where nothing was taken
-abbrev pub StopsAt : {X : Type 0} → Plan X → Spot → Stop → Spot → Type 0
+abbrev pub StopsAt : {X : Type 0} → Plan X → Input → Stop → Input → Type 0
 StopsAt p s (Cut fault) after = (after ≡ s) × IsFaultOf fault (run p s)
 StopsAt p s (stop.Fault fault) after = (more : List ℕ) → Stands fault (run p (with_more s more))
 
 -- where the bytes end before what a plan reads next, it is due
 abbrev pub IsDue : {X : Type 0} → Due → Plan X → Type 0
-IsDue what p = (at : ℕ) → run p (spot at []) ≡ Err (missing what at)
+IsDue what p = (at : ℕ) → run p (input at []) ≡ Err (missing what at)
 
--- a value is taken from a spot to another, whatever follows; or the bytes end too early, for it or
+-- a value is taken from an input to another, whatever follows; or the bytes end too early, for it or
 -- for what is due after it
-abbrev pub Takes : {X : Type 0} → Plan X → Due → Spot → Result X Stop → Spot → Type 0
+abbrev pub Takes : {X : Type 0} → Plan X → Due → Input → Result X Stop → Input → Type 0
 Takes p then s (Ok x) after =
     SameEnd s after
     × ((more : List ℕ) → run p (with_more s more) ≡ Ok (x, with_more after more))

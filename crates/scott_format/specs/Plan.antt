@@ -1,7 +1,7 @@
 -- A format as data: what is read, one thing after another.
 use Rattle.std.specs.Prelude.{ℕ, zero, suc, ◌≡◌, ◌+◌, Bool, if◌then◌else◌, IsTrue, ◌⊎◌, List, [], ◌∷◌, Option, Some, None, ℤ, Result, Ok, Err}
 use Rattle.adv_text.specs.Spelling.{AfterWhitespace, Number, NoNumber, Quoted}
-use Rattle.adv_text.specs.Reading.{Spot, number_at, quoted_at, no_number, big_number, no_quote, open_string, long_string}
+use Rattle.adv_text.specs.Reading.{Input, number_at, quoted_at, no_number, big_number, no_quote, open_string, long_string}
 use Rattle.adv_text.specs.Reading.{Fault as TextFault}
 use Rattle.scott_format.specs.Faults.{Fault, text}
 
@@ -55,14 +55,14 @@ Spelled (perhaps next) value bytes rest =
 -- ---- reading
 
 -- reading goes on after a number or a string that was read
-abbrev pub onward : {A X : Type 0} → Result (A × Spot) TextFault
-    → (A → Spot → Result (X × Spot) Fault) → Result (X × Spot) Fault
+abbrev pub onward : {A X : Type 0} → Result (A × Input) TextFault
+    → (A → Input → Result (X × Input) Fault) → Result (X × Input) Fault
 onward (Ok x) go_on = go_on x.0 x.1
 onward (Err fault) go_on = Err (text fault)
 
 -- reading goes on after a number, or where it stood if no number stands there
-abbrev pub onward_perhaps : {X : Type 0} → Result (ℤ × Spot) TextFault → Spot
-    → (Option ℤ → Spot → Result (X × Spot) Fault) → Result (X × Spot) Fault
+abbrev pub onward_perhaps : {X : Type 0} → Result (ℤ × Input) TextFault → Input
+    → (Option ℤ → Input → Result (X × Input) Fault) → Result (X × Input) Fault
 onward_perhaps (Ok x) s go_on = go_on (Some x.0) x.1
 onward_perhaps (Err (no_number at)) s go_on = go_on None s
 onward_perhaps (Err (big_number at)) s go_on = Err (text (big_number at))
@@ -70,8 +70,8 @@ onward_perhaps (Err (no_quote at)) s go_on = Err (text (no_quote at))
 onward_perhaps (Err (open_string at)) s go_on = Err (text (open_string at))
 onward_perhaps (Err (long_string at)) s go_on = Err (text (long_string at))
 
--- what the plan reads at a spot: a value and the spot after it, or the first fault
-abbrev pub run : {X : Type 0} → Plan X → Spot → Result (X × Spot) Fault
+-- what the plan reads at an input: a value and the input after it, or the first fault
+abbrev pub run : {X : Type 0} → Plan X → Input → Result (X × Input) Fault
 run (done x) s = Ok (x, s)
 run (check test fault next) s = if test then run next s else Err fault
 run (number next) s = onward (number_at s) (λ z after. run (next z) after)

@@ -1,6 +1,6 @@
 -- What a reader has read.
 use Rattle.std.specs.Prelude.{ℕ, ◌≡◌, ◌+◌, ◌≤◌, ◌⊎◌, ◌++◌, List, length, OnOk, Err}
-use Rattle.adv_text.specs.Reading.{spot}
+use Rattle.adv_text.specs.Reading.{input}
 use Rattle.adv_text.specs.Laws.{AreBytes}
 use Rattle.scott_format.specs.declared.readers.TheConstants.{DATABASE_LIMIT}
 use Rattle.scott_format.specs.declared.faults.FormatFault.TheVariants.{Memory}
@@ -21,7 +21,7 @@ pub record HasRead (r : DbReader) (fed : List ℕ) : Type 0 where
   pub within : length fed ≤ DATABASE_LIMIT
   pub bytes : AreBytes fed
   pub order : AllInOrder r.body
-  pub advances : Advances file (spot 0 fed) r.so_far (file_from r.body) (spot r.at r.kept.items)
+  pub advances : Advances file (input 0 fed) r.so_far (file_from r.body) (input r.at r.kept.items)
   pub read : OnOk r.so_far (FileRead r.body)
 
 -- memory ran out in a feed
@@ -34,8 +34,8 @@ IsFailed r = r.so_far ≡ Err (StopFault Memory)
 pub record Reads (old : DbReader) (piece : List ℕ) (new : DbReader) : Type 0 where
   pub all : bytes_fed new ≡ bytes_fed old + length piece
   pub order : AllInOrder new.body
-  pub advances : Advances (file_from old.body) (spot old.at (old.kept.items ++ piece)) new.so_far
-      (file_from new.body) (spot new.at new.kept.items)
+  pub advances : Advances (file_from old.body) (input old.at (old.kept.items ++ piece)) new.so_far
+      (file_from new.body) (input new.at new.kept.items)
   pub read : OnOk new.so_far (FileRead new.body)
 
 -- A reader keeps a piece, unless memory runs out.

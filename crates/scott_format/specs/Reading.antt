@@ -1,7 +1,7 @@
 -- What a function of the reader answers, held to a plan.
 use Rattle.std.specs.Prelude.{◌≡◌, Option, Some, None, Result, Ok, Err}
 use Rattle.adv_io.specs.Answers.{IsExpected}
-use Rattle.adv_text.specs.Reading.{Spot, no_number, big_number, no_quote, open_string, long_string}
+use Rattle.adv_text.specs.Reading.{Input, no_number, big_number, no_quote, open_string, long_string}
 use Rattle.scott_format.specs.declared.faults.FormatFault.{FormatFault}
 use Rattle.scott_format.specs.declared.faults.FormatFault.TheVariants as answer
 use Rattle.scott_types.specs.Database.{Database}
@@ -25,13 +25,13 @@ fault_of answer.Memory = None
 abbrev pub Stands : {X : Type 0} → FormatFault → Result X Fault → Type 0
 Stands fault read = IsExpected fault_of fault read
 
--- from a spot to another, a function gives what the plan reads, seen by view
-abbrev pub Gives : {X Y : Type 0} → (X → Y) → Plan Y → Spot → Result X FormatFault → Spot → Type 0
+-- from an input to another, a function gives what the plan reads, seen by view
+abbrev pub Gives : {X Y : Type 0} → (X → Y) → Plan Y → Input → Result X FormatFault → Input → Type 0
 Gives view plan s (Ok x) after = run plan s ≡ Ok (view x, after)
 Gives view plan s (Err fault) after = Stands fault (run plan s)
 
 -- the same, of a value as it is
-abbrev pub Follows : {X : Type 0} → Plan X → Spot → Result X FormatFault → Spot → Type 0
+abbrev pub Follows : {X : Type 0} → Plan X → Input → Result X FormatFault → Input → Type 0
 Follows plan s r after = Gives (λ x. x) plan s r after
 
 -- the database was read, unless memory ran out

@@ -2,7 +2,7 @@
 ghost use Rattle.std.specs.Prelude.{◌≡◌, ◌≤◌, length, IfOk, IfErr, MatchResult, Ok, Err};
 ghost use Rattle.adv_io.specs.Answers.{IsErrOr};
 ghost use Rattle.scott_types.specs.Database.{Database};
-ghost use Rattle.adv_text.specs.Reading.{spot};
+ghost use Rattle.adv_text.specs.Reading.{input};
 ghost use Rattle.scott_format.specs.Faults.{Fault, fault_answer};
 ghost use Rattle.scott_format.specs.Plan.{run};
 ghost use Rattle.scott_format.specs.File.{file, IsReadFrom, DatText, DatFault, database_in};
@@ -18,7 +18,7 @@ use std::alloc::Global;
 fn read(alloc: Global, bytes: &[u8]) -> Result<Db, FormatFault>
     requires { length bytes.now ≤ DATABASE_LIMIT }
     ensures value { IfOk result (λ db. IsReadFrom bytes.now db) }
-    ensures fault { IfErr result (λ fault. Stands fault (run file (spot 0 bytes.now))) }
+    ensures fault { IfErr result (λ fault. Stands fault (run file (input 0 bytes.now))) }
 {
     let Ok(mut reader) = DbReader::new(alloc) else {
         return Err(FormatFault::Memory);

@@ -28,7 +28,7 @@ use Rattle.scott_types.specs.Opcode.{opcode_of}
 use Rattle.scott_types.specs.Room.{exit_of}
 use Rattle.scott_types.specs.State.{is_dark}
 use Rattle.adv_io.specs.Steps.{Step, Traced}
-use Rattle.scott_rules.specs.Outcomes.{Outcome, then_if_on}
+use Rattle.scott_rules.specs.Progress.{Progress, then_if_on}
 use Rattle.scott_rules.specs.Looking.{all_stored}
 use Rattle.scott_rules.specs.Words.{which, root}
 use Rattle.scott_rules.specs.Commands.{heard, typed_noun, is_direction, go_verb, get_verb, drop_verb}
@@ -46,7 +46,7 @@ abbrev Known : Option ℕ → Type 0
 Known over = IfSome over IsEnding
 
 -- the steps say so, at each level
-abbrev OutcomeKnown : {E : Type 0} → Traced E Outcome → Type 0
+abbrev OutcomeKnown : {E : Type 0} → Traced E Progress → Type 0
 OutcomeKnown t = Known t.value.over
 
 abbrev RanKnown : Ran → Type 0
@@ -78,7 +78,7 @@ ending-known db Score s = cond_both (all_stored db s) _ _ Known (λ _. by_score-
 ending-known db Finish s = by_opcode-known
 ending-known db _ s = tt
 
-then_if_on-known : {E : Type 0} (over : Option ℕ) (t : Traced E Outcome) (next : State → Traced E Outcome)
+then_if_on-known : {E : Type 0} (over : Option ℕ) (t : Traced E Progress) (next : State → Traced E Progress)
     → OutcomeKnown t → ((r : State) → OutcomeKnown (next r)) → OutcomeKnown (then_if_on over t next)
 then_if_on-known None t next here rest = rest t.value.state
 then_if_on-known (Some ending) t next here rest = here

@@ -14,28 +14,28 @@ use Rattle.scott_types.specs.Limits.{KeepsLimits}
 use Rattle.scott_types.specs.Opcode.{opcode_of}
 use Rattle.scott_types.specs.State.{Fits, carried_place}
 use Rattle.adv_io.specs.Steps.{Step, Traced}
-use Rattle.scott_rules.specs.Outcomes.{Outcome, then_if_on, and_then}
+use Rattle.scott_rules.specs.Progress.{Progress, then_if_on, and_then}
 use Rattle.scott_rules.specs.Opcodes.{is_full, changed, op, run_opcodes, takes}
 use Rattle.scott_rules.specs.Actions.{ActionOutcome, passes, performed, try_action}
 use Rattle.scott_rules.specs.Groups.{Group, tail_action, tail_tried, after_head, group_tried}
 use Rattle.scott_rules.proofs.FittingStates.{Fits-moved, Fits-items_moved, Fits-refilled, Fits-room_changed, Fits-flag_changed, Fits-counter_changed, Fits-dead}
 
 -- the state that is left fits
-abbrev pub LeavesFitting : {E : Type 0} → Database → Traced E Outcome → Type 0
+abbrev pub LeavesFitting : {E : Type 0} → Database → Traced E Progress → Type 0
 LeavesFitting db result = Fits db result.value.state
 
 -- what comes next keeps a state fitting
-abbrev KeepsFitting : {E : Type 0} → Database → (State → Traced E Outcome) → Type 0
+abbrev KeepsFitting : {E : Type 0} → Database → (State → Traced E Progress) → Type 0
 KeepsFitting db next = (r : State) → Fits db r → LeavesFitting db (next r)
 
 -- what comes next is done, or the game is over
-Fits-then_if_on : {E : Type 0} (db : Database) (over : Option ℕ) (t : Traced E Outcome) (next : State → Traced E Outcome)
+Fits-then_if_on : {E : Type 0} (db : Database) (over : Option ℕ) (t : Traced E Progress) (next : State → Traced E Progress)
     → Fits db t.value.state → KeepsFitting db next → Fits db (then_if_on over t next).value.state
 Fits-then_if_on db None t next fits keeps = keeps t.value.state fits
 Fits-then_if_on db (Some ending) t next fits keeps = fits
 
 -- one part after another
-Fits-and_then : {E : Type 0} (db : Database) (t : Traced E Outcome) (next : State → Traced E Outcome)
+Fits-and_then : {E : Type 0} (db : Database) (t : Traced E Progress) (next : State → Traced E Progress)
     → Fits db t.value.state → KeepsFitting db next → Fits db (and_then t next).value.state
 Fits-and_then db t next fits keeps = Fits-then_if_on db t.value.over t next fits keeps
 

@@ -24,7 +24,7 @@ use Rattle.scott_types.specs.Room.{exit_of}
 use Rattle.scott_types.specs.State.{is_dark}
 use Rattle.scott_types.specs.ItemText.{get_word, shown}
 use Rattle.adv_io.specs.Steps.{Drew, Noted, Said, Step, Took, Traced, said_steps, trace_of, traced_text}
-use Rattle.scott_rules.specs.Outcomes.{Outcome, goes_on, and_then, then_if_on}
+use Rattle.scott_rules.specs.Progress.{Progress, goes_on, and_then, then_if_on}
 use Rattle.scott_rules.specs.Words.{which, root}
 use Rattle.scott_rules.specs.Commands.{is_direction, typed_noun, word_at, go_verb, get_verb, drop_verb}
 use Rattle.scott_rules.specs.Actions.{note_of, ActionOutcome, action_result, try_action}
@@ -82,7 +82,7 @@ Talks-cond : {R : Type 0} (b : Bool) (t u : Traced Step R) → Talks t.events �
 Talks-cond true t u h k = h
 Talks-cond false t u h k = k
 
-Talks-and_then : (t : Traced Step Outcome) (next : State → Traced Step Outcome) → Talks t.events → AlwaysTalks next → Talks (and_then t next).events
+Talks-and_then : (t : Traced Step Progress) (next : State → Traced Step Progress) → Talks t.events → AlwaysTalks next → Talks (and_then t next).events
 Talks-and_then t next h rest = by_over t.value.over
   where
     by_over : (over : Option ℕ) → Talks (then_if_on over t next).events

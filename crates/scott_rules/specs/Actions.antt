@@ -12,7 +12,7 @@ use Rattle.scott_types.specs.Condition.{condition_of}
 use Rattle.scott_types.specs.Opcode.{opcode_of}
 use Rattle.scott_types.specs.Action.{argument_of, condition_code, parameters, opcode_numbers, is_zero_action}
 use Rattle.adv_io.specs.Steps.{Noted, Step, Traced, after, as_steps, traced}
-use Rattle.scott_rules.specs.Outcomes.{Outcome}
+use Rattle.scott_rules.specs.Progress.{Progress}
 use Rattle.scott_rules.specs.Conditions.{holds}
 use Rattle.scott_rules.specs.Opcodes.{run_opcodes}
 
@@ -42,7 +42,7 @@ abbrev pub ran_of : Option ℕ → Bool → Ran
 ran_of None more = Passed more
 ran_of (Some ending) more = Over ending
 
-abbrev pub ran_to : Bool → Traced ℕ Outcome → Traced ℕ ActionOutcome
+abbrev pub ran_to : Bool → Traced ℕ Progress → Traced ℕ ActionOutcome
 ran_to more t = traced t.events (record { state = t.value.state; ran = ran_of t.value.over more })
 
 -- a line whose conditions hold does its opcodes; any other does nothing

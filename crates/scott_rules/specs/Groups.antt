@@ -10,7 +10,7 @@ use Rattle.scott_types.specs.Database.{Database}
 use Rattle.scott_types.specs.Style.{Game}
 use Rattle.scott_types.specs.Action.{verb_of, noun_of}
 use Rattle.adv_io.specs.Steps.{Drew, Step, Traced, after, traced}
-use Rattle.scott_rules.specs.Outcomes.{Outcome, goes_on, and_then}
+use Rattle.scott_rules.specs.Progress.{Progress, goes_on, and_then}
 use Rattle.scott_rules.specs.Actions.{ActionOutcome, try_action}
 
 -- a head's number and vocabulary, and the numbers of its tail
@@ -45,15 +45,15 @@ over_of Not = None
 over_of (Passed more) = None
 over_of (Over ending) = Some ending
 
-abbrev pub outcome_of : ActionOutcome → Outcome
+abbrev pub outcome_of : ActionOutcome → Progress
 outcome_of o = record { state = o.state; over = over_of o.ran }
 
-abbrev pub tail_action : Game → List ℕ → ℕ → State → Traced Step Outcome
+abbrev pub tail_action : Game → List ℕ → ℕ → State → Traced Step Progress
 tail_action game noun line s =
     let t = try_action game noun line s in traced t.events (outcome_of t.value)
 
 -- each line of a tail is tried, whatever the others did, until the game is over
-abbrev pub tail_tried : Game → List ℕ → List ℕ → State → Traced Step Outcome
+abbrev pub tail_tried : Game → List ℕ → List ℕ → State → Traced Step Progress
 tail_tried game noun [] s = traced [] (goes_on s)
 tail_tried game noun (line ∷ lines) s =
     and_then (tail_action game noun line s) (tail_tried game noun lines)
@@ -62,7 +62,7 @@ abbrev pub passed_or_over : Option ℕ → Ran
 passed_or_over None = Passed true
 passed_or_over (Some ending) = Over ending
 
-abbrev pub with_tail : Traced Step Outcome → Traced Step ActionOutcome
+abbrev pub with_tail : Traced Step Progress → Traced Step ActionOutcome
 with_tail t = traced t.events (record { state = t.value.state; ran = passed_or_over t.value.over })
 
 -- the tail is tried where the head passed and goes on

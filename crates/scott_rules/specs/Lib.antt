@@ -1,6 +1,6 @@
 -- The rules, in the order in which a reader learns the game; then their laws, and games on which
 -- they are worked out.
-pub mod Outcomes
+pub mod Progress
 pub mod Words
 pub mod Commands
 pub mod Conditions

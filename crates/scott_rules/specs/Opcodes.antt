@@ -24,7 +24,7 @@ use Rattle.scott_types.specs.Phrase.{text_of, text_in}
 use Rattle.scott_types.specs.Style.{Game}
 use Rattle.scott_types.specs.State.{has_item, place_of, is_here, carried_count, carried_place, lamp, dark_flag, out_flag, with_place, with_flag, is_room_of}
 use Rattle.adv_io.specs.Steps.{Traced, traced}
-use Rattle.scott_rules.specs.Outcomes.{Outcome, goes_on, and_then}
+use Rattle.scott_rules.specs.Progress.{Progress, goes_on, and_then}
 use Rattle.scott_rules.specs.Looking.{looked, inventory, scored, all_stored}
 
 -- ---- items
@@ -171,7 +171,7 @@ ending db Finish s = Some by_opcode
 ending db _ s = None
 
 -- what an opcode does
-abbrev pub opcode_effect : Game → List ℕ → Opcode → ℕ → ℕ → State → Traced ℕ Outcome
+abbrev pub opcode_effect : Game → List ℕ → Opcode → ℕ → ℕ → State → Traced ℕ Progress
 opcode_effect game noun opcode p q s =
     let after = changed game.db opcode p q s in
     traced (opcode_text game noun opcode (is_full game.db s) after)
@@ -185,12 +185,12 @@ takes db s Get = if is_full db s then 0 else 1
 takes db s opcode = uses opcode
 
 -- an opcode with the next of the parameters, each 0 where none is left
-abbrev pub op : Game → List ℕ → Opcode → List ℕ → State → Traced ℕ Outcome
+abbrev pub op : Game → List ℕ → Opcode → List ℕ → State → Traced ℕ Progress
 op game noun opcode params s =
     opcode_effect game noun opcode (slice_index params 0) (slice_index params 1) s
 
 -- opcodes in order, each with the parameters that those before it left, until the game is over
-abbrev pub run_opcodes : Game → List ℕ → List Opcode → List ℕ → State → Traced ℕ Outcome
+abbrev pub run_opcodes : Game → List ℕ → List Opcode → List ℕ → State → Traced ℕ Progress
 run_opcodes game noun [] params s = traced [] (goes_on s)
 run_opcodes game noun (opcode ∷ opcodes) params s =
     and_then (op game noun opcode params s)

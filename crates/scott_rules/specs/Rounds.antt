@@ -18,7 +18,7 @@ use Rattle.scott_types.specs.Room.{exit_of}
 use Rattle.scott_types.specs.Phrase.{text_of, text_in}
 use Rattle.scott_types.specs.State.{is_dark}
 use Rattle.adv_io.specs.Steps.{Step, Took, Traced, after, said_steps, traced, traced_text}
-use Rattle.scott_rules.specs.Outcomes.{Outcome, goes_on}
+use Rattle.scott_rules.specs.Progress.{Progress, goes_on}
 use Rattle.scott_rules.specs.Commands.{heard, typed_noun, word_at, go_verb, get_verb, drop_verb, is_direction}
 use Rattle.scott_rules.specs.Looking.{looked}
 use Rattle.scott_rules.specs.Light.{light_counted}
@@ -72,17 +72,17 @@ abbrev pub moved_to : ℕ → State → State
 moved_to room s = record s { room = room; redraw = true }
 
 -- without an exit: in the dark a fall, else a refusal
-abbrev pub no_way : Style → Bool → State → Traced Step Outcome
+abbrev pub no_way : Style → Bool → State → Traced Step Progress
 no_way style true s =
     traced_text (text_in style BrokenNeck) (record { state = s; over = Some by_fall })
 no_way style false s = traced_text (text_in style NoExitThere) (goes_on s)
 
-abbrev pub way : Style → ℕ → State → Traced Step Outcome
+abbrev pub way : Style → ℕ → State → Traced Step Progress
 way style room s =
     if room == 0 then no_way style (is_dark s) s
     else traced_text (text_of Moved) (goes_on (moved_to room s))
 
-abbrev pub walk_result : Game → ℕ → State → Traced Step Outcome
+abbrev pub walk_result : Game → ℕ → State → Traced Step Progress
 walk_result game noun s =
     after (said_steps (if is_dark s then text_of DarkMove else []))
     (way game.style (exit_of (length game.db.rooms) (room_at game.db s.room).exits (noun - 1)) s)
@@ -94,31 +94,31 @@ not_done style Matched = text_in style NotYet
 not_done style _ = text_of NotUnderstood
 
 -- no head passed: get and drop have an effect of their own, and other verbs are refused
-abbrev pub unmatched : Game → List ℕ → ℕ → Option ℕ → Found → State → Traced Step Outcome
+abbrev pub unmatched : Game → List ℕ → ℕ → Option ℕ → Found → State → Traced Step Progress
 unmatched game typed verb noun found s =
     if verb == get_verb then transfer PickUp game typed noun s else
     if verb == drop_verb then transfer PutDown game typed noun s
     else traced_text (not_done game.style found) (goes_on s)
 
-abbrev pub by_found : Found → Game → List ℕ → ℕ → Option ℕ → State → Traced Step Outcome
+abbrev pub by_found : Found → Game → List ℕ → ℕ → Option ℕ → State → Traced Step Progress
 by_found (FoundOver ending) game typed verb noun s =
     traced [] (record { state = s; over = Some ending })
 by_found Done game typed verb noun s = traced [] (goes_on s)
 by_found found game typed verb noun s = unmatched game typed verb noun found s
 
-abbrev pub by_actions : Game → List ℕ → ℕ → Option ℕ → State → Traced Step Outcome
+abbrev pub by_actions : Game → List ℕ → ℕ → Option ℕ → State → Traced Step Progress
 by_actions game typed verb noun s =
     let t = search_result game typed verb noun (groups game.db) s in
     after t.events (by_found t.value.found game typed verb noun t.value.state)
 
 -- going asks for a direction, and goes there; with another noun it is a verb like any
-abbrev pub going : Game → List ℕ → Option ℕ → State → Traced Step Outcome
+abbrev pub going : Game → List ℕ → Option ℕ → State → Traced Step Progress
 going game typed None s = traced_text (text_of NeedDirection) (goes_on s)
 going game typed (Some noun) s =
     if is_direction noun then walk_result game noun s
     else by_actions game typed go_verb (Some noun) s
 
-abbrev pub command_result : Game → List ℕ → ℕ → Option ℕ → State → Traced Step Outcome
+abbrev pub command_result : Game → List ℕ → ℕ → Option ℕ → State → Traced Step Progress
 command_result game typed verb noun s =
     if verb == go_verb then going game typed noun s else by_actions game typed verb noun s
 
@@ -136,7 +136,7 @@ turn_ended style None s =
     (record { position = Fresh; state = t.value })
 turn_ended style (Some ending) s = traced [] (record { position = Over ending; state = s })
 
-abbrev pub command_done : Style → Traced Step Outcome → Traced Step Answered
+abbrev pub command_done : Style → Traced Step Progress → Traced Step Answered
 command_done style t = after t.events (turn_ended style t.value.over t.value.state)
 
 abbrev pub asked_again : List ℕ → State → Traced Step Answered

@@ -15,7 +15,7 @@ use Rattle.scott_types.specs.Phrase.{text_of, text_in}
 use Rattle.scott_types.specs.Style.{Game}
 use Rattle.scott_types.specs.State.{is_here, is_carried, is_dark, carried_place, with_place}
 use Rattle.adv_io.specs.Steps.{Step, Traced, after, said_steps, traced, traced_text}
-use Rattle.scott_rules.specs.Outcomes.{Outcome, goes_on}
+use Rattle.scott_rules.specs.Progress.{Progress, goes_on}
 use Rattle.scott_rules.specs.Words.{is_empty, is_typed, which, root}
 use Rattle.scott_rules.specs.Commands.{get_verb, drop_verb}
 use Rattle.scott_rules.specs.Opcodes.{is_full, redrawn}
@@ -99,7 +99,7 @@ abbrev pub none_taken : Transfer → List ℕ
 none_taken PickUp = text_of NothingTaken
 none_taken PutDown = text_of NothingDropped
 
-abbrev pub all_said : Transfer → Traced Step AllOutcome → Traced Step Outcome
+abbrev pub all_said : Transfer → Traced Step AllOutcome → Traced Step Progress
 all_said t w =
     traced (w.events ++ said_steps (if w.value.any_taken then [] else none_taken t))
     (record { state = w.value.state; over = w.value.over })
@@ -109,11 +109,11 @@ abbrev pub is_too_dark : Transfer → State → Bool
 is_too_dark PickUp s = is_dark s
 is_too_dark PutDown s = false
 
-abbrev pub all_from : Bool → Transfer → Game → List ℕ → State → Traced Step Outcome
+abbrev pub all_from : Bool → Transfer → Game → List ℕ → State → Traced Step Progress
 all_from true t game typed s = traced_text (text_of DarkGet) (goes_on s)
 all_from false t game typed s = all_said t (all_items t game typed 0 game.db.items s)
 
-abbrev pub all_transferred : Transfer → Game → List ℕ → State → Traced Step Outcome
+abbrev pub all_transferred : Transfer → Game → List ℕ → State → Traced Step Progress
 all_transferred t game typed s = all_from (is_too_dark t s) t game typed s
 
 -- ---- one
@@ -127,17 +127,17 @@ item_named t size word i (item ∷ items) s =
     then Some i else
     item_named t size word (i + 1) items s
 
-abbrev pub one_moved : Style → Transfer → Option ℕ → State → Traced Step Outcome
+abbrev pub one_moved : Style → Transfer → Option ℕ → State → Traced Step Progress
 one_moved style t None s = traced_text (text_in style BeyondPower) (goes_on s)
 one_moved style t (Some item) s = traced_text (text_of DonePhrase) (goes_on (transferred t item s))
 
-abbrev pub one_from : Bool → Transfer → Game → ℕ → State → Traced Step Outcome
+abbrev pub one_from : Bool → Transfer → Game → ℕ → State → Traced Step Progress
 one_from true t game noun s = traced_text (text_in game.style TooMuch) (goes_on s)
 one_from false t game noun s =
     one_moved game.style t
     (item_named t game.db.header.length (root game.db noun) 0 game.db.items s) s
 
-abbrev pub one_transferred : Transfer → Game → Option ℕ → State → Traced Step Outcome
+abbrev pub one_transferred : Transfer → Game → Option ℕ → State → Traced Step Progress
 one_transferred t game None s = traced_text (text_of WhatItem) (goes_on s)
 one_transferred t game (Some noun) s = one_from (is_refused t game.db s) t game noun s
 
@@ -146,6 +146,6 @@ one_transferred t game (Some noun) s = one_from (is_refused t game.db s) t game 
 abbrev pub is_all : List ℕ → Bool
 is_all typed = bytes_eq typed (codes "all")
 
-abbrev pub transfer : Transfer → Game → List ℕ → Option ℕ → State → Traced Step Outcome
+abbrev pub transfer : Transfer → Game → List ℕ → Option ℕ → State → Traced Step Progress
 transfer t game typed noun s =
     if is_all typed then all_transferred t game typed s else one_transferred t game noun s

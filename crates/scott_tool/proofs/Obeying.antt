@@ -11,7 +11,7 @@ use Rattle.adv_io.proofs.Sayings.{grown-nil}
 use Rattle.scott_tool.specs.Refusal.{Flaw, bad_database, bad_text, bad_program, bad_width, Refusal, Unfit, no_request, unread, too_long, unfit, unwritten, refusing, flaw_status, status_of, line_of}
 use Rattle.scott_tool.specs.Outcome.{Outcome, done, keeping, refused, unkept, kept, Concludes, Loses, Ends, whole, unsaid, unstored}
 use Rattle.scott_tool.specs.Work.{Text, IsText, Task, saying, storing, running, playing, Does, task_statuses}
-use Rattle.scott_tool.specs.Obeying.{Stands, Answers, Leaves, Obeys, Refuses, FailsToStore, Declines}
+use Rattle.scott_tool.specs.Obeying.{StatusStands, Answers, Leaves, Obeys, Refuses, FailsToStore, Declines}
 use Rattle.scott_tool.specs.Promises.{IsEnd}
 use Rattle.scott_tool.proofs.Statuses.{first, task_has_0}
 
@@ -176,7 +176,7 @@ module _ (old new : ConsoleView) (status : ℕ) where
   refused_not_9 refusal (inr h) e = absurd (let f = h.0 in omega arith)
 
   refused_stands : (S : Type 0) (refusal : Refusal) → Concludes old new (refused refusal) status
-      → Stands S (Rose old.faults new.faults) (status_of refusal ∷ []) status
+      → StatusStands S (Rose old.faults new.faults) (status_of refusal ∷ []) status
   refused_stands S refusal (inl h) = inl (subst (Contains (status_of refusal ∷ [])) (sym h.0)
       (first (status_of refusal)))
   refused_stands S refusal (inr h) = inr (inr (inl (h.0, h.1)))

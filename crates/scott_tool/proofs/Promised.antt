@@ -10,7 +10,7 @@ use Rattle.scott_tool.specs.Refusal.{Refusal, unread, refusing}
 use Rattle.scott_tool.specs.Loading.{Texts, texts_of}
 use Rattle.scott_tool.specs.Work.{Show, Task, saying, storing, running, playing, task_statuses}
 use Rattle.scott_tool.specs.Plan.{work, expected, statuses_of}
-use Rattle.scott_tool.specs.Obeying.{Stands, Answers, NameKeeps}
+use Rattle.scott_tool.specs.Obeying.{StatusStands, Answers, NameKeeps}
 use Rattle.scott_tool.specs.Causes.{OneLoaded, EndsWith0, IsAccepted}
 use Rattle.scott_tool.specs.Outcome.{refused, Concludes, whole, unsaid, unstored, cut_short}
 use Rattle.scott_tool.specs.Promises.{HasStatus, Completes, IsSeen, KeepsFiles, IsEnd, HasDone, IfKnown, SaysUnread, Counts}
@@ -66,7 +66,7 @@ module _ (shelf shelf' : ShelfView) (console console' : ConsoleView) (status : �
   Lost = Rose shelf.faults shelf'.faults
 
   abbrev Stand : List ℕ → Type 0
-  Stand expected = Stands Lost Broke expected status
+  Stand expected = StatusStands Lost Broke expected status
 
   -- files that stay are kept, whatever is to be stored
   pub name_keeps : (name : Option (List ℕ)) → shelf'.files ≡ shelf.files

@@ -10,7 +10,7 @@ use Rattle.scott_tool.specs.Outcome.{refused, statuses, Concludes, Ends, whole, 
 use Rattle.scott_tool.specs.Loading.{IsLoad, texts_of, stores}
 use Rattle.scott_tool.specs.Work.{Task}
 use Rattle.scott_tool.specs.Plan.{expected, statuses_of}
-use Rattle.scott_tool.specs.Obeying.{Stands, Answers, Refuses, Misses, ShelfStays}
+use Rattle.scott_tool.specs.Obeying.{StatusStands, Answers, Refuses, Misses, ShelfStays}
 use Rattle.scott_tool.specs.Causes.{OneLoaded, IsTooLong, HasCause, by_words, by_shelf, by_console, by_memory, by_length}
 use Rattle.scott_tool.specs.Promises.{IfKnown, SaysUnread}
 use Rattle.scott_tool.proofs.Files.{long_one}
@@ -27,7 +27,7 @@ module _ (shelf shelf' : ShelfView) (console console' : ConsoleView) (status : �
   Lost = Rose shelf.faults shelf'.faults
 
   abbrev Stand : List ℕ → Type 0
-  Stand expected = Stands Lost Broke expected status
+  Stand expected = StatusStands Lost Broke expected status
 
   -- ---- a refusal
 

@@ -7,7 +7,7 @@ use Rattle.scott_tool.specs.Work.{Task, saying, storing, running, playing, task_
 use Rattle.scott_tool.specs.Plan.{statuses_of}
 use Rattle.scott_tool.specs.Causes.{IsOfContent}
 use Rattle.scott_tool.specs.Promises.{IsEnd}
-use Rattle.scott_tool.specs.Obeying.{Stands}
+use Rattle.scott_tool.specs.Obeying.{StatusStands}
 
 -- ---- each is one of the twelve
 
@@ -102,7 +102,7 @@ by_expected : (S F : Type 0) (expected : Result Task Unfit) (status : ℕ) → C
 by_expected S F (Ok task) status h = of_task task refl h
 by_expected S F (Err u) status h = of_fault u refl (sym (only (flaw_status u.flaw) status h))
 
-pub tells : (S F : Type 0) (expected : Result Task Unfit) (status : ℕ) → Stands S F
+pub tells : (S F : Type 0) (expected : Result Task Unfit) (status : ℕ) → StatusStands S F
     (statuses_of (refusing expected)) status → Tells S F expected status
 tells S F expected status (inl h) = by_expected S F expected status h
 tells S F expected status (inr (inl e)) = of_memory e

@@ -12,7 +12,7 @@ use Rattle.scott_tool.specs.Outcome.{Outcome, statuses, Ends, whole, unsaid, uns
 use Rattle.scott_tool.specs.Loading.{loads_of, stores, late_statuses, Texts, texts_of}
 use Rattle.scott_tool.specs.Work.{IsText, Task, saying, storing, running, playing, Does, status_with, stored_by, late_of}
 use Rattle.scott_tool.specs.Plan.{plan, work, Reaches, IsRefused, expected, statuses_of, late_in}
-use Rattle.scott_tool.specs.Obeying.{Keeps, Stands, Answers, Leaves, NameKeeps, MayTake, IsSilent, Obeys}
+use Rattle.scott_tool.specs.Obeying.{Keeps, StatusStands, Answers, Leaves, NameKeeps, MayTake, IsSilent, Obeys}
 use Rattle.scott_tool.specs.Causes.{IsOfContent, EndsWith, HasCause, by_task, by_content, by_run, by_memory, by_console, by_shelf}
 use Rattle.scott_tool.specs.Laws.{Laws}
 use Rattle.scott_tool.specs.Promises.{IfKnown, SaysUnread, IsEnd, WasDone}
@@ -41,7 +41,7 @@ module _ (shelf shelf' : ShelfView) (console console' : ConsoleView) (status : �
   Lost = Rose shelf.faults shelf'.faults
 
   abbrev Stand : List ℕ → Type 0
-  Stand expected = Stands Lost Broke expected status
+  Stand expected = StatusStands Lost Broke expected status
 
   -- ---- a task that was done
 

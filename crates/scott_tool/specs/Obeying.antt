@@ -23,8 +23,8 @@ use Rattle.scott_tool.specs.Views.{refusal_of}
 
 -- One of these statuses; or, in its place, 9 for want of memory, or 3 or 2 where the console or the
 -- shelf failed.
-abbrev pub Stands : (ShelfFailed ConsoleFailed : Type 0) → List ℕ → (status : ℕ) → Type 0
-Stands ShelfFailed ConsoleFailed expected status =
+abbrev pub StatusStands : (ShelfFailed ConsoleFailed : Type 0) → List ℕ → (status : ℕ) → Type 0
+StatusStands ShelfFailed ConsoleFailed expected status =
     Contains expected status ⊎ (status ≡ 9) ⊎ ((status ≡ 3) × ConsoleFailed)
     ⊎ ((status ≡ 2) × ShelfFailed)
 
@@ -83,7 +83,7 @@ ShelfStays shelf shelf' status = (status ≡ 2) ⊎ (status ≡ 3) ⊎ (shelf'.f
 pub record Obeys (shelf shelf' : ShelfView) (old new : ConsoleView) (expected : Result Task Refusal)
     (status : ℕ) : Type 0 where
   pub answered : IfSome old.left (λ lines. Answers shelf shelf' old new lines expected status)
-  pub stands : Stands (Rose shelf.faults shelf'.faults) (Rose old.faults new.faults)
+  pub stands : StatusStands (Rose shelf.faults shelf'.faults) (Rose old.faults new.faults)
       (statuses_of expected) status
   pub silent : IsSilent old new (late_in expected) status
   pub lines : MayTake (late_in expected) status ⊎ (new.left ≡ old.left)

@@ -12,7 +12,7 @@ use Rattle.scott_tool.specs.Outcome.{statuses, Outcome, refused, kept, Concludes
 use Rattle.scott_tool.specs.Loading.{stores, late_statuses}
 use Rattle.scott_tool.specs.Work.{Task, Does}
 use Rattle.scott_tool.specs.Plan.{Reaches, expected, statuses_of}
-use Rattle.scott_tool.specs.Obeying.{Stands, Answers, Leaves, NameKeeps, MayTake, IsSilent, ShelfStays, ConsoleStays}
+use Rattle.scott_tool.specs.Obeying.{StatusStands, Answers, Leaves, NameKeeps, MayTake, IsSilent, ShelfStays, ConsoleStays}
 use Rattle.scott_tool.specs.Causes.{OneLoaded, HasPlan, HasCause, IsAccepted}
 use Rattle.scott_tool.specs.Check.{Checked}
 use Rattle.scott_tool.specs.Compile.{Compiled}
@@ -41,7 +41,8 @@ IfKnown shelf console P = IfSome shelf.files (λ files. IfSome console.left (P f
 abbrev pub IsOneOf : (shelf shelf' : ShelfView) → (console console' : ConsoleView) → List ℕ
     → (status : ℕ) → Type 0
 IsOneOf shelf shelf' console console' wanted status =
-    Stands (Rose shelf.faults shelf'.faults) (Rose console.faults console'.faults) wanted status
+    StatusStands (Rose shelf.faults shelf'.faults) (Rose console.faults console'.faults) wanted
+    status
 
 -- There are twelve statuses, each comes only with its cause, and it is the expected one: that of
 -- the first refusal in the order of the steps, or of what is done.

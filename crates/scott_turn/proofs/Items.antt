@@ -15,7 +15,7 @@ use Rattle.scott_types.specs.Style.{Game}
 use Rattle.scott_types.specs.Database.{Database, item_at}
 use Rattle.scott_types.specs.Phrase.{text_in}
 use Rattle.adv_io.specs.Steps.{Step, Traced, after, said_steps, traced}
-use Rattle.scott_rules.specs.Outcomes.{Outcome}
+use Rattle.scott_rules.specs.Progress.{Progress}
 use Rattle.scott_rules.specs.Words.{is_empty, is_typed, which}
 use Rattle.scott_rules.specs.Groups.{groups}
 use Rattle.scott_rules.specs.Search.{SearchOutcome, search_result}
@@ -25,7 +25,7 @@ use Rattle.scott_turn.specs.declared.item_turns.ItemTurn.TheVariants.{Passed, Mo
 use Rattle.scott_turn.specs.ItemTurns.{ItemTurnOutcome, moved_or_not, ending_in, item_actions, after_actions, item_turn, by_item_turn, taken_before, is_taken_by, ends_all, over_in}
 use Rattle.adv_io.proofs.Along.{after-after}
 
-abbrev pub outcome_of_search : SearchOutcome → Outcome
+abbrev pub outcome_of_search : SearchOutcome → Progress
 outcome_of_search o = record { state = o.state; over = ending_in o.found }
 
 -- the items from one on begin with it

@@ -9,7 +9,7 @@ use Rattle.scott_types.specs.Style.{Game}
 use Rattle.scott_types.specs.Database.{action_at}
 use Rattle.adv_io.proofs.Showing.{shown_of-said}
 use Rattle.adv_io.specs.Steps.{Noted, Step, Traced, after, said_steps, shown_of}
-use Rattle.scott_rules.specs.Outcomes.{Outcome, and_then, then_if_on}
+use Rattle.scott_rules.specs.Progress.{Progress, and_then, then_if_on}
 use Rattle.scott_rules.specs.Actions.{action_result, try_action}
 
 -- what is said as steps shows its bytes
@@ -28,22 +28,22 @@ shown_action game noun line s =
 
 -- ---- a part that may end the game, and what comes after it
 
-pub and_then-on : {E : Type 0} (t : Traced E Outcome) (next : State → Traced E Outcome) (over : Option ℕ) → over ≡ t.value.over → is_some over ≡ false → and_then t next ≡ after t.events (next t.value.state)
+pub and_then-on : {E : Type 0} (t : Traced E Progress) (next : State → Traced E Progress) (over : Option ℕ) → over ≡ t.value.over → is_some over ≡ false → and_then t next ≡ after t.events (next t.value.state)
 and_then-on t next None is on = ap (λ o. then_if_on o t next) (sym is)
 and_then-on t next (Some ending) is on = absurd cc
 
-pub and_then-over : {E : Type 0} (t : Traced E Outcome) (next : State → Traced E Outcome) (over : Option ℕ) → over ≡ t.value.over → is_some over ≡ true → and_then t next ≡ t
+pub and_then-over : {E : Type 0} (t : Traced E Progress) (next : State → Traced E Progress) (over : Option ℕ) → over ≡ t.value.over → is_some over ≡ true → and_then t next ≡ t
 and_then-over t next None is ended = absurd cc
 and_then-over t next (Some ending) is ended = ap (λ o. then_if_on o t next) (sym is)
 
 -- what comes after the part's own steps
-abbrev pub after_part : {E : Type 0} → Option ℕ → Traced E Outcome → (State → Traced E Outcome) → List E
+abbrev pub after_part : {E : Type 0} → Option ℕ → Traced E Progress → (State → Traced E Progress) → List E
 after_part None t next = (next t.value.state).events
 after_part (Some ending) t next = []
 
-then_if_on-prefix : {E : Type 0} (over : Option ℕ) (t : Traced E Outcome) (next : State → Traced E Outcome) → (then_if_on over t next).events ≡ t.events ++ after_part over t next
+then_if_on-prefix : {E : Type 0} (over : Option ℕ) (t : Traced E Progress) (next : State → Traced E Progress) → (then_if_on over t next).events ≡ t.events ++ after_part over t next
 then_if_on-prefix None t next = refl
 then_if_on-prefix (Some ending) t next = sym (append-nil t.events)
 
-pub and_then-prefix : {E : Type 0} (t : Traced E Outcome) (next : State → Traced E Outcome) → (and_then t next).events ≡ t.events ++ after_part t.value.over t next
+pub and_then-prefix : {E : Type 0} (t : Traced E Progress) (next : State → Traced E Progress) → (and_then t next).events ≡ t.events ++ after_part t.value.over t next
 and_then-prefix t next = then_if_on-prefix t.value.over t next

@@ -21,7 +21,7 @@ use Rattle.scott_types.specs.declared.phrases.Phrase.TheVariants.{BrokenNeck, No
 use Rattle.scott_types.specs.ItemText.{shown}
 use Rattle.scott_rules.specs.Light.{light_counted}
 use Rattle.scott_types.specs.State.{is_dark}
-use Rattle.scott_rules.specs.Outcomes.{goes_on}
+use Rattle.scott_rules.specs.Progress.{goes_on}
 use Rattle.scott_rules.specs.Words.{root}
 use Rattle.scott_rules.specs.Transfer.{is_refused, item_named, one_moved, one_from, one_transferred}
 use Rattle.scott_rules.specs.Rounds.{look_due, RoundEnd, Answered, advance, by_heard, answer, prompted, turn_ended, no_way, moved_to, walk_result}

@@ -13,7 +13,7 @@ use Rattle.scott_types.specs.Phrase.{text_of, text_in}
 use Rattle.scott_types.specs.Room.{exit_of}
 use Rattle.scott_types.specs.State.{is_dark}
 use Rattle.adv_io.specs.Steps.{Said, said_steps, shown_of, traced_text}
-use Rattle.scott_rules.specs.Outcomes.{goes_on}
+use Rattle.scott_rules.specs.Progress.{goes_on}
 use Rattle.scott_rules.specs.Opcodes.{by_fall}
 use Rattle.scott_rules.specs.Rounds.{no_way, moved_to, way, walk_result}
 use Rattle.scott_turn.specs.Ways.{way_text, way_over}

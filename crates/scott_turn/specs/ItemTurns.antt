@@ -13,7 +13,7 @@ use Rattle.scott_types.specs.Database.{Database}
 use Rattle.scott_types.specs.ItemText.{shown, get_word}
 use Rattle.scott_types.specs.Phrase.{text_of, text_in}
 use Rattle.adv_io.specs.Steps.{Step, Traced, after, traced, traced_text}
-use Rattle.scott_rules.specs.Outcomes.{Outcome}
+use Rattle.scott_rules.specs.Progress.{Progress}
 use Rattle.scott_rules.specs.Words.{which}
 use Rattle.scott_rules.specs.Groups.{groups}
 use Rattle.scott_rules.specs.Search.{search_result}
@@ -41,7 +41,7 @@ ending_in _ = None
 
 -- an item's lines, with the verb of getting or dropping and the item's own noun; only an ending of
 -- theirs counts
-abbrev pub item_actions : Transfer → Game → List ℕ → Item → State → Traced Step Outcome
+abbrev pub item_actions : Transfer → Game → List ℕ → Item → State → Traced Step Progress
 item_actions t game typed item s =
     let found = search_result game typed (verb_for t) (which game.db Nouns (get_word item.text))
     (groups game.db) s in

@@ -5,7 +5,7 @@ use Rattle.std.specs.List.{list_all}
 use Rattle.std.proofs.lemmas.Bool.{and_parts, and_from}
 use Rattle.adv_text.specs.Laws.{is_byte, AreBytes, StringIsText, NumberLeavesBytes, StringLeavesBytes}
 use Rattle.adv_io.specs.Text.{is_text_byte as is_kept_byte}
-use Rattle.adv_text.specs.Reading.{Spot}
+use Rattle.adv_text.specs.Reading.{Input}
 use Rattle.scott_types.specs.Limits.{is_file_text, is_file_byte}
 use Rattle.source_reader.specs.declared.tokens.Token.{Token}
 use Rattle.source_reader.specs.declared.tokens.Token.TheVariants as token
@@ -65,7 +65,7 @@ pub record ByteLaws : Type 0 where
   pub string_leaves_bytes : StringLeavesBytes
 
 module _ (laws : ByteLaws) where
-  token_fits : (s after : Spot) (t : Token) → AreBytes s.rest → TokenTo s t after → Fits t
+  token_fits : (s after : Input) (t : Token) → AreBytes s.rest → TokenTo s t after → Fits t
   token_fits s after (token.Number z) all h = tt
   token_fits s after (token.Quoted text) all h =
       let left = laws.string_leaves_bytes text s.rest after.rest h.0.1 all in
@@ -75,7 +75,7 @@ module _ (laws : ByteLaws) where
   token_fits s after (token.Mark b) all h = tt
   token_fits s after token.End all h = tt
 
-  token_leaves : (s after : Spot) (t : Token) → AreBytes s.rest → TokenTo s t after → AreBytes after.rest
+  token_leaves : (s after : Input) (t : Token) → AreBytes s.rest → TokenTo s t after → AreBytes after.rest
   token_leaves s after (token.Number z) all h = laws.number_leaves_bytes z s.rest after.rest h.0.1 all
   token_leaves s after (token.Quoted text) all h = (laws.string_leaves_bytes text s.rest after.rest h.0.1 all).1
   token_leaves s after (token.Word w) all h =
@@ -84,7 +84,7 @@ module _ (laws : ByteLaws) where
   token_leaves s after token.End all h = subst (λ (b : List ℕ). AreBytes b) (sym h.0.1) all
 
   -- what holds always holds of what bytes spell
-  pub always : {X : Type 0} (P : X → Type 0) (p : Plan X) (x : X) (s after : Spot) → Always p P → Spelled p x s after → AreBytes s.rest → P x
+  pub always : {X : Type 0} (P : X → Type 0) (p : Plan X) (x : X) (s after : Input) → Always p P → Spelled p x s after → AreBytes s.rest → P x
   always P (done y) x s after h spelled all = subst P spelled.0 h
   always P (refuse at) x s after h spelled all = absurd spelled
   always P (next more) x s after h spelled all =

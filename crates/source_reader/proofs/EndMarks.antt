@@ -1,17 +1,17 @@
 -- A mark that stands right after what it ends is read at once.
 use Rattle.std.proofs.Common.{◌≡◌, ℕ, ◌+◌, ◌<◌, ◌||◌, ◌==◌, Bool, true, false, List, [], ◌∷◌, length, get_or, drop, Result, Ok, refl, ap, sym, subst, arith, ◌⊎◌, inl, inr}
 use Rattle.std.proofs.lemmas.Bool.{eqb-true}
-use Rattle.adv_text.specs.Reading.{Spot, spot}
+use Rattle.adv_text.specs.Reading.{Input, input}
 use Rattle.source_reader.specs.Faults.{Fault}
 use Rattle.source_reader.specs.Plan.{run}
 use Rattle.source_reader.specs.Singles.{is_end_mark, any_token, symbol}
 use Rattle.source_reader.specs.Tokens.{token_at}
 
 abbrev IsRead : ℕ → ℕ → List ℕ → Type 0
-IsRead b at bytes = run (symbol b) (spot at (b ∷ bytes)) ≡ Ok (tt, spot (at + 1) bytes)
+IsRead b at bytes = run (symbol b) (input at (b ∷ bytes)) ≡ Ok (tt, input (at + 1) bytes)
 
-abbrev reached : List ℕ → ℕ → Result (Unit {0} × Spot) Fault
-reached bytes at = Ok (tt, spot at bytes)
+abbrev reached : List ℕ → ℕ → Result (Unit {0} × Input) Fault
+reached bytes at = Ok (tt, input at bytes)
 
 semicolon : (at : ℕ) (bytes : List ℕ) → IsRead 59 at bytes
 unfolding any_token symbol token_at
@@ -40,10 +40,10 @@ by_mark b at bytes mark =
           ]
     ]
 
-pub end_mark_read : (b : ℕ) (s : Spot) → is_end_mark b ≡ true → 0 < length s.rest → get_or s.rest 0 0 ≡ b → run (symbol b) s ≡ Ok (tt, spot (s.at + 1) (drop 1 s.rest))
+pub end_mark_read : (b : ℕ) (s : Input) → is_end_mark b ≡ true → 0 < length s.rest → get_or s.rest 0 0 ≡ b → run (symbol b) s ≡ Ok (tt, input (s.at + 1) (drop 1 s.rest))
 end_mark_read b s mark some first = by s.rest some first
   where
-    by : (rest : List ℕ) → 0 < length rest → get_or rest 0 0 ≡ b → run (symbol b) (spot s.at rest) ≡ Ok (tt, spot (s.at + 1) (drop 1 rest))
+    by : (rest : List ℕ) → 0 < length rest → get_or rest 0 0 ≡ b → run (symbol b) (input s.at rest) ≡ Ok (tt, input (s.at + 1) (drop 1 rest))
     by [] some first = absurd (omega arith)
     by (c ∷ bytes) some first =
-        subst (λ (x : ℕ). run (symbol b) (spot s.at (x ∷ bytes)) ≡ Ok (tt, spot (s.at + 1) bytes)) (sym first) (by_mark b s.at bytes mark)
+        subst (λ (x : ℕ). run (symbol b) (input s.at (x ∷ bytes)) ≡ Ok (tt, input (s.at + 1) bytes)) (sym first) (by_mark b s.at bytes mark)

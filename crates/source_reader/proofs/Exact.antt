@@ -1,6 +1,6 @@
 -- A plan reads exactly what it spells, and answers exactly the fault that stands.
 use Rattle.std.proofs.Common.{◌≡◌, ◌⊎◌, inl, inr, Result, Ok, Err, refl, sym, ap, ◌∙◌}
-use Rattle.adv_text.specs.Reading.{Spot}
+use Rattle.adv_text.specs.Reading.{Input}
 use Rattle.source_reader.specs.Faults.{Fault, unexpected}
 use Rattle.source_reader.specs.Tokens.{past_gap, token_at}
 use Rattle.source_reader.specs.Plan.{Plan, done, refuse, next, Spelled, Faulty, onward, run}
@@ -17,44 +17,44 @@ pub not_both : {A : Type 0} {r : Result A Fault} (x : A) (fault : Fault) → r �
 not_both x fault e f = cc
 
 -- what a reading went through
-onward-ok : {A X : Type 0} (r : Result (A × Spot) Fault) (go_on : A → Spot → Result (X × Spot) Fault) (x : X × Spot) → onward r go_on ≡ Ok x
-    → (a : A) × (s : Spot) × (r ≡ Ok (a, s)) × (go_on a s ≡ Ok x)
+onward-ok : {A X : Type 0} (r : Result (A × Input) Fault) (go_on : A → Input → Result (X × Input) Fault) (x : X × Input) → onward r go_on ≡ Ok x
+    → (a : A) × (s : Input) × (r ≡ Ok (a, s)) × (go_on a s ≡ Ok x)
 onward-ok (Ok y) go_on x e = (y.0, y.1, refl, e)
 onward-ok (Err fault) go_on x e = absurd (cc)
 
-onward-err : {A X : Type 0} (r : Result (A × Spot) Fault) (go_on : A → Spot → Result (X × Spot) Fault) (fault : Fault) → onward r go_on ≡ Err fault
-    → (r ≡ Err fault) ⊎ ((a : A) × (s : Spot) × (r ≡ Ok (a, s)) × (go_on a s ≡ Err fault))
+onward-err : {A X : Type 0} (r : Result (A × Input) Fault) (go_on : A → Input → Result (X × Input) Fault) (fault : Fault) → onward r go_on ≡ Err fault
+    → (r ≡ Err fault) ⊎ ((a : A) × (s : Input) × (r ≡ Ok (a, s)) × (go_on a s ≡ Err fault))
 onward-err (Ok y) go_on fault e = inr (y.0, y.1, refl, e)
 onward-err {X = X} (Err own) go_on fault e =
-    let given : Fault → Result (X × Spot) Fault = λ (f : Fault). Err f in
+    let given : Fault → Result (X × Input) Fault = λ (f : Fault). Err f in
     let same : own ≡ fault = one_fault {r = given own} own fault refl e in inl (ap (λ (f : Fault). Err f) same)
 
 module _ (exact : TokenIsExact) (faults : TokenFaultIsExact) where
   -- what is read is so spelled
-  pub run-spelled : {X : Type 0} (p : Plan X) (s after : Spot) (x : X) → run p s ≡ Ok (x, after) → Spelled p x s after
+  pub run-spelled : {X : Type 0} (p : Plan X) (s after : Input) (x : X) → run p s ≡ Ok (x, after) → Spelled p x s after
   run-spelled {X = X} (done y) s after x e =
-      let given : X × Spot → Result (X × Spot) Fault = λ (v : X × Spot). Ok v in
+      let given : X × Input → Result (X × Input) Fault = λ (v : X × Input). Ok v in
       let same = one_value {r = given (y, s)} (y, s) (x, after) refl e in
-      (ap (λ (v : X × Spot). v.0) same, ap (λ (v : X × Spot). v.1) same)
+      (ap (λ (v : X × Input). v.0) same, ap (λ (v : X × Input). v.1) same)
   run-spelled (refuse at) s after x e = absurd (cc)
   run-spelled (next more) s after x e =
       let h = onward-ok (token_at (past_gap s)) (λ t rest. run (more (past_gap s).at t) rest) (x, after) e in
       (h.0, h.1, (exact (past_gap s) h.1 h.0).0 h.2, run-spelled (more (past_gap s).at h.0) h.1 after x h.3)
 
   -- what is so spelled is read
-  pub spelled-run : {X : Type 0} (p : Plan X) (s after : Spot) (x : X) → Spelled p x s after → run p s ≡ Ok (x, after)
+  pub spelled-run : {X : Type 0} (p : Plan X) (s after : Input) (x : X) → Spelled p x s after → run p s ≡ Ok (x, after)
   spelled-run {X = X} (done y) s after x h =
-      ap (λ (v : X). Ok (v, s)) h.0 ∙ ap (λ (a : Spot). Ok (x, a)) h.1
+      ap (λ (v : X). Ok (v, s)) h.0 ∙ ap (λ (a : Input). Ok (x, a)) h.1
   spelled-run (refuse at) s after x h = absurd h
   spelled-run (next more) s after x h =
       ap (λ r. onward r (λ t rest. run (more (past_gap s).at t) rest)) ((exact (past_gap s) h.1 h.0).1 h.2)
       ∙ spelled-run (more (past_gap s).at h.0) h.1 after x h.3
 
   -- the fault that is known is the first thing that is wrong
-  pub run-faulty : {X : Type 0} (p : Plan X) (s : Spot) (fault : Fault) → run p s ≡ Err fault → Faulty p s fault
+  pub run-faulty : {X : Type 0} (p : Plan X) (s : Input) (fault : Fault) → run p s ≡ Err fault → Faulty p s fault
   run-faulty (done x) s fault e = absurd (cc)
   run-faulty {X = X} (refuse at) s fault e =
-      let given : Fault → Result (X × Spot) Fault = λ (f : Fault). Err f in
+      let given : Fault → Result (X × Input) Fault = λ (f : Fault). Err f in
       one_fault {r = given (unexpected at)} fault (unexpected at) e refl
   run-faulty (next more) s fault e =
       elim (onward-err (token_at (past_gap s)) (λ t rest. run (more (past_gap s).at t) rest) fault e) [
@@ -63,7 +63,7 @@ module _ (exact : TokenIsExact) (faults : TokenFaultIsExact) where
       ]
 
   -- the first thing that is wrong is known
-  pub faulty-run : {X : Type 0} (p : Plan X) (s : Spot) (fault : Fault) → Faulty p s fault → run p s ≡ Err fault
+  pub faulty-run : {X : Type 0} (p : Plan X) (s : Input) (fault : Fault) → Faulty p s fault → run p s ≡ Err fault
   faulty-run (done x) s fault h = absurd h
   faulty-run (refuse at) s fault h = ap (λ (f : Fault). Err f) (sym h)
   faulty-run (next more) s fault (inl h) =

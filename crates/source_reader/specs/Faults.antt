@@ -1,7 +1,7 @@
 -- Why a text is no source.
 use Rattle.std.specs.Prelude.{ℕ, ◌≡◌, Option, Some, None, Result, Ok, Err}
 use Rattle.adv_io.specs.Answers.{IsExpected}
-use Rattle.adv_text.specs.Reading.{Spot}
+use Rattle.adv_text.specs.Reading.{Input}
 use Rattle.source_reader.specs.declared.faults.SourceFault.{SourceFault}
 use Rattle.source_reader.specs.declared.faults.SourceFault.TheVariants as answer
 
@@ -34,7 +34,7 @@ fault_of answer.Memory = None
 abbrev pub Stands : {X : Type 0} → SourceFault → Result X Fault → Type 0
 Stands fault read = IsExpected fault_of fault read
 
--- a function answers what is read, and leaves the spot after it
-abbrev pub Reads : {X : Type 0} → Result (X × Spot) Fault → Result X SourceFault → Spot → Type 0
+-- a function answers what is read, and leaves the input after it
+abbrev pub Reads : {X : Type 0} → Result (X × Input) Fault → Result X SourceFault → Input → Type 0
 Reads read (Ok x) after = read ≡ Ok (x, after)
 Reads read (Err fault) after = Stands fault read

@@ -1,6 +1,6 @@
 -- The laws of the language.
 use Rattle.std.specs.Prelude.{ℕ, ◌≡◌, ◌⊎◌, ◌↔◌, List, Ok, Err}
-use Rattle.adv_text.specs.Reading.{Spot}
+use Rattle.adv_text.specs.Reading.{Input}
 use Rattle.adv_text.specs.Laws.{AreBytes}
 use Rattle.source_reader.specs.declared.tokens.Token.{Token}
 use Rattle.source_reader.specs.declared.tree.Source.{Source}
@@ -13,11 +13,11 @@ use Rattle.source_reader.specs.WellFormed.{WellFormed}
 
 -- a token is read exactly where it is spelled
 abbrev pub TokenIsExact : Type 0
-TokenIsExact = (s after : Spot) (t : Token) → (token_at s ≡ Ok (t, after)) ↔ TokenTo s t after
+TokenIsExact = (s after : Input) (t : Token) → (token_at s ≡ Ok (t, after)) ↔ TokenTo s t after
 
 -- a fault is answered exactly where it stands
 abbrev pub TokenFaultIsExact : Type 0
-TokenFaultIsExact = (s : Spot) (fault : Fault) → (token_at s ≡ Err fault) ↔ TokenFault s fault
+TokenFaultIsExact = (s : Input) (fault : Fault) → (token_at s ≡ Err fault) ↔ TokenFault s fault
 
 -- ---- texts
 

@@ -1,6 +1,6 @@
 -- The text of a source.
 use Rattle.std.specs.Prelude.{ℕ, ◌≡◌, List, [], ◌∷◌, ℤ, Result, Ok, Err, codes}
-use Rattle.adv_text.specs.Reading.{Spot, spot}
+use Rattle.adv_text.specs.Reading.{Input, input}
 use Rattle.source_reader.specs.declared.settings.Settings.{Settings}
 use Rattle.source_reader.specs.declared.tree.At.{At}
 use Rattle.source_reader.specs.declared.tree.Ref.{Ref}
@@ -93,22 +93,22 @@ source = settings >>= lists
 
 -- the bytes are a text of the source
 abbrev pub SourceText : List ℕ → Source → Type 0
-SourceText bytes tree = (after : Spot) × Spelled source tree (spot 0 bytes) after
+SourceText bytes tree = (after : Input) × Spelled source tree (input 0 bytes) after
 
 -- this is the first thing that is wrong with the bytes
 abbrev pub TextFault : List ℕ → Fault → Type 0
-TextFault bytes fault = Faulty source (spot 0 bytes) fault
+TextFault bytes fault = Faulty source (input 0 bytes) fault
 
 -- ---- reading as a function of the bytes
 
--- what was read, without the spot after it
-abbrev pub value_of : {X : Type 0} → Result (X × Spot) Fault → Result X Fault
+-- what was read, without the input after it
+abbrev pub value_of : {X : Type 0} → Result (X × Input) Fault → Result X Fault
 value_of (Ok read) = Ok read.0
 value_of (Err fault) = Err fault
 
 -- what the bytes read as: the source that they are a text of, or their first fault
 unfoldable pub source_in : List ℕ → Result Source Fault
-source_in bytes = value_of (run source (spot 0 bytes))
+source_in bytes = value_of (run source (input 0 bytes))
 
 -- ---- what the program answers
 

@@ -4,7 +4,7 @@ use Rattle.std.specs.List.{prefix_len}
 use Rattle.std.specs.Char.{is_ascii_digit, is_ascii_alphabetic, is_ascii_alphanumeric}
 use Rattle.adv_io.specs.Text.{is_whitespace}
 use Rattle.adv_text.specs.Spelling.{Number, BigNumber, Quoted, Opened, Unclosed, Overlong}
-use Rattle.adv_text.specs.Reading.{Spot, spot, SameEnd, number_at, quoted_at}
+use Rattle.adv_text.specs.Reading.{Input, input, SameEnd, number_at, quoted_at}
 use Rattle.adv_text.specs.Reading.{Fault as TextFault}
 use Rattle.adv_text.specs.Reading.{long_string as too_long}
 use Rattle.source_reader.specs.declared.tokens.Token.{Token}
@@ -25,9 +25,9 @@ gap true (b ∷ bytes) = 1 + gap (not (ends_comment b)) bytes
 gap false (b ∷ bytes) =
     if b == 35 then 1 + gap true bytes else if is_whitespace b then 1 + gap false bytes else 0
 
--- the spot after them
-abbrev pub past_gap : Spot → Spot
-past_gap s = spot (s.at + gap false s.rest) (drop (gap false s.rest) s.rest)
+-- the input after them
+abbrev pub past_gap : Input → Input
+past_gap s = input (s.at + gap false s.rest) (drop (gap false s.rest) s.rest)
 
 -- ---- what kind of token stands first
 
@@ -76,13 +76,13 @@ Spells (token.Mark b) bytes rest =
     (kind_of bytes ≡ other) × (b ≡ first_byte bytes) × (rest ≡ drop 1 bytes)
 Spells token.End bytes rest = (kind_of bytes ≡ nothing) × (rest ≡ bytes)
 
--- a token is spelled from a spot to another
-abbrev pub TokenTo : Spot → Token → Spot → Type 0
+-- a token is spelled from an input to another
+abbrev pub TokenTo : Input → Token → Input → Type 0
 TokenTo s t after = Spells t s.rest after.rest × SameEnd s after
 
--- why no token stands at a spot: a number or a word that is too long, or a string that isn't closed
+-- why no token begins the input: a number or a word that is too long, or a string that isn't closed
 -- or is too long
-abbrev pub TokenFault : Spot → Fault → Type 0
+abbrev pub TokenFault : Input → Fault → Type 0
 TokenFault s (unexpected place) = ⊥
 TokenFault s (big_number place) = (kind_of s.rest ≡ digits) × BigNumber s.rest × (place ≡ s.at)
 TokenFault s (open_string place) =
@@ -95,7 +95,7 @@ TokenFault s (long_name place) =
 -- ---- reading
 
 -- where a digit stands, or a sign and a digit, a number is refused for its size alone
-abbrev pub number_token : ℕ → Result (ℤ × Spot) TextFault → Result (Token × Spot) Fault
+abbrev pub number_token : ℕ → Result (ℤ × Input) TextFault → Result (Token × Input) Fault
 number_token at (Ok x) = Ok (token.Number x.0, x.1)
 number_token at (Err fault) = Err (big_number at)
 
@@ -104,22 +104,23 @@ string_fault at (too_long place) = long_string at
 string_fault at _ = open_string at
 
 -- where a quote stands, a string is refused because it isn't closed, or for its size
-abbrev pub quoted_token : ℕ → Result (List ℕ × Spot) TextFault → Result (Token × Spot) Fault
+abbrev pub quoted_token : ℕ → Result (List ℕ × Input) TextFault → Result (Token × Input) Fault
 quoted_token at (Ok x) = Ok (token.Quoted x.0, x.1)
 quoted_token at (Err fault) = Err (string_fault at fault)
 
-abbrev pub word_token : ℕ → Spot → Result (Token × Spot) Fault
+abbrev pub word_token : ℕ → Input → Result (Token × Input) Fault
 word_token size s =
-    if nat_le size 32 then Ok (token.Word (take size s.rest), spot (s.at + size) (drop size s.rest))
+    if nat_le size 32
+    then Ok (token.Word (take size s.rest), input (s.at + size) (drop size s.rest))
     else Err (long_name s.at)
 
-abbrev pub token_of : Kind → Spot → Result (Token × Spot) Fault
+abbrev pub token_of : Kind → Input → Result (Token × Input) Fault
 token_of nothing s = Ok (token.End, s)
 token_of digits s = number_token s.at (number_at s)
 token_of quote s = quoted_token s.at (quoted_at s)
 token_of letter s = word_token (word_size s.rest) s
-token_of other s = Ok (token.Mark (first_byte s.rest), spot (s.at + 1) (drop 1 s.rest))
+token_of other s = Ok (token.Mark (first_byte s.rest), input (s.at + 1) (drop 1 s.rest))
 
--- the token at a spot, and the spot after it
-unfoldable pub token_at : Spot → Result (Token × Spot) Fault
+-- the token at an input, and the input after it
+unfoldable pub token_at : Input → Result (Token × Input) Fault
 token_at s = token_of (kind_of s.rest) s

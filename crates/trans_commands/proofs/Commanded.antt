@@ -19,7 +19,7 @@ use Rattle.scott_types.specs.Phrase.{text_of}
 use Rattle.scott_types.specs.Database.{Database}
 use Rattle.scott_types.specs.Style.{in_style}
 use Rattle.scott_rules.specs.Commands.{go_verb, is_direction}
-use Rattle.scott_rules.specs.Outcomes.{Outcome}
+use Rattle.scott_rules.specs.Progress.{Progress}
 use Rattle.scott_rules.specs.Rounds.{walk_result, by_actions, going, command_result}
 use Rattle.trans_specs.proofs.Lengths.{there as is_there}
 use Rattle.trans_specs.specs.Tables.{or_zero}
@@ -38,12 +38,12 @@ module _ {style : Style} {db : Database} {p : Program} (known : Known style db p
     (typed : List ℕ) (w : Stage) (stands : StandsFor db s typed w) (verb : ℕ)
     (spoken : 0 < verb) (verb_is : w.globals (codes "vnum") ≡ Some (pos verb)) (d : ℕ)
     (room : search_room ≤ suc (suc d)) where
-  abbrev Commands : Traced Step Outcome → Type 0
+  abbrev Commands : Traced Step Progress → Type 0
   Commands r = CallActs r.value.over db p (suc (suc (suc (suc (suc (suc (suc d)))))))
       (codes "command") [] w typed r.value.state r.events (obey_steps db + walk_steps db + 30)
 
   -- the verb is obeyed, whatever it is
-  abbrev Obeys : Option ℕ → Traced Step Outcome → Type 0
+  abbrev Obeys : Option ℕ → Traced Step Progress → Type 0
   Obeys noun r = CallActs r.value.over db p (suc (suc (suc (suc (suc (suc d)))))) (codes "obey")
       (pos verb ∷ pos (or_zero noun) ∷ []) w typed r.value.state r.events (obey_steps db)
 
@@ -120,7 +120,7 @@ module _ {style : Style} {db : Database} {p : Program} (known : Known style db p
 -- ---- the specification
 
 ends_by : (style : Style) {db : Database} {p : Program} {d : ℕ} {w : Stage} {typed : List ℕ}
-    {over : Option ℕ} (t : Traced Step Outcome)
+    {over : Option ℕ} (t : Traced Step Progress)
     → CallActs over db p d (codes "command") [] w typed t.value.state t.events (command_steps db)
     → CommandEnds over (in_style style db) p d (codes "command") w typed t
 ends_by style {db} {p} {d} {w} {typed} {over} t x = by over x.acts where

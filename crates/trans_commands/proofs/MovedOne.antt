@@ -24,7 +24,7 @@ use Rattle.scott_types.specs.Database.{Database}
 use Rattle.scott_types.specs.ItemText.{get_word}
 use Rattle.scott_types.specs.Style.{in_style}
 use Rattle.scott_rules.specs.Words.{is_empty, is_typed, entries_of, column_of, root}
-use Rattle.scott_rules.specs.Outcomes.{Outcome}
+use Rattle.scott_rules.specs.Progress.{Progress}
 use Rattle.scott_rules.specs.Transfer.{verb_for, is_at_hand, is_refused, item_named, one_moved, one_from, one_transferred}
 use Rattle.trans_specs.specs.Tables.{or_zero, class_of_noun}
 use Rattle.trans_specs.specs.Standing.{StandsFor}
@@ -57,7 +57,7 @@ named_less t size word s i (item ∷ items) k h =
 module _ {style : Style} {db : Database} {p : Program} (known : Known style db p) (s : State)
     (typed : List ℕ) (w : Stage) (stands : StandsFor db s typed w) (t : Transfer) (d : ℕ)
     (room : text_room ≤ d) where
-  abbrev Moves : Option ℕ → Traced Step Outcome → Type 0
+  abbrev Moves : Option ℕ → Traced Step Progress → Type 0
   Moves noun r = CallActs r.value.over db p (suc (suc (suc d))) (codes "move_one")
       (pos (verb_for t) ∷ pos (or_zero noun) ∷ []) w typed r.value.state r.events (one_steps db)
 

@@ -26,7 +26,7 @@ use Rattle.scott_types.specs.declared.endings.Transfer.TheVariants.{PickUp, PutD
 use Rattle.scott_types.specs.Database.{Database}
 use Rattle.scott_types.specs.Style.{in_style}
 use Rattle.scott_rules.specs.Commands.{get_verb, drop_verb}
-use Rattle.scott_rules.specs.Outcomes.{Outcome, goes_on}
+use Rattle.scott_rules.specs.Progress.{Progress, goes_on}
 use Rattle.scott_rules.specs.Groups.{groups}
 use Rattle.scott_rules.specs.Search.{SearchOutcome, search_result}
 use Rattle.scott_rules.specs.Transfer.{verb_for, is_all, all_transferred, one_transferred, transfer}
@@ -100,7 +100,7 @@ module _ {style : Style} {db : Database} {p : Program} (known : Known style db p
   abbrev values : List ℤ
   values = pos verb ∷ pos (or_zero noun) ∷ []
 
-  abbrev Obeys : Traced Step Outcome → Type 0
+  abbrev Obeys : Traced Step Progress → Type 0
   Obeys r = CallActs r.value.over db p (suc (suc (suc (suc (suc (suc d)))))) (codes "obey") values w
       typed r.value.state r.events (obey_steps db)
 

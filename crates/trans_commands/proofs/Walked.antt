@@ -24,7 +24,7 @@ use Rattle.scott_types.specs.Database.{Database, room_at}
 use Rattle.scott_types.specs.Room.{exit_of}
 use Rattle.scott_types.specs.Style.{in_style}
 use Rattle.scott_types.specs.State.{is_dark, Fits}
-use Rattle.scott_rules.specs.Outcomes.{Outcome, goes_on}
+use Rattle.scott_rules.specs.Progress.{Progress, goes_on}
 use Rattle.scott_rules.specs.Rounds.{moved_to, no_way, walk_result}
 use Rattle.trans_specs.proofs.Lengths.{few}
 use Rattle.trans_specs.specs.Standing.{StandsFor}
@@ -153,7 +153,7 @@ module _ {style : Style} {db : Database} {p : Program} (known : Known style db p
     }
 
     -- by whether there is an exit
-    abbrev beyond : Bool → Traced Step Outcome
+    abbrev beyond : Bool → Traced Step Progress
     beyond none = if none then no_way style (is_dark s) s else
         traced_text (text_of Moved) (goes_on (moved_to to s))
 

@@ -22,7 +22,7 @@ use Rattle.scott_types.specs.declared.endings.Ran.{Ran}
 use Rattle.scott_types.specs.declared.endings.Ran.TheVariants.{Not, Passed, Over}
 use Rattle.scott_types.specs.Database.{action_at}
 use Rattle.scott_types.specs.Style.{Game}
-use Rattle.scott_rules.specs.Outcomes.{goes_on}
+use Rattle.scott_rules.specs.Progress.{goes_on}
 use Rattle.scott_rules.specs.Actions.{ActionOutcome, goes_on_after, try_action}
 use Rattle.scott_rules.specs.Groups.{Group, tail_tried, passed_or_over, with_tail, after_head, group_tried}
 use Rattle.trans_specs.specs.Standing.{StandsFor}

@@ -17,7 +17,7 @@ use Rattle.scott_types.specs.declared.endings.Ran.TheVariants.{Not, Passed, Over
 use Rattle.scott_types.specs.Database.{Database, action_at}
 use Rattle.scott_types.specs.Style.{Game}
 use Rattle.scott_types.specs.Action.{is_zero_action}
-use Rattle.scott_rules.specs.Outcomes.{Outcome, and_then}
+use Rattle.scott_rules.specs.Progress.{Progress, and_then}
 use Rattle.scott_rules.specs.Actions.{ActionOutcome, try_action}
 use Rattle.scott_rules.specs.Groups.{over_of, outcome_of, tail_tried}
 use Rattle.trans_specs.specs.Standing.{StandsFor}
@@ -115,7 +115,7 @@ module _ {db : Database} {p : Program} {d : ℕ} {noun : List ℕ} {scope : Scop
 
   -- a call that returns or ends the game, and those after it
   call_next : (ran : Ran) (k : ℕ) (ks : List ℕ) {w : Stage} (t : State) (steps : List Step)
-      (n : ℕ) {m : ℕ} (rest : State → Traced Step Outcome)
+      (n : ℕ) {m : ℕ} (rest : State → Traced Step Progress)
       → CallRan ran db p d (line_name k) w noun t steps n
       → ((w1 : Stage) → StandsFor db t noun w1 → BlockPasses (rest t).value.over db p d
       (calls_of ks) scope w1 noun (rest t).value.state (rest t).events m)

@@ -10,7 +10,7 @@ use Rattle.scott_types.specs.Database.{Database, action_at}
 use Rattle.scott_types.specs.Style.{Game}
 use Rattle.scott_types.specs.Opcode.{opcode_of}
 use Rattle.scott_types.specs.Action.{is_zero, is_zero_action, opcode_numbers, parameters}
-use Rattle.scott_rules.specs.Outcomes.{goes_on, and_then}
+use Rattle.scott_rules.specs.Progress.{goes_on, and_then}
 use Rattle.scott_rules.specs.Opcodes.{run_opcodes}
 use Rattle.scott_rules.specs.Actions.{condition_holds, passes, is_more, goes_on_after, ran_of, ran_to, performed, try_action}
 use Rattle.scott_rules.specs.Groups.{outcome_of, tail_tried}

@@ -8,7 +8,7 @@ use Rattle.scott_types.specs.declared.endings.Found.{Found}
 use Rattle.scott_types.specs.declared.endings.Found.TheVariants.{NoMatch, Matched, Done, Over}
 use Rattle.scott_types.specs.Database.{Database}
 use Rattle.scott_types.specs.Style.{Game}
-use Rattle.scott_rules.specs.Outcomes.{Outcome}
+use Rattle.scott_rules.specs.Progress.{Progress}
 use Rattle.scott_rules.specs.Groups.{groups}
 use Rattle.scott_rules.specs.Search.{SearchOutcome, search_result}
 use Rattle.scott_rules.specs.Rounds.{command_result}
@@ -62,13 +62,13 @@ SearchSpec game p name = (verb : ℕ) (noun : Option ℕ) (s : State) (typed : L
 
 -- it returns, with some value, and the game goes on, or the game ends
 pub record CommandReturns (game : Game) (p : Program) (d : ℕ) (name : List ℕ) (w : Stage)
-    (typed : List ℕ) (t : Traced Step Outcome) : Type 0 where
+    (typed : List ℕ) (t : Traced Step Progress) : Type 0 where
   pub value : ℤ
   pub leaves : CallLeaves p d name [] w value game.db t.value.state typed t.events
       (command_steps game.db)
 
 abbrev pub CommandEnds : Option ℕ → Game → Program → ℕ → List ℕ → Stage → List ℕ
-    → Traced Step Outcome → Type 0
+    → Traced Step Progress → Type 0
 CommandEnds None game p d name w typed t = CommandReturns game p d name w typed t
 CommandEnds (Some ending) game p d name w typed t =
     CallEndsGame p d name [] w t.value.state t.events ending (command_steps game.db)

@@ -23,7 +23,7 @@ use Rattle.scott_types.specs.declared.endings.Position.TheVariants.{Fresh, Draw,
 use Rattle.scott_types.specs.Phrase.{text_of}
 use Rattle.scott_types.specs.Database.{Database}
 use Rattle.scott_types.specs.Style.{Game}
-use Rattle.scott_rules.specs.Outcomes.{Outcome}
+use Rattle.scott_rules.specs.Progress.{Progress}
 use Rattle.scott_rules.specs.Commands.{Span, split, typed_noun, word_at, heard}
 use Rattle.scott_rules.specs.Rounds.{Answered, command_result, turn_ended, unknown_word, by_heard}
 use Rattle.scott_rules.specs.Laws.{WordNamesLeastMatch}
@@ -182,7 +182,7 @@ module _ (game : Game) (p : Program) (asked : ℕ) (has : HasRound p asked)
     abbrev noun_text : List ℕ
     noun_text = typed_noun line
 
-    abbrev obeyed : Traced Step Outcome
+    abbrev obeyed : Traced Step Progress
     obeyed = command_result game noun_text verb noun s
 
     abbrev ended : Option ℕ → Traced Step Answered

@@ -17,13 +17,13 @@ use Rattle.trans_specs.specs.Views.{naturals}
 use Rattle.trans_words.proofs.Trees.{word_array, has_base, entry_letter, below_size, goes_on, letters_loop, at_size, is_same}
 use Rattle.trans_words.proofs.Pairs.{second_of_both, first_of_both, second_of_either, first_of_either}
 use Rattle.trans_words.proofs.Matching.{agree}
-use Rattle.trans_words.proofs.Standing.{Stands, byte_there}
+use Rattle.trans_words.proofs.Standing.{BytesStand, byte_there}
 
 -- the bytes of a word stand in the buffer, which is small
 pub record HasWord (word : List ℕ) (at : ℕ) (buffer : Option (List ℤ)) : Type 0 where
   pub all : List ℤ
   pub all_are : buffer ≡ Some all
-  pub stands : Stands word at all
+  pub stands : BytesStand word at all
   pub small : at + length word < 32768
 
 module _ (p : Program) (w : Stage) (word : List ℕ) (a : ℕ)

@@ -19,14 +19,14 @@ use Rattle.inform_logic.proofs.Loops.{while, while_once_more, while_ends}
 use Rattle.inform_logic.proofs.Routines.{does_within, routine}
 use Rattle.trans_words.proofs.Trees.{both, below_end, is_space, after_loop, after_routine}
 use Rattle.trans_words.proofs.Pairs.{second_of_both, first_of_both}
-use Rattle.trans_words.proofs.Standing.{Stands, byte_there}
+use Rattle.trans_words.proofs.Standing.{BytesStand, byte_there}
 
 -- a line stands in the buffer from entry 2 on, with its length in entry 1
 pub record LineThere (line : List ℕ) (buffer : Option (List ℤ)) : Type 0 where
   pub all : List ℤ
   pub all_are : buffer ≡ Some all
   pub size_is : slice_get all 1 ≡ Some (pos (length line))
-  pub stands : Stands line 2 all
+  pub stands : BytesStand line 2 all
   pub short : length line ≤ 120
 
 module _ (p : Program) (w : Stage) (line : List ℕ)

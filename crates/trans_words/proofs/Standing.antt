@@ -6,13 +6,13 @@ use Rattle.trans_specs.specs.Views.{naturals}
 use Rattle.trans_specs.specs.Standing.{BytesAt}
 
 -- these bytes stand among the entries from this one on, and then there are others
-pub record Stands (bytes : List ℕ) (at : ℕ) (all : List ℤ) : Type 0 where
+pub record BytesStand (bytes : List ℕ) (at : ℕ) (all : List ℤ) : Type 0 where
   pub others : List ℤ
   pub is : drop at all ≡ naturals bytes ++ others
 
 -- as the tables and the buffer say it, and back
 pub by_bytes : (bytes : List ℕ) (at : ℕ) (all : List ℤ)
-    → take (length bytes) (drop at all) ≡ naturals bytes → Stands bytes at all
+    → take (length bytes) (drop at all) ≡ naturals bytes → BytesStand bytes at all
 by_bytes bytes at all h = record {
   others = drop (length bytes) (drop at all);
   is = sym (take-append-drop (length bytes) (drop at all))
@@ -20,7 +20,7 @@ by_bytes bytes at all h = record {
 }
 
 pub to_bytes : (bytes : List ℕ) (at : ℕ) (all : List ℤ) {entries : Option (List ℤ)}
-    → entries ≡ Some all → Stands bytes at all → BytesAt bytes at entries
+    → entries ≡ Some all → BytesStand bytes at all → BytesAt bytes at entries
 to_bytes bytes at all there h = record {
   all = all;
   all_are = there;
@@ -45,7 +45,7 @@ among [] others (suc i) h = cc
 among (b ∷ bytes) others zero h = ap (λ (xs : List ℕ). slice_get (naturals xs) 0) h
 among (b ∷ bytes) others (suc i) h = among bytes others i h
 
-pub byte_there : {bytes : List ℕ} {at : ℕ} {all : List ℤ} → Stands bytes at all → (i : ℕ) {x : ℕ}
+pub byte_there : {bytes : List ℕ} {at : ℕ} {all : List ℤ} → BytesStand bytes at all → (i : ℕ) {x : ℕ}
     {rest : List ℕ} → drop i bytes ≡ x ∷ rest → slice_get all (at + i) ≡ Some (pos x)
 byte_there {bytes} {at} {all} h i left = get_after all at i
     ∙ ap (λ (xs : List ℤ). slice_get xs i) h.is ∙ among bytes h.others i left
@@ -54,7 +54,7 @@ byte_there {bytes} {at} {all} h i left = get_after all at i
 
 -- the bytes after the first so many
 pub stands_after : (bytes : List ℕ) (at k : ℕ) (all : List ℤ) → k ≤ length bytes
-    → Stands bytes at all → Stands (drop k bytes) (at + k) all
+    → BytesStand bytes at all → BytesStand (drop k bytes) (at + k) all
 stands_after bytes at k all few h = record {
   others = h.others;
   is = sym (drop-drop k at all) ∙ ap (drop k) h.is ∙ after bytes k few;
@@ -66,8 +66,8 @@ stands_after bytes at k all few h = record {
   after (b ∷ bytes) (suc k) few = after bytes k (omega (arith, few))
 
 -- the first so many
-pub stands_first : (bytes : List ℕ) (at n : ℕ) (all : List ℤ) → Stands bytes at all
-    → Stands (take n bytes) at all
+pub stands_first : (bytes : List ℕ) (at n : ℕ) (all : List ℤ) → BytesStand bytes at all
+    → BytesStand (take n bytes) at all
 stands_first bytes at n all h = record {
   others = naturals (drop n bytes) ++ h.others;
   is = h.is ∙ ap (λ (xs : List ℕ). naturals xs ++ h.others) (sym (take-append-drop n bytes))

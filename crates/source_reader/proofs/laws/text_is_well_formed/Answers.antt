@@ -1,4 +1,4 @@
-use Rattle.adv_text.specs.Reading.{spot}
+use Rattle.adv_text.specs.Reading.{input}
 use Rattle.source_reader.specs.Text.{source}
 use Rattle.source_reader.specs.WellFormed.{WellFormed}
 use Rattle.source_reader.proofs.Always.{always}
@@ -11,4 +11,4 @@ returns c bytes tree all h =
       string_is_text = c.string_is_text.ensures;
       number_leaves_bytes = c.number_leaves_bytes.ensures;
       string_leaves_bytes = c.string_leaves_bytes.ensures;
-    }) WellFormed source tree (spot 0 bytes) h.0 source_fits h.1 all
+    }) WellFormed source tree (input 0 bytes) h.0 source_fits h.1 all

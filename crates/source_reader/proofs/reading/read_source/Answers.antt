@@ -1,5 +1,5 @@
 use Rattle.std.proofs.Common.{◌≡◌, ℕ, List, Result, subst, arith}
-use Rattle.adv_text.specs.Reading.{Spot, spot}
+use Rattle.adv_text.specs.Reading.{Input, input}
 use Rattle.source_reader.specs.declared.tree.Source.{Source}
 use Rattle.source_reader.specs.declared.faults.SourceFault.{SourceFault}
 use Rattle.source_reader.specs.Faults.{Reads}
@@ -9,9 +9,9 @@ use Rattle.source_reader.proofs.Answered.{bytes_are, well_formed, found, only, r
 use Rattle.source_reader.proofs.reading.read_source.Goals as goal
 
 -- what is read from a new scan is read from the beginning
-from_start : (bytes : List ℕ) (s after : Spot) (r : Result Source SourceFault) → s ≡ spot 0 bytes → Reads (run source s) r after
-    → Reads (run source (spot 0 bytes)) r after
-from_start bytes s after r e h = subst (λ (t : Spot). Reads (run source t) r after) e h
+from_start : (bytes : List ℕ) (s after : Input) (r : Result Source SourceFault) → s ≡ input 0 bytes → Reads (run source s) r after
+    → Reads (run source (input 0 bytes)) r after
+from_start bytes s after r e h = subst (λ (t : Input). Reads (run source t) r after) e h
 
 pub returns-clause-found : goal.returns-clause-found
 returns-clause-found c =

@@ -3,7 +3,7 @@ use Rattle.std.proofs.lemmas.Result.{err_from_is_err_and}
 use Rattle.inform_tree.specs.Statements.{statement_of}
 use Rattle.inform_grammar.specs.Rules as r
 use Rattle.inform_grammar.specs.Plan.{Plan, done, one, many}
-use Rattle.inform_grammar.specs.Reading.{Spot, Answer}
+use Rattle.inform_grammar.specs.Reading.{Input, Answer}
 use Rattle.inform_grammar.proofs.Binding.{and_then}
 use Rattle.inform_parser.specs.declared.stops.Stop.{Stop}
 use Rattle.inform_parser.specs.Reading.{read, StopsAt}
@@ -32,7 +32,7 @@ parts-loop-alloc-preserved t c =
     )
 
 -- a fault of what is read next is one of the whole
-stops : (front : List r.SwitchPart) (s after : Spot) (stop : Stop) (total : Answer (List r.SwitchPart))
+stops : (front : List r.SwitchPart) (s after : Input) (stop : Stop) (total : Answer (List r.SwitchPart))
     → read (many r.Part front done) s ≡ read (one r.Part (λ x. many r.Part (front ++ x ∷ []) done)) s
     → StopsAt after stop (read (one r.Part done) s) → read (many r.Part front done) s ≡ total → StopsAt after stop total
 stops front s after stop total more h same =

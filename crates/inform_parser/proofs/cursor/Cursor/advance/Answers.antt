@@ -1,5 +1,5 @@
 use Rattle.std.proofs.Common.{◌≡◌, sym, ◌∙◌, ap, length, arith}
-use Rattle.inform_grammar.specs.Reading.{Spot}
+use Rattle.inform_grammar.specs.Reading.{Input}
 use Rattle.inform_parser.specs.Glances.{first_glance, opened_within}
 use Rattle.inform_parser.specs.Reading.{read}
 use Rattle.inform_parser.specs.Nexts.{any_next}
@@ -8,17 +8,17 @@ use Rattle.inform_parser.proofs.cursor.Cursor.advance.Goals as goal
 
 pub returns-in_default : goal.returns-in_default
 returns-in_default c = record {
-  gives = ended c.args.self.now (ap (λ (s : Spot). first_glance s.rest) (sym c.self.view_is) ∙ sym c.self.invariant ∙ c.in_default.is);
-  ahead = omega (arith, ap (λ (s : Spot). length s.rest) c.self.view_is);
+  gives = ended c.args.self.now (ap (λ (s : Input). first_glance s.rest) (sym c.self.view_is) ∙ sym c.self.invariant ∙ c.in_default.is);
+  ahead = omega (arith, ap (λ (s : Input). length s.rest) c.self.view_is);
   taken = tt;
 }
 
 pub returns-in_default-opened_after : goal.returns-in_default-opened_after
 returns-in_default-opened_after c = record {
   gives = no_room c.args.self.now c.in-Some.seen
-      (ap (λ (s : Spot). first_glance s.rest) (sym c.self.view_is) ∙ sym c.self.invariant ∙ c.in-Some.is)
-      (ap (λ (s : Spot). opened_within c.in-Some.seen s.opened) (sym c.self.view_is) ∙ sym c.opened_after.ensures ∙ c.in_default-opened_after.is);
-  ahead = omega (arith, ap (λ (s : Spot). length s.rest) c.self.view_is);
+      (ap (λ (s : Input). first_glance s.rest) (sym c.self.view_is) ∙ sym c.self.invariant ∙ c.in-Some.is)
+      (ap (λ (s : Input). opened_within c.in-Some.seen s.opened) (sym c.self.view_is) ∙ sym c.opened_after.ensures ∙ c.in_default-opened_after.is);
+  ahead = omega (arith, ap (λ (s : Input). length s.rest) c.self.view_is);
   taken = tt;
 }
 
@@ -26,9 +26,9 @@ pub returns : goal.returns
 returns c =
     let seen = sym c.self.invariant ∙ c.in-Some.is in
     let fewer = fewer_left c.self.inside.bytes.now c.self.inside.rest.now c.in-Some.seen seen in
-    let whole = ap (λ (s : Spot). length s.rest) c.self.view_is in
+    let whole = ap (λ (s : Input). length s.rest) c.self.view_is in
     record {
-      gives = ap (λ (s : Spot). read any_next s) (sym c.self.view_is)
+      gives = ap (λ (s : Input). read any_next s) (sym c.self.view_is)
           ∙ one_taken c.self.inside.bytes.now c.self.inside.rest.now c.self.inside.opened c.in-Some-opened_after.opened c.in-Some.seen
           seen (sym c.opened_after.ensures ∙ c.in-Some-opened_after.is);
       ahead = omega (arith, fewer, whole);
