@@ -1,3 +1,4 @@
 pub mod Frames
 pub mod Stacks
 pub mod Needs
+pub mod Nexts

@@ -1,5 +1,4 @@
-//! The frames of a run of an Inform program, and what its next move needs; values and truth values
-//! that are there at once.
+//! The frames of a run of an Inform program, what its next move needs, and the next move of a value.
 #![tactic(auto)]
 
 // What has begun, and what is handed to it.
@@ -14,11 +13,20 @@ mod needs;
 mod immediate;
 mod words;
 
+// What a move does, and the moves of values.
+mod nexts;
+mod values;
+
 pub use frames::{Begin, Decide, Frame, Loop, Want};
 pub use immediate::{
     immediate_arguments, immediate_product, immediate_sum, immediate_truth, value_at_once,
 };
 pub use needs::{Need, need_of};
+pub use nexts::{Next, Said};
 pub use signals::{Halt, Signal};
 pub use stacks::{CALLS, Stack};
+pub use values::{
+    arguments_next, eval_next, evals, factor_next, goes_to, goes_with, product_next, sum_next,
+    trapped,
+};
 pub use words::{low_byte, multiplied, number, summed};

@@ -4,8 +4,8 @@ use Rattle.inform_meaning.specs.Frames as f
 use Rattle.inform_meaning.specs.Worlds.{Program, World}
 use Rattle.inform_moves.specs.Moves.{next}
 use Rattle.inform_frames.specs.Frames.{top_of, rest_of}
-use Rattle.inform_part_moves.specs.declared.nexts.Next.{Next}
-use Rattle.inform_part_moves.specs.Nexts.{MakesOf}
+use Rattle.inform_frames.specs.declared.nexts.Next.{Next}
+use Rattle.inform_frames.specs.Nexts.{MakesOf}
 
 -- the move of the innermost frame is that of the frame that stands there
 pub innermost_makes : (p : Program) (room : ℕ) (before after : World) (e : f.Outcome)

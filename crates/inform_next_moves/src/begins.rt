@@ -4,12 +4,11 @@ ghost use Rattle.inform_moves.specs.Moves.{begin_move};
 ghost use Rattle.inform_worlds.specs.Views.{world_of, program_seen};
 ghost use Rattle.inform_frames.specs.Frames.{begin_of};
 ghost use Rattle.inform_frames.specs.Stacks.{HasRoom};
-ghost use Rattle.inform_part_moves.specs.Nexts.{Changes};
+ghost use Rattle.inform_frames.specs.Nexts.{Changes};
 
-use crate::prints::prints_next;
 use crate::statements::{block_next, statement_next};
-use inform_frames::{Begin, Signal, Stack};
-use inform_part_moves::{Next, alter_next, eval_next, test_next};
+use inform_frames::{Begin, Next, Signal, Stack, eval_next};
+use inform_part_moves::{alter_next, prints_next, test_next};
 use inform_worlds::World;
 
 /// The move of what hasn't begun. A line and a draw are for the machine to take.

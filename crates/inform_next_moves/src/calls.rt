@@ -7,12 +7,11 @@ ghost use Rattle.inform_worlds.specs.Scopes.{values_of};
 ghost use Rattle.inform_worlds.specs.Views.{world_of, program_seen};
 ghost use Rattle.inform_frames.specs.declared.stacks.TheConstants.{CALLS};
 ghost use Rattle.inform_frames.specs.Stacks.{stack_of, HasRoom};
-ghost use Rattle.inform_part_moves.specs.Nexts.{Changes};
+ghost use Rattle.inform_frames.specs.Nexts.{Changes};
 
-use inform_frames::{Begin, Frame, Signal, Stack};
+use inform_frames::{Begin, Frame, Next, Signal, Stack, trapped};
 use inform_meaning::Trap;
 use inform_names::laws::meanings_are_of_directives;
-use inform_part_moves::{Next, trapped};
 use inform_tree::{Directive, Name, Routine};
 use inform_worlds::{Arguments, Scope, World};
 

@@ -4,8 +4,6 @@
 
 // The moves of statements.
 mod calls;
-mod choices;
-mod prints;
 mod statements;
 
 // The moves of what hasn't begun, of what waited for a value, and of any frame.

@@ -12,15 +12,15 @@ ghost use Rattle.inform_worlds.specs.Views.{world_of, program_seen};
 ghost use Rattle.inform_frames.specs.Frames as v;
 ghost use Rattle.inform_frames.specs.Frames.{loop_of, begin_of, want_of, decide_of, signal_of, IsCaller, top_of, rest_of};
 ghost use Rattle.inform_frames.specs.Stacks.{stack_of, HasRoom, HasPlace};
-ghost use Rattle.inform_part_moves.specs.Nexts.{Makes, Replaces};
+ghost use Rattle.inform_frames.specs.Nexts.{Makes, Replaces};
 
 use crate::begins::begin_next;
 use crate::calls::call_next;
 use crate::wants::want_next;
-use inform_frames::{Begin, CALLS, Decide, Frame, Halt, Loop, Signal, Stack, Want};
-use inform_part_moves::{
-    Next, all_next, any_next, arguments_next, body_next, goes_to, tested_next, turn_next,
+use inform_frames::{
+    Begin, CALLS, Decide, Frame, Halt, Loop, Next, Signal, Stack, Want, arguments_next, goes_to,
 };
+use inform_part_moves::{all_next, any_next, body_next, tested_next, turn_next};
 use inform_tree::{Expr, Name};
 use inform_worlds::{Arguments, World};
 

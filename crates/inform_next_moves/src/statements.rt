@@ -10,17 +10,14 @@ ghost use Rattle.inform_moves.specs.Moves.{call_parts, call_alone, branch_move, 
 ghost use Rattle.inform_worlds.specs.Views.{world_of, program_seen};
 ghost use Rattle.inform_frames.specs.Frames.{default_of, default_tree};
 ghost use Rattle.inform_frames.specs.Stacks.{HasRoom};
-ghost use Rattle.inform_part_moves.specs.Nexts.{Makes, Changes};
+ghost use Rattle.inform_frames.specs.Nexts.{Makes, Changes};
 
-use crate::choices::cases_next;
 use inform_frames::{
-    Begin, Decide, Frame, Halt, Signal, Stack, Want, immediate_arguments, immediate_truth,
-    value_at_once,
+    Begin, Decide, Frame, Halt, Next, Said, Signal, Stack, Want, evals, goes_to, goes_with,
+    immediate_arguments, immediate_truth, trapped, value_at_once,
 };
 use inform_meaning::Trap;
-use inform_part_moves::{
-    Next, Said, alter_next, do_loop, evals, for_next, goes_to, goes_with, trapped, while_loop,
-};
+use inform_part_moves::{alter_next, cases_next, do_loop, for_next, while_loop};
 use inform_tree::{Case, Cond, Expr, Name, Stmt};
 use inform_worlds::{Arguments, World};
 

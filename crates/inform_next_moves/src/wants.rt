@@ -4,15 +4,15 @@ ghost use Rattle.inform_moves.specs.Moves.{range_move, value_move};
 ghost use Rattle.inform_worlds.specs.Views.{world_of, program_seen};
 ghost use Rattle.inform_frames.specs.Frames.{want_of};
 ghost use Rattle.inform_frames.specs.Stacks.{HasRoom};
-ghost use Rattle.inform_part_moves.specs.Nexts.{Makes, Changes};
+ghost use Rattle.inform_frames.specs.Nexts.{Makes, Changes};
 
-use crate::choices::cases_next;
-use crate::prints::{says_char, says_number};
-use inform_frames::{Begin, Frame, Signal, Stack, Want, multiplied, summed};
+use inform_frames::{
+    Begin, Frame, Next, Signal, Stack, Want, arguments_next, factor_next, goes_to, multiplied,
+    product_next, sum_next, summed, trapped,
+};
 use inform_meaning::{Trap, compares, neg};
 use inform_part_moves::{
-    Next, arguments_next, assigns, entry_next, factor_next, goes_to, place_next, product_next,
-    right_next, store_next, sum_next, trapped,
+    assigns, cases_next, entry_next, place_next, right_next, says_char, says_number, store_next,
 };
 use inform_worlds::World;
 

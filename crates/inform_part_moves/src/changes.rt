@@ -7,11 +7,9 @@ ghost use Rattle.inform_meaning.specs.Worlds.{assigned, value_of, entry_at, entr
 ghost use Rattle.inform_moves.specs.Moves.{alter_move, entry_move, store_move, place_move};
 ghost use Rattle.inform_worlds.specs.Views.{world_of, program_seen};
 ghost use Rattle.inform_frames.specs.Stacks.{HasRoom};
-ghost use Rattle.inform_part_moves.specs.Nexts.{Hands, Changes, Altered};
+ghost use Rattle.inform_frames.specs.Nexts.{Hands, Changes, Altered};
 
-use crate::nexts::{Next, Said};
-use crate::values::{evals, trapped};
-use inform_frames::{Signal, Stack, Want, value_at_once};
+use inform_frames::{Next, Said, Signal, Stack, Want, evals, trapped, value_at_once};
 use inform_meaning::{Trap, add};
 use inform_tree::{Change, Expr, Name};
 use inform_worlds::World;

@@ -8,11 +8,12 @@ ghost use Rattle.inform_moves.specs.Moves.{tests, all_move, any_move, truth_part
 ghost use Rattle.inform_worlds.specs.Views.{world_of, program_seen};
 ghost use Rattle.inform_frames.specs.Frames.{decide_of};
 ghost use Rattle.inform_frames.specs.Stacks.{HasRoom};
-ghost use Rattle.inform_part_moves.specs.Nexts.{Makes};
+ghost use Rattle.inform_frames.specs.Nexts.{Makes};
 
-use crate::nexts::Next;
-use crate::values::{evals, goes_with};
-use inform_frames::{Begin, Decide, Frame, Signal, Stack, Want, immediate_truth, value_at_once};
+use inform_frames::{
+    Begin, Decide, Frame, Next, Signal, Stack, Want, evals, goes_with, immediate_truth,
+    value_at_once,
+};
 use inform_meaning::compares;
 use inform_tree::{Cond, Expr, Relation};
 use inform_worlds::World;

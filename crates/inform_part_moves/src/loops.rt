@@ -9,11 +9,9 @@ ghost use Rattle.inform_moves.specs.Moves.{Goes, Keeps, turn_test, turn_move, ch
 ghost use Rattle.inform_worlds.specs.Views.{world_of, program_seen};
 ghost use Rattle.inform_frames.specs.Frames.{loop_of, signal_of};
 ghost use Rattle.inform_frames.specs.Stacks.{HasRoom};
-ghost use Rattle.inform_part_moves.specs.Nexts.{Makes};
+ghost use Rattle.inform_frames.specs.Nexts.{Makes};
 
-use crate::nexts::Next;
-use crate::values::{goes_to, goes_with};
-use inform_frames::{Begin, Frame, Loop, Signal, Stack, immediate_truth};
+use inform_frames::{Begin, Frame, Loop, Next, Signal, Stack, goes_to, goes_with, immediate_truth};
 use inform_tree::{Change, Cond, Head, Stmt};
 use inform_worlds::World;
 

@@ -18,11 +18,11 @@ use Rattle.inform_moves.specs.Works.{work, works}
 use Rattle.inform_moves.specs.Laws.{RunsAdd, MovesMean, MovesOpen, RoomIsLeft, OpensAtMost, MovesFall, FallsBelow, MovesFit, FitsAfter, IsShallow, MovesNeed, MovesReady}
 use Rattle.inform_moves.specs.Readiness.{IsDry, AreDry, HasRoom, IsReady, effected_world, ReadyAfter}
 use Rattle.inform_frames.specs.declared.signals.Signal.TheVariants as g
-use Rattle.inform_part_moves.specs.declared.nexts.Said.{Said}
-use Rattle.inform_part_moves.specs.declared.nexts.Said.TheVariants as s
+use Rattle.inform_frames.specs.declared.nexts.Said.{Said}
+use Rattle.inform_frames.specs.declared.nexts.Said.TheVariants as s
 use Rattle.inform_frames.specs.Frames.{signal_of}
 use Rattle.inform_frames.specs.Frames.{top_of, rest_of}
-use Rattle.inform_part_moves.specs.Nexts.{Done, done, done_by, done_in, Made, made, made_of}
+use Rattle.inform_frames.specs.Nexts.{Done, done, done_by, done_in, Made, made, made_of}
 use Rattle.inform_frames.proofs.Innermost.{calls-first, calls-append}
 use Rattle.inform_run.specs.Points.{Point, first_need, next_need, makes_move, IsNext, said_of, MovesOn, StepsOn, Leads, Breaks}
 use Rattle.inform_run.specs.Machines.{LeadsOn, BreaksOn}

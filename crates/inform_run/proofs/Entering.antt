@@ -16,7 +16,7 @@ use Rattle.inform_steps.specs.Standing.{CallIsDue}
 use Rattle.inform_steps.specs.Pieces.{standing, entered_in}
 use Rattle.inform_steps.specs.Laws.{OnlyCallsEnter}
 use Rattle.inform_frames.specs.declared.signals.Signal.TheVariants as g
-use Rattle.inform_part_moves.specs.declared.nexts.Said.TheVariants as s
+use Rattle.inform_frames.specs.declared.nexts.Said.TheVariants as s
 use Rattle.inform_frames.specs.Frames.{signal_of}
 use Rattle.inform_run.specs.Points.{Point, config_at, run_from, first_need, next_need, EntersNone}
 use Rattle.inform_run.specs.Machines.{LeadsOn, LeadsSilently, EntersNoneOn, EntersNoneAnyway}

@@ -20,10 +20,10 @@ use Rattle.inform_moves.specs.Done.{effected, after_step, move_run}
 use Rattle.inform_moves.specs.Laws.{RunsAdd, IsSettled, MovesMean, MovesNeed}
 use Rattle.inform_frames.specs.declared.signals.Signal.{Signal}
 use Rattle.inform_frames.specs.declared.signals.Signal.TheVariants as g
-use Rattle.inform_part_moves.specs.declared.nexts.Said.{Said}
-use Rattle.inform_part_moves.specs.declared.nexts.Said.TheVariants as s
+use Rattle.inform_frames.specs.declared.nexts.Said.{Said}
+use Rattle.inform_frames.specs.declared.nexts.Said.TheVariants as s
 use Rattle.inform_frames.specs.Frames.{signal_of}
-use Rattle.inform_part_moves.specs.Nexts.{Done, done, done_by, done_in}
+use Rattle.inform_frames.specs.Nexts.{Done, done, done_by, done_in}
 use Rattle.inform_run.specs.Points.{Point, config_at, run_from, first_need, next_need, IsNext, said_of, MovesOn, Leads, Ends, Breaks}
 
 settles : (s : Signal) → IsSettled (signal_of s)

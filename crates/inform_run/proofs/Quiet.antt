@@ -10,8 +10,8 @@ use Rattle.inform_moves.specs.Needs.{Nothing, AStep}
 use Rattle.inform_moves.specs.Laws.{MovesMean, MovesNeed}
 use Rattle.inform_frames.specs.declared.signals.Signal.{Signal}
 use Rattle.inform_frames.specs.declared.signals.Signal.TheVariants as g
-use Rattle.inform_part_moves.specs.declared.nexts.Said.TheVariants as s
-use Rattle.inform_part_moves.specs.Nexts.{Altered, made, done_by, made_of}
+use Rattle.inform_frames.specs.declared.nexts.Said.TheVariants as s
+use Rattle.inform_frames.specs.Nexts.{Altered, made, done_by, made_of}
 use Rattle.inform_run.specs.Points.{Point, next_need, MovesOn}
 use Rattle.inform_run.specs.Machines.{LeadsSilently}
 use Rattle.inform_run.proofs.Moving.{needed}

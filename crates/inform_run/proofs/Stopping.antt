@@ -10,8 +10,8 @@ use Rattle.inform_moves.specs.Needs.{AStep, ALine, ADraw, need_in}
 use Rattle.inform_moves.specs.Laws.{RunsAdd, MovesMean, MovesNeed}
 use Rattle.inform_frames.specs.declared.signals.Signal.{Signal}
 use Rattle.inform_frames.specs.declared.signals.Signal.TheVariants as g
-use Rattle.inform_part_moves.specs.declared.nexts.Said.{Said}
-use Rattle.inform_part_moves.specs.declared.nexts.Said.TheVariants as s
+use Rattle.inform_frames.specs.declared.nexts.Said.{Said}
+use Rattle.inform_frames.specs.declared.nexts.Said.TheVariants as s
 use Rattle.inform_frames.specs.Frames.{signal_of}
 use Rattle.inform_run.specs.Points.{Point, next_need, said_of, MovesOn, StepsOn, Ends, Breaks}
 use Rattle.inform_run.specs.Machines.{LeadsOn}

@@ -13,10 +13,10 @@ use Rattle.inform_entered.specs.Entered.{newly_entered}
 use Rattle.inform_moves.specs.Moves.{Move, pushed_in, outcome_in, effect_in, next}
 use Rattle.inform_moves.specs.Needs.{Need, Nothing, AStep, need, need_in}
 use Rattle.inform_frames.specs.declared.signals.Signal.{Signal}
-use Rattle.inform_part_moves.specs.declared.nexts.Said.{Said}
-use Rattle.inform_part_moves.specs.declared.nexts.Said.TheVariants as s
+use Rattle.inform_frames.specs.declared.nexts.Said.{Said}
+use Rattle.inform_frames.specs.declared.nexts.Said.TheVariants as s
 use Rattle.inform_frames.specs.Frames.{signal_of}
-use Rattle.inform_part_moves.specs.Nexts.{done_by, done_in}
+use Rattle.inform_frames.specs.Nexts.{done_by, done_in}
 
 -- the frames, what is handed to the innermost of them, and the world
 pub record Point : Type 0 where

@@ -16,13 +16,12 @@ ghost use Rattle.inform_run.specs.Points.{said_of, next_need, makes_move, MovesO
 ghost use Rattle.inform_run.specs.Machines.{point_of, IsFit};
 
 use adv_io::{Console, ConsoleFault};
-use inform_frames::{Begin, Frame, Need, Signal, Stack, need_of};
+use inform_frames::{Begin, Frame, Need, Said, Signal, Stack, need_of};
 use inform_moves::laws::{
     frames_are_few, moves_fit, moves_need, moves_open, moves_ready, room_is_left,
 };
 use inform_names::laws::routines_are_shallow;
 use inform_next_moves::{next, statement_next};
-use inform_part_moves::Said;
 use inform_tree::Stmt;
 use inform_worlds::World;
 use itoa::Buffer;

@@ -4,7 +4,7 @@ use Rattle.inform_meaning.specs.Frames as f
 use Rattle.inform_moves.specs.Moves.{statement_move}
 use Rattle.inform_frames.specs.Frames.{rest_of}
 use Rattle.inform_frames.specs.Stacks.{stack_of}
-use Rattle.inform_part_moves.specs.Nexts.{made_of}
+use Rattle.inform_frames.specs.Nexts.{made_of}
 use Rattle.inform_worlds.specs.Views.{world_of, program_seen}
 use Rattle.inform_run.specs.Points.{Point, StepsOn}
 use Rattle.inform_run.specs.Machines.{point_of}

@@ -9,11 +9,10 @@ ghost use Rattle.inform_moves.specs.Moves.{default_move, cases_move};
 ghost use Rattle.inform_worlds.specs.Worlds.{program_of};
 ghost use Rattle.inform_frames.specs.Frames.{default_of};
 ghost use Rattle.inform_frames.specs.Stacks.{HasRoom};
-ghost use Rattle.inform_part_moves.specs.Nexts.{Makes};
+ghost use Rattle.inform_frames.specs.Nexts.{Makes};
 
-use inform_frames::{Begin, Frame, Signal, Stack, number};
+use inform_frames::{Begin, Frame, Next, Signal, Stack, goes_to, number};
 use inform_names::{Kind, Names};
-use inform_part_moves::{Next, goes_to};
 use inform_tree::{Case, Const, Name, Stmt};
 
 // From the first to the last.

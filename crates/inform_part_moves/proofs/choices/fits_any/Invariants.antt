@@ -1,7 +1,7 @@
 use Rattle.std.proofs.Common.{◌≡◌, drop}
 use Rattle.inform_meaning.specs.Statements.{fits_any}
 use Rattle.inform_worlds.specs.Worlds.{program_of}
-use Rattle.inform_next_moves.proofs.choices.fits_any.Given as goal
+use Rattle.inform_part_moves.proofs.choices.fits_any.Given as goal
 
 -- whether the value fits one of all is whether it fits one from here on
 abbrev pub invariant-loop-choice : goal.invariant-loop-choice

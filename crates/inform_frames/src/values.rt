@@ -8,13 +8,14 @@ ghost use Rattle.inform_worlds.specs.Scopes.{values_of};
 ghost use Rattle.inform_worlds.specs.Views.{world_of, program_seen};
 ghost use Rattle.inform_frames.specs.Frames.{IsPlain, frame_of, signal_of, want_of};
 ghost use Rattle.inform_frames.specs.Stacks.{HasRoom};
-ghost use Rattle.inform_part_moves.specs.Nexts.{Makes};
+ghost use Rattle.inform_frames.specs.Nexts.{Makes};
 
+use crate::frames::{Begin, Frame, Want};
+use crate::immediate::{immediate_arguments, immediate_product, immediate_sum, value_at_once};
 use crate::nexts::{Next, Said};
-use inform_frames::{
-    Begin, Frame, Halt, Signal, Stack, Want, immediate_arguments, immediate_product, immediate_sum,
-    number, value_at_once,
-};
+use crate::signals::{Halt, Signal};
+use crate::stacks::Stack;
+use crate::words::number;
 use inform_meaning::Trap;
 use inform_tree::{Expr, Name, ProdOp, SumOp};
 use inform_worlds::{Arguments, World};

@@ -5,9 +5,9 @@ use Rattle.inform_tree.specs.Statements.{Assignment}
 use Rattle.inform_meaning.specs.Worlds as w
 use Rattle.inform_meaning.specs.Frames as f
 use Rattle.inform_moves.specs.Moves as m
-use Rattle.inform_part_moves.specs.declared.nexts.Said.{Said}
-use Rattle.inform_part_moves.specs.declared.nexts.Said.TheVariants as s
-use Rattle.inform_part_moves.specs.declared.nexts.Next.{Next}
+use Rattle.inform_frames.specs.declared.nexts.Said.{Said}
+use Rattle.inform_frames.specs.declared.nexts.Said.TheVariants as s
+use Rattle.inform_frames.specs.declared.nexts.Next.{Next}
 use Rattle.inform_frames.specs.declared.stacks.Stack.{Stack}
 use Rattle.inform_frames.specs.Frames.{signal_of, rest_of}
 use Rattle.inform_frames.specs.Stacks.{stack_of}

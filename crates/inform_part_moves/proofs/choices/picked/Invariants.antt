@@ -3,7 +3,7 @@ use Rattle.inform_tree.specs.Statements.{cases_of}
 use Rattle.inform_moves.specs.Moves.{cases_move}
 use Rattle.inform_worlds.specs.Worlds.{program_of}
 use Rattle.inform_frames.specs.Frames.{default_of}
-use Rattle.inform_next_moves.proofs.choices.picked.Given as goal
+use Rattle.inform_part_moves.proofs.choices.picked.Given as goal
 
 -- the move of all cases is that of the cases from here on
 abbrev pub invariant-loop-case : goal.invariant-loop-case

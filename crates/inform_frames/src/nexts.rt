@@ -1,5 +1,5 @@
 //! What a move says, and what it hands on.
-use inform_frames::Signal;
+use crate::signals::Signal;
 use inform_tree::Text;
 
 /// What a move says.

@@ -7,10 +7,11 @@ ghost use Rattle.inform_meaning.specs.Worlds as w;
 ghost use Rattle.inform_moves.specs.Moves.{says_move, prints_move};
 ghost use Rattle.inform_worlds.specs.Views.{world_of, program_seen};
 ghost use Rattle.inform_frames.specs.Stacks.{HasRoom};
-ghost use Rattle.inform_part_moves.specs.Nexts.{Makes};
+ghost use Rattle.inform_frames.specs.Nexts.{Makes};
 
-use inform_frames::{Begin, Frame, Signal, Stack, Want, low_byte, value_at_once};
-use inform_part_moves::{Next, Said, evals};
+use inform_frames::{
+    Begin, Frame, Next, Said, Signal, Stack, Want, evals, low_byte, value_at_once,
+};
 use inform_tree::{Item, Text};
 use inform_worlds::World;
 
