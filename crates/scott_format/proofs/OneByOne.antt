@@ -1,6 +1,6 @@
 -- Plans one after the other: what they give, and their faults. Each is about eight of them. Fewer
 -- are eight too, of which the last ones read nothing (`nothing`).
-use Rattle.std.proofs.Common.{◌≡◌, ◌∙◌, Unit, tt, Ok}
+use Rattle.std.proofs.Common.{◌≡◌, ◌∙◌, Ok}
 use Rattle.adv_text.specs.Reading.{Input}
 use Rattle.scott_format.specs.Plan.{Plan, done, ◌>>=◌, run}
 use Rattle.scott_format.specs.Reading.{Stands}

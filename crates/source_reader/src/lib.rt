@@ -26,6 +26,6 @@ pub use names::{condition_word, opcode_word};
 pub use reading::read_source;
 pub use sequences::Seq;
 pub use tree::{
-    At, Cond, Entries, Head, ItemPart, LinePart, MessagePart, Op, Ref, RoomPart, Source, Spot,
-    Vocab, WordPart,
+    At, Bytes, Cond, Entries, Head, ItemPart, LinePart, MessagePart, Op, Ref, RoomPart, Source,
+    Spot, Vocab, WordPart,
 };

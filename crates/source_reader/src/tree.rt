@@ -2,6 +2,9 @@
 use crate::sequences::Seq;
 use scott_types::Text;
 
+/// The bytes of a name, a word or a text of a source. They are kept as a text of a database is.
+pub type Bytes = Text;
+
 /// What stands at a place, counted in bytes from the beginning of the text.
 #[derive(Drop)]
 pub struct At<T> {
@@ -20,7 +23,7 @@ pub struct Entries<T> {
 /// An entry of a list: its number, or its name.
 pub enum Ref {
     Number(i32),
-    Name(Text),
+    Name(Bytes),
 }
 
 impl Drop for Ref {
@@ -52,7 +55,7 @@ impl Drop for Spot {
 /// A verb or a noun of a line: its number, or the text that an entry of the vocabulary has.
 pub enum Vocab {
     Number(i32),
-    Exact(Text),
+    Exact(Bytes),
 }
 
 impl Drop for Vocab {
@@ -118,14 +121,14 @@ impl Drop for Op {
 /// An entry of the vocabulary.
 #[derive(Drop)]
 pub struct WordPart {
-    pub verb: Text,
-    pub noun: Text,
+    pub verb: Bytes,
+    pub noun: Bytes,
 }
 
 /// A room, with its exits north, south, east, west, up and down.
 pub struct RoomPart {
-    pub name: Option<At<Text>>,
-    pub text: Text,
+    pub name: Option<At<Bytes>>,
+    pub text: Bytes,
     pub exits: [At<Ref>; 6],
 }
 
@@ -142,14 +145,14 @@ impl Drop for RoomPart {
 /// A message.
 #[derive(Drop)]
 pub struct MessagePart {
-    pub name: Option<At<Text>>,
-    pub text: Text,
+    pub name: Option<At<Bytes>>,
+    pub text: Bytes,
 }
 
 /// An item, with the place where it is when a game begins.
 pub struct ItemPart {
-    pub name: Option<At<Text>>,
-    pub text: Text,
+    pub name: Option<At<Bytes>>,
+    pub text: Bytes,
     pub place: At<Spot>,
 }
 
@@ -168,7 +171,7 @@ pub struct LinePart {
     pub head: Head,
     pub conds: Seq<At<Cond>>,
     pub ops: Seq<At<Op>>,
-    pub comment: Text,
+    pub comment: Bytes,
 }
 
 impl Drop for LinePart {

@@ -1,4 +1,4 @@
-use Rattle.std.proofs.Common.{◌≡◌, Unit, refl, ℤ, to_z, of_z, w32, rules}
+use Rattle.std.proofs.Common.{◌≡◌, refl, ℤ, to_z, of_z, w32, rules}
 use Rattle.std.proofs.lemmas.Result.{err_from_is_err_and}
 use Rattle.scott_types.specs.declared.parts.Trailer.{Trailer}
 use Rattle.scott_format.specs.Sections.{any_number, third_number, trailer}

@@ -1,4 +1,4 @@
-use Rattle.std.proofs.Common.{◌≡◌, Unit, refl, ℕ, ℤ, to_z, of_z, w32, rules}
+use Rattle.std.proofs.Common.{◌≡◌, refl, ℕ, ℤ, to_z, of_z, w32, rules}
 use Rattle.std.proofs.lemmas.Result.{err_from_is_err_and}
 use Rattle.scott_format.specs.declared.faults.Field.TheVariants.{WordLength}
 use Rattle.scott_format.specs.declared.header.PlayNumbers.{PlayNumbers}
