@@ -1,5 +1,5 @@
 -- A fault of what is meant first stands for the whole.
-use Rattle.std.proofs.Common.{◌≡◌, Result, Ok, Err, refl, ap, ◌∙◌}
+use Rattle.std.proofs.Common.{Result, ap, ◌∙◌}
 use Rattle.adv_compiler.specs.declared.faults.CompileFault.{CompileFault}
 use Rattle.adv_compiler.specs.declared.faults.CompileFault.TheVariants as answer
 use Rattle.adv_compiler.specs.Faults.{Fault, ◌>>=◌, Stands}

@@ -1,5 +1,5 @@
 -- The exits of a room, one after another.
-use Rattle.std.proofs.Common.{◌≡◌, ℕ, suc, ◌+◌, ◌≤◌, ◌<◌, Bool, true, ◌&&◌, ℤ, List, [], ◌∷◌, ◌++◌, take, drop, length, get_or, Result, Ok, refl, sym, ap, subst, ◌∙◌, arith, add-one}
+use Rattle.std.proofs.Common.{◌≡◌, ℕ, ◌+◌, ◌≤◌, ◌<◌, Bool, ℤ, List, [], ◌∷◌, ◌++◌, take, drop, length, get_or, Result, Ok, sym, ap, ◌∙◌, add-one}
 use Rattle.std.specs.Prelude.{slice_set}
 use Rattle.std.proofs.Math.Seq.{drop-cons}
 use Rattle.std.proofs.lemmas.List.{take_more_set, take_all, drop_all}

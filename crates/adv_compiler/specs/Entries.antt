@@ -1,10 +1,9 @@
 -- What the entries of the lists mean.
-use Rattle.std.specs.Prelude.{ℕ, ◌∷◌, ◌++◌, [], nat_le, ℤ, pos, negsuc, int_le, unsigned_abs, if◌then◌else◌, List, length, Option, Some, None, Result, Ok, Err}
+use Rattle.std.specs.Prelude.{ℕ, ◌∷◌, ◌++◌, [], ℤ, pos, int_le, unsigned_abs, if◌then◌else◌, List, Option, Some, None, Result, Ok, Err}
 use Rattle.scott_types.specs.declared.parts.Word.{Word}
 use Rattle.scott_types.specs.declared.parts.Room.{Room}
 use Rattle.scott_types.specs.declared.parts.Item.{Item}
 use Rattle.source_reader.specs.declared.tree.At.{At}
-use Rattle.source_reader.specs.declared.tree.Entries.{Entries}
 use Rattle.source_reader.specs.declared.tree.Ref.{Ref}
 use Rattle.source_reader.specs.declared.tree.Spot.{Spot}
 use Rattle.source_reader.specs.declared.tree.Spot.TheVariants as spot
@@ -12,7 +11,7 @@ use Rattle.source_reader.specs.declared.tree.WordPart.{WordPart}
 use Rattle.source_reader.specs.declared.tree.RoomPart.{RoomPart}
 use Rattle.source_reader.specs.declared.tree.MessagePart.{MessagePart}
 use Rattle.source_reader.specs.declared.tree.ItemPart.{ItemPart}
-use Rattle.adv_compiler.specs.Faults.{Fault, twice, limit, ◌>>=◌}
+use Rattle.adv_compiler.specs.Faults.{Fault, twice, ◌>>=◌}
 use Rattle.adv_compiler.specs.Known.{Known}
 use Rattle.adv_compiler.specs.Values.{value_of, in_range}
 

@@ -1,5 +1,5 @@
 -- What the names of a source stand for.
-use Rattle.std.specs.Prelude.{ℕ, ◌+◌, ℤ, pos, Bool, true, false, if◌then◌else◌, List, [], ◌∷◌, map, drop, Option, Some, None}
+use Rattle.std.specs.Prelude.{ℕ, ◌+◌, ℤ, pos, Bool, false, if◌then◌else◌, List, [], ◌∷◌, map, drop, Option, Some, None}
 use Rattle.std.specs.Str.{bytes_eq}
 use Rattle.source_reader.specs.declared.tree.At.{At}
 use Rattle.source_reader.specs.declared.tree.WordPart.{WordPart}

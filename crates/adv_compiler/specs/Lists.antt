@@ -1,5 +1,5 @@
 -- What a list means: entries, of which there is one at least and no more than so many.
-use Rattle.std.specs.Prelude.{ℕ, nat_le, ℤ, pos, negsuc, if◌then◌else◌, List, [], ◌∷◌, ◌++◌, length, Result, Ok, Err}
+use Rattle.std.specs.Prelude.{ℕ, nat_le, pos, negsuc, if◌then◌else◌, List, [], ◌∷◌, ◌++◌, length, Result, Ok, Err}
 use Rattle.source_reader.specs.declared.tree.At.{At}
 use Rattle.source_reader.specs.declared.tree.Entries.{Entries}
 use Rattle.adv_compiler.specs.Faults.{Fault, limit, ◌>>=◌}

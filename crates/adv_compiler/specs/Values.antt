@@ -1,7 +1,6 @@
 -- The numbers of a source: what names stand for, and the ranges.
-use Rattle.std.specs.Prelude.{ℕ, ◌+◌, ◌*◌, ◌&&◌, nat_le, nat_lt, ℤ, pos, negsuc, int_le, unsigned_abs, if◌then◌else◌, List, Option, Some, None, Result, Ok, Err}
+use Rattle.std.specs.Prelude.{ℕ, ◌+◌, ◌*◌, ◌&&◌, nat_le, nat_lt, ℤ, pos, int_le, unsigned_abs, if◌then◌else◌, List, Option, Some, None, Result, Ok, Err}
 use Rattle.std.specs.Option.{option_or}
-use Rattle.source_reader.specs.declared.tree.At.{At}
 use Rattle.source_reader.specs.declared.tree.Ref.{Ref}
 use Rattle.source_reader.specs.declared.tree.Ref.TheVariants as ref
 use Rattle.source_reader.specs.declared.tree.Vocab.{Vocab}

@@ -1,15 +1,15 @@
 -- The words of the language, and names of a letter and a number.
-use Rattle.std.proofs.Common.{◌≡◌, ℕ, suc, ◌+◌, ◌-◌, ◌^◌, ◌≤◌, ◌<◌, ◌&&◌, not, Bool, true, false, eqb, ltb, List, [], ◌∷◌, length, Option, Some, None, refl, ap, subst, ◌∙◌, arith}
+use Rattle.std.proofs.Common.{◌≡◌, ℕ, ◌+◌, ◌-◌, ◌^◌, ◌≤◌, ◌<◌, ◌&&◌, not, Bool, true, false, eqb, List, [], ◌∷◌, length, Option, Some, None, refl, ap, subst, ◌∙◌, arith}
 use Rattle.std.specs.Prelude.{codes}
-use Rattle.std.specs.List.{list_all, position_or_len}
+use Rattle.std.specs.List.{list_all}
 use Rattle.std.specs.Str.{bytes_eq}
 use Rattle.std.specs.Char.{is_ascii_digit, is_ascii_alphabetic}
 use Rattle.std.specs.Fmt.{decimal}
-use Rattle.std.proofs.lemmas.Bool.{and_parts, and_from, or_left, cond-true, cond-false, le-ltb, le-leb, eqb-true, not-true, not_from_true, not_from_false, false_from_ne_true, agree_below, agree_below_at}
+use Rattle.std.proofs.lemmas.Bool.{and_parts, and_from, or_left, le-leb, eqb-true, not-true, agree_below, agree_below_at}
 use Rattle.std.proofs.lemmas.Fmt.{length-decimal-le, decimal_injective}
 use Rattle.std.proofs.lemmas.Slice.Eq.{bytes_eq-Decides}
 use Rattle.source_reader.specs.Tokens.{is_word_byte}
-use Rattle.source_reader.specs.Names.{among, condition_words, opcode_words, other_words, condition_code, opcode_number, condition_word, opcode_word, is_name}
+use Rattle.source_reader.specs.Names.{condition_code, opcode_number, condition_word, opcode_word, is_name}
 use Rattle.source_reader.proofs.NameWords.{name_digit}
 use Rattle.adv_decompiler.proofs.Decimals.{is_numeral, decimal-numeral}
 use Rattle.adv_decompiler.proofs.Apart.{is_spelled_word}

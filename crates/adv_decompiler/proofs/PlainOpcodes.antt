@@ -1,11 +1,10 @@
 -- Opcodes that were written are read as the same opcodes, with the same parameters.
-use Rattle.std.proofs.Common.{◌≡◌, ℕ, zero, suc, ◌+◌, ◌*◌, ◌-◌, ◌≤◌, ◌<◌, ◌⊎◌, inl, inr, ◌&&◌, true, false, cond, eqb, leb, ltb, List, [], ◌∷◌, ◌++◌, map, take, drop, length, get_or, ℤ, pos, Result, Ok, refl, sym, ap, subst, ◌∙◌, append_assoc, arith, length-append, length-drop, length-take-le}
-use Rattle.std.specs.Prelude.{codes, int_le, flat_map}
+use Rattle.std.proofs.Common.{◌≡◌, ℕ, ◌+◌, ◌-◌, ◌≤◌, ◌<◌, true, false, cond, eqb, List, [], ◌∷◌, ◌++◌, length, pos, refl, sym, ap, subst, ◌∙◌, arith}
+use Rattle.std.specs.Prelude.{codes, flat_map}
 use Rattle.std.specs.List.{AllByRecursion}
 use Rattle.std.specs.Str.{bytes_eq}
-use Rattle.std.proofs.lemmas.Bool.{and_from, cond-true, cond-false, cond_both, le-leb, lt-ltb, leb-true, agree_below, agree_below_at}
-use Rattle.std.proofs.lemmas.List.{append-nil, map-append, length-map}
-use Rattle.scott_types.specs.Opcode.{opcode_of, uses, say_number}
+use Rattle.std.proofs.lemmas.Bool.{and_from, cond-false}
+use Rattle.scott_types.specs.Opcode.{opcode_of, uses}
 use Rattle.scott_types.specs.Opcode.{parameters_of as kinds_of}
 use Rattle.scott_types.specs.declared.parameters.Parameter.{Parameter}
 use Rattle.source_reader.specs.declared.tokens.Token.TheVariants as token
@@ -19,26 +18,21 @@ use Rattle.source_reader.specs.Singles.{any_token, symbol, number, reference}
 use Rattle.source_reader.specs.Lists.{braced, many}
 use Rattle.source_reader.specs.Entries.{next_reference, one_parameter, two_parameters, named_opcode, opcode_named, message_said, opcode_numbered}
 use Rattle.source_reader.specs.Entries.{opcode as opcode_piece}
-use Rattle.adv_compiler.specs.declared.pairs.Pairs.{Pairs}
-use Rattle.adv_compiler.specs.Faults.{Fault}
-use Rattle.adv_compiler.specs.Faults.{◌>>=◌ as ◌onto◌}
-use Rattle.adv_compiler.specs.Known.{Known}
-use Rattle.adv_compiler.specs.Values.{thing, natural, first_of_two, second_of_two, packed_condition}
-use Rattle.adv_compiler.specs.Lines.{with_condition, parameter, parameters, with_opcode, message_opcode, added, opcode, opcodes, no_opcodes}
+use Rattle.adv_compiler.specs.Values.{thing}
+use Rattle.adv_compiler.specs.Lines.{parameters}
 use Rattle.adv_decompiler.specs.declared.sizes.Sizes.{Sizes}
 use Rattle.adv_decompiler.specs.Layout.{joined, spaced, Chunk, chunk, mark, semicolon, listed}
 use Rattle.adv_decompiler.specs.Layout.{braced as braced_chunks}
 use Rattle.adv_decompiler.specs.References.{message_token, thing_token}
-use Rattle.adv_decompiler.specs.Written.{Piece, says, numbered, named, bracketed, name_piece, piece_of, pieces, takes, number_of, parameters_of, as_condition}
+use Rattle.adv_decompiler.specs.Written.{Piece, says, numbered, named, bracketed, as_condition}
 use Rattle.adv_decompiler.specs.Lines.{parameter_tokens}
 use Rattle.adv_decompiler.specs.Lines.{opcode as opcode_chunks}
 use Rattle.adv_decompiler.proofs.Apart.{is_a_mark, or_true, laid, laid-lines, flat-lines}
 use Rattle.adv_decompiler.proofs.Feeding.{Fed, fed_then}
-use Rattle.adv_decompiler.proofs.Finding.{Finds, AreFew, Means, message_refers, thing_refers, message_written, thing_written, number_written}
-use Rattle.adv_decompiler.proofs.Pieces.{by_piece}
+use Rattle.adv_decompiler.proofs.Finding.{AreFew, Means, message_refers, thing_refers, message_written, thing_written, number_written}
 use Rattle.adv_decompiler.proofs.Names.{opcode_word-right}
 use Rattle.adv_decompiler.proofs.Listing.{Each, EntryFed, fed_many}
-use Rattle.adv_decompiler.proofs.PlainConditions.{IsSmall, natural_is, packed_is, with_is}
+use Rattle.adv_decompiler.proofs.PlainConditions.{IsSmall}
 
 -- ---- what holds of each piece that is written
 

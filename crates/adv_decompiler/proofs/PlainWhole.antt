@@ -1,18 +1,15 @@
 -- The plain text of a database is a text of one source, which means the database.
-use Rattle.std.proofs.Common.{◌≡◌, ℕ, ◌+◌, ◌≤◌, ◌<◌, ◌&&◌, Bool, true, false, leb, List, [], ◌∷◌, ◌++◌, map, length, zip, ℤ, pos, negsuc, ◌≤ℤ◌, Result, Ok, refl, sym, ap, subst, ◌∙◌, append_assoc, arith}
+use Rattle.std.proofs.Common.{◌≡◌, ℕ, ◌+◌, ◌≤◌, ◌<◌, ◌&&◌, Bool, true, false, leb, List, [], ◌∷◌, ◌++◌, map, length, zip, ℤ, pos, negsuc, Result, Ok, refl, sym, ap, subst, ◌∙◌, append_assoc, arith}
 use Rattle.std.specs.Prelude.{codes, int_le, nat_lt}
-use Rattle.std.specs.List.{list_all, AllByRecursion}
-use Rattle.std.proofs.lemmas.Bool.{and_parts, and_from, cond-true, leb-true, le-leb, lt-ltb}
-use Rattle.std.proofs.lemmas.Int.{ints}
+use Rattle.std.proofs.lemmas.Bool.{and_from, cond-true, le-leb, lt-ltb}
 use Rattle.std.proofs.lemmas.List.{map-id}
-use Rattle.std.proofs.lemmas.Slice.Zip.{firsts-zip, seconds-zip, length-zip}
-use Rattle.scott_types.specs.declared.parts.Header.{Header}
+use Rattle.std.proofs.lemmas.Slice.Zip.{firsts-zip, seconds-zip}
 use Rattle.scott_types.specs.declared.parts.Action.{Action}
 use Rattle.scott_types.specs.declared.parts.Word.{Word}
 use Rattle.scott_types.specs.declared.parts.Room.{Room}
 use Rattle.scott_types.specs.declared.parts.Item.{Item}
 use Rattle.scott_types.specs.Database.{Database}
-use Rattle.scott_types.specs.Limits.{is_file_text, is_number, is_action, is_word, is_room, is_item, are_header_numbers, is_list_of, KeepsLimits}
+use Rattle.scott_types.specs.Limits.{is_file_text, is_word, is_room, is_item, KeepsLimits}
 use Rattle.source_reader.specs.declared.settings.Settings.{Settings}
 use Rattle.source_reader.specs.declared.tokens.Token.TheVariants as token
 use Rattle.source_reader.specs.declared.tree.At.{At}
@@ -43,13 +40,12 @@ use Rattle.adv_decompiler.specs.References.{sizes_of, room_name}
 use Rattle.adv_decompiler.specs.Lines.{action_line}
 use Rattle.adv_decompiler.specs.Plain.{header_lines, word_line, room_line, message_line, item_line, trailer_line, lines_of, chunks, plain}
 use Rattle.adv_decompiler.specs.Laws.{ReadsBack}
-use Rattle.adv_decompiler.proofs.Apart.{laid, laid-append, all-by}
+use Rattle.adv_decompiler.proofs.Apart.{laid, laid-append}
 use Rattle.adv_decompiler.proofs.Feeding.{Fed, fed_then, WrittenLaws, read_fed}
 use Rattle.adv_decompiler.proofs.Finding.{Finds, AreFew}
 use Rattle.adv_decompiler.proofs.Listing.{Each, Listed, listing_fed, lines_laid, list_means, each-length}
 use Rattle.adv_decompiler.proofs.Titles.{found_from, none_found}
 use Rattle.adv_decompiler.proofs.PlainEntries.{WordMeans, word_fed, word_means, MessageMeans, message_fed, message_means, RoomMeans, room_fed, room_means, ItemMeans, item_fed, item_means}
-use Rattle.adv_decompiler.proofs.WrittenLimits.{IsGood, good}
 use Rattle.adv_decompiler.proofs.PlainLines.{LineMeans, action_fed, action_means, action_laid}
 use Rattle.adv_decompiler.proofs.PlainHeader.{SettingsMean, settings_fed, trailer_fed}
 use Rattle.adv_decompiler.proofs.PlainApart.{section-laid, word_laid, message_laid, room_laid, item_laid, header_laid, trailer_laid}

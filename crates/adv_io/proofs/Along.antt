@@ -1,5 +1,5 @@
 -- A walk: what was shown so far, and what is still to come.
-use Rattle.std.proofs.Common.{◌≡◌, ◌∙◌, ℕ, List, [], ◌++◌, Option, Result, Ok, Err, refl, sym, ap, append_assoc}
+use Rattle.std.proofs.Common.{◌≡◌, ◌∙◌, ℕ, List, [], ◌++◌, Result, Ok, Err, refl, sym, ap, append_assoc}
 use Rattle.std.proofs.lemmas.List.{map-append}
 use Rattle.adv_io.specs.Console.{ConsoleView, Speaks}
 use Rattle.adv_io.specs.Steps.{Said, Step, Traced, after, said_steps, shown_of}

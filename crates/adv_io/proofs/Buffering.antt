@@ -1,44 +1,14 @@
 -- How bytes that are buffered, and said one after the other, add up.
-use Rattle.std.proofs.Common.{◌≡◌, ◌∙◌, ℕ, ◌≤◌, ◌<◌, suc, ◌+◌, List, [], ◌++◌, take, drop, length, get_or, flat_map, Result, Ok, Err, IsErr, refl, sym, ap, subst, arith, append_assoc, add-one}
+use Rattle.std.proofs.Common.{◌≡◌, ◌∙◌, ℕ, ◌≤◌, ◌<◌, suc, ◌+◌, List, [], ◌++◌, take, drop, length, get_or, flat_map, Result, Ok, Err, IsErr, sym, ap, subst, arith, append_assoc, add-one}
 use Rattle.std.proofs.lemmas.List.{append-nil, take_all}
 use Rattle.adv_io.specs.History.{says, grown, GrewByPrefix}
 use Rattle.adv_io.specs.Console.{ConsoleView, Speaks, Buffers}
 use Rattle.adv_io.proofs.Histories.{says-append}
-use Rattle.adv_io.proofs.Sayings.{cause_none, cause_again, cause_then, cause_fails, grown-nil, grown_on, part_on, part_of_more, flat_map-split, flat_map-next}
+use Rattle.adv_io.proofs.Sayings.{cause_again, cause_then, cause_fails, grown_on, part_on, part_of_more, flat_map-split, flat_map-next}
 
 -- what succeeds succeeds with anything
 buffers-again : {T U E : Type 0} {old new : ConsoleView} {x : T} (y : U) {before after added : List ℕ} → Buffers {E = E} old new (Ok x) before after added → Buffers {E = E} old new (Ok y) before after added
 buffers-again y g = record { said = g.said; part = tt; lines_stay = g.lines_stay; bounded = g.bounded; cause = cause_again y g.cause }
-
--- nothing was added and nothing said
-pub buffers-none : {T E : Type 0} (console : ConsoleView) (x : T) (buffered : List ℕ) → Buffers {E = E} console console (Ok x) buffered buffered []
-buffers-none console x buffered = record {
-  said = ([], sym (grown-nil console.history), sym (append-nil buffered));
-  part = tt;
-  lines_stay = refl;
-  bounded = omega arith;
-  cause = cause_none x;
-}
-
--- what was buffered was said
-pub buffers-said : {T U E : Type 0} {old new : ConsoleView} {x : T} (y : U) (buffered : List ℕ) → Speaks {E = E} old new (Ok x) (says buffered) → Buffers {E = E} old new (Ok y) buffered [] []
-buffers-said y buffered s = record {
-  said = (buffered, s.said, refl);
-  part = tt;
-  lines_stay = s.lines_stay;
-  bounded = s.bounded;
-  cause = cause_again y s.cause;
-}
-
--- or a part of it, and more was to be added
-pub buffers-stop : {T U D E : Type 0} {old new : ConsoleView} {d : D} (e : E) (before after added : List ℕ) → Speaks {T = T} old new (Err d) (says before) → Buffers {T = U} old new (Err e) before after added
-buffers-stop {old = old} {new = new} e before after added s = record {
-  said = tt;
-  part = rw (says-append before added) (part_of_more old.history new.history (says before) (says added) s.part);
-  lines_stay = s.lines_stay;
-  bounded = s.bounded;
-  cause = cause_fails e s.cause;
-}
 
 -- what failed had more to add
 pub buffers-fail : {T U D E : Type 0} {old new : ConsoleView} {d : D} (e : E) (before mid after a b : List ℕ) → Buffers {T = T} old new (Err d) before mid a → Buffers {T = U} old new (Err e) before after (a ++ b)

@@ -1,13 +1,12 @@
 -- How what is said piece by piece, or in a loop, adds up.
-use Rattle.std.proofs.Common.{◌≡◌, ◌∙◌, ℕ, suc, ◌+◌, ◌<◌, List, [], ◌∷◌, ◌++◌, take, drop, length, get_or, refl, sym, ap, subst, zero, arith, append_assoc, Option, Some, None, Result, Ok, Err, IsErr, OnOk, OnErr, add-one}
+use Rattle.std.proofs.Common.{◌≡◌, ◌∙◌, ℕ, suc, ◌+◌, ◌<◌, List, [], ◌∷◌, ◌++◌, take, drop, length, get_or, refl, sym, ap, zero, arith, append_assoc, Option, Some, None, Result, Ok, Err, IsErr}
 use Rattle.std.proofs.lemmas.List.{append-nil}
 use Rattle.std.specs.List.{flat_map}
-use Rattle.adv_io.specs.History.{says, grown, GrewByPrefix}
+use Rattle.adv_io.specs.History.{grown, GrewByPrefix}
 use Rattle.adv_io.specs.Faults.{HasCause}
 use Rattle.adv_io.specs.Console.{ConsoleView, Speaks}
 use Rattle.adv_io.specs.declared.events.Event.{Event}
 use Rattle.adv_io.specs.declared.faults.ConsoleFault.{ConsoleFault}
-use Rattle.adv_io.proofs.Histories.{says-append}
 
 -- ---- histories that grow
 
@@ -41,30 +40,8 @@ part_of_more old new a b part = record {
   grew = part.grew;
 }
 
--- all of the events are a part of more, and so is nothing
-pub part_whole : (old new : Option (List Event)) (a b : List Event) → new ≡ grown old a → GrewByPrefix old new (a ++ b)
-part_whole old new a b grew = record { done = a; rest = b; whole = refl; grew = grew }
-
 pub part_none : (history : Option (List Event)) (a : List Event) → GrewByPrefix history history a
 part_none history a = record { done = []; rest = a; whole = refl; grew = sym (grown-nil history) }
-
--- ---- the same of a call's answer, one after the other, to be named where a function says two
--- texts
-
--- what failed said a part of more
-pub text_stop : {T E : Type 0} (r : Result T E) (old new : Option (List Event)) (a b : List Event) → GrewByPrefix old new a → OnErr r (GrewByPrefix old new (a ++ b))
-text_stop (Ok x) old new a b part = tt
-text_stop (Err e) old new a b part = part_of_more old new a b part
-
--- after a text that was said, another
-pub text_then : {T E : Type 0} (r : Result T E) (old mid new : Option (List Event)) (a b : List Event) → mid ≡ grown old a → OnOk r (new ≡ grown mid b) → OnOk r (new ≡ grown old (a ++ b))
-text_then (Ok x) old mid new a b first more = grown_on old mid new a b first more
-text_then (Err e) old mid new a b first more = tt
-
--- or a part of another
-pub text_then_part : {T E : Type 0} (r : Result T E) (old mid new : Option (List Event)) (a b : List Event) → mid ≡ grown old a → OnErr r (GrewByPrefix mid new b) → OnErr r (GrewByPrefix old new (a ++ b))
-text_then_part (Ok x) old mid new a b first part = tt
-text_then_part (Err e) old mid new a b first part = part_on old mid new a b first part
 
 -- ---- loops that say a text for each element
 
@@ -83,33 +60,6 @@ module _ {X : Type 0} (text : X → List ℕ) where
   flat_map-next (x ∷ xs) (suc i) d within =
       ap (λ bytes. text x ++ bytes) (flat_map-next xs i d (omega arith))
       ∙ sym (append_assoc (text x) (flat_map text (take i xs)) (text (get_or xs i d)))
-
-  -- one more turn
-  pub turn_said : (xs : List X) (i : ℕ) (d : X) (old now next : Option (List Event)) → i < length xs → now ≡ grown old (says (flat_map text (take i xs))) → next ≡ grown now (says (text (get_or xs i d))) → next ≡ grown old (says (flat_map text (take (i + 1) xs)))
-  turn_said xs i d old now next within before more =
-      let so_far = flat_map text (take i xs) in
-      let here = text (get_or xs i d) in
-      grown_on old now next (says so_far) (says here) before more
-      ∙ ap (grown old) (sym (says-append so_far here))
-      ∙ rw (add-one, flat_map-next xs i d within) refl
-
-  -- a turn that fails
-  pub turn_failed : (xs : List X) (i : ℕ) (d : X) (old now new : Option (List Event)) → i < length xs → now ≡ grown old (says (flat_map text (take i xs))) → GrewByPrefix now new (says (text (get_or xs i d))) → GrewByPrefix old new (says (flat_map text xs))
-  turn_failed xs i d old now new within before part =
-      let so_far = flat_map text (take i xs) in
-      let here = text (get_or xs i d) in
-      let to_come = flat_map text (drop (suc i) xs) in
-      let all : says so_far ++ (says here ++ says to_come) ≡ says (flat_map text xs) =
-      ap (λ es. says so_far ++ es) (sym (says-append here to_come))
-      ∙ sym (says-append so_far (here ++ to_come))
-      ∙ ap says (sym (flat_map-split xs i d within)) in
-      subst (λ es. GrewByPrefix old new es) all
-      (part_on old now new (says so_far) (says here ++ says to_come) before (part_of_more now new (says here) (says to_come) part))
-
-  -- the same of the answer that the turn gives
-  pub turn_stop : {T E : Type 0} (r : Result T E) (xs : List X) (i : ℕ) (d : X) (old now new : Option (List Event)) → i < length xs → now ≡ grown old (says (flat_map text (take i xs))) → GrewByPrefix now new (says (text (get_or xs i d))) → OnErr r (GrewByPrefix old new (says (flat_map text xs)))
-  turn_stop (Ok x) xs i d old now new within before part = tt
-  turn_stop (Err e) xs i d old now new within before part = turn_failed xs i d old now new within before part
 
 -- the answer of what succeeds
 abbrev pub success : Result (Unit {0}) ConsoleFault

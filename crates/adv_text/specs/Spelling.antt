@@ -1,6 +1,6 @@
 -- How numbers and strings are spelled: a spelling stands at the beginning of the bytes, and a rest
 -- follows it.
-use Rattle.std.specs.Prelude.{ℕ, suc, not, ◌≡◌, ◌+◌, ◌-◌, ◌*◌, ◌≤◌, ◌<◌, ◌==◌, ◌||◌, ◌&&◌, nat_le, Bool, true, false, IsTrue, IsFalse, List, [], ◌∷◌, length, ℤ, pos, neg_ℤ}
+use Rattle.std.specs.Prelude.{ℕ, suc, not, ◌≡◌, ◌+◌, ◌-◌, ◌*◌, ◌≤◌, ◌<◌, ◌==◌, ◌||◌, Bool, true, false, IsTrue, IsFalse, List, [], ◌∷◌, length, ℤ, pos, neg_ℤ}
 use Rattle.std.specs.Char.{is_ascii_digit}
 use Rattle.adv_io.specs.Text.{carriage_return, quote, plus_sign, minus_sign, grave_accent, is_whitespace, text_limit}
 

@@ -67,8 +67,10 @@ pub fn short_number(bytes: &[u8]) -> Option<(i32, usize)>
 #[inline(always)]
 pub fn plain_string(bytes: &[u8]) -> Option<&[u8]>
     ensures value { IfSome result (λ text. (at : ℕ) → quoted_at (input at bytes.now)
-        ≡ Ok (text.now,
-        input (at + (length text.now + 3)) (drop (length text.now + 3) bytes.now))) }
+        ≡ Ok (
+          text.now,
+          input (at + (length text.now + 3)) (drop (length text.now + 3) bytes.now),
+        )) }
     ensures within { IfSome result (λ text. length text.now + 3 ≤ length bytes.now) }
 {
     if bytes.len() < 2 || !is_whitespace(bytes[0]) || bytes[1] != b'"' {

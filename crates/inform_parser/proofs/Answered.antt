@@ -1,12 +1,11 @@
 -- What the parser's answer tells of sentences and faults.
-use Rattle.std.proofs.Common.{◌⊎◌, inl, inr, ◌≡◌, ℕ, List, [], length, Ok, Err, Result, refl, ap, ◌∙◌, sym, subst}
+use Rattle.std.proofs.Common.{◌⊎◌, inl, inr, ◌≡◌, ℕ, List, [], length, Ok, Err, Result, refl, ap, ◌∙◌, sym}
 use Rattle.inform_tree.specs.Programs.{DirectiveTree}
-use Rattle.inform_lexemes.specs.Lexemes.{Lexeme}
 use Rattle.inform_lexer.specs.declared.kinds.Token.{Token}
 use Rattle.inform_lexer.specs.Spans.{lexemes}
 use Rattle.inform_grammar.specs.Faults as kind
 use Rattle.inform_grammar.specs.Faults.{Fault, FaultKind, fault}
-use Rattle.inform_grammar.specs.Reading.{Input, input, Answer, reads, within_limit}
+use Rattle.inform_grammar.specs.Reading.{Input, input, Answer, within_limit}
 use Rattle.inform_grammar.specs.Rule.{program}
 use Rattle.inform_grammar.specs.Laws.{SentenceIsRead, ReadIsSentence, FaultIsFirst}
 use Rattle.inform_parser.specs.declared.faults.ParseFault.{ParseFault}

@@ -1,8 +1,8 @@
 -- With what the rules begin.
-use Rattle.std.proofs.Common.{◌≡◌, ℕ, Bool, true, false, ◌||◌, List, [], ◌∷◌, ◌++◌, Option, Some, None, Ok, Err, refl, ap, ◌∙◌}
-use Rattle.inform_lexemes.specs.declared.symbols.Symbol.TheVariants.{Semicolon, Colon, Comma, LeftRound, LeftBrace, LeftSquare, Minus}
+use Rattle.std.proofs.Common.{◌≡◌, ℕ, Bool, false, ◌||◌, List, [], ◌∷◌, Some, None, refl, ap, ◌∙◌}
+use Rattle.inform_lexemes.specs.declared.symbols.Symbol.TheVariants.{Semicolon, Colon, Comma, LeftRound, LeftSquare, Minus}
 use Rattle.inform_lexemes.specs.declared.keywords.Keyword.TheVariants as w
-use Rattle.inform_lexemes.specs.Lexemes.{Lexeme, Word, Name, Number, Character, Sign, is_sign, is_word, is_name, is_number, is_character}
+use Rattle.inform_lexemes.specs.Lexemes.{Lexeme, Word, Sign, is_sign, is_word, is_name, is_number, is_character}
 use Rattle.inform_lexer.specs.declared.glances.Glance.{Glance}
 use Rattle.inform_lexer.specs.Spans.{glance_of}
 use Rattle.inform_grammar.specs.Lexemes.{heads, continues_choice}

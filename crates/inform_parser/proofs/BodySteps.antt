@@ -1,27 +1,26 @@
 -- The rules of statements with bodies, by what stands next.
-use Rattle.std.proofs.Common.{◌≡◌, ℕ, Bool, true, false, ◌||◌, List, [], ◌∷◌, ◌++◌, map, Option, Some, None, option_map, Ok, Err, refl, ap, ◌∙◌}
+use Rattle.std.proofs.Common.{◌≡◌, ℕ, Bool, true, false, ◌||◌, List, [], ◌∷◌, ◌++◌, Option, Some, None, Ok, refl, ◌∙◌}
 use Rattle.inform_tree.specs.Values.{Expression}
-use Rattle.inform_tree.specs.declared.values.Const.{Const}
 use Rattle.inform_tree.specs.declared.values.Const.TheVariants as k
 use Rattle.inform_tree.specs.Statements as s
-use Rattle.inform_tree.specs.Statements.{Statement, Assignment, Choice, Cases}
-use Rattle.inform_lexemes.specs.declared.symbols.Symbol.TheVariants.{Semicolon, Comma, Colon, LeftRound, RightRound, LeftBrace, RightBrace, Minus}
+use Rattle.inform_tree.specs.Statements.{Statement, Assignment, Choice}
+use Rattle.inform_lexemes.specs.declared.symbols.Symbol.TheVariants.{Semicolon, Colon, LeftRound, LeftBrace, Minus}
 use Rattle.inform_lexemes.specs.declared.keywords.Keyword.TheVariants as w
 use Rattle.inform_lexemes.specs.Lexemes.{Lexeme, Word, Name, Number, Character, Sign, is_sign, is_word, is_name}
 use Rattle.inform_grammar.specs.Rules as r
-use Rattle.inform_grammar.specs.Rules.{SwitchPart, Head, Said}
+use Rattle.inform_grammar.specs.Rules.{SwitchPart, Said}
 use Rattle.inform_grammar.specs.Lexemes.{heads, name_in, continues_choice}
 use Rattle.inform_grammar.specs.Trees.{Guard, condition, cases_tree}
 use Rattle.inform_grammar.specs.ValueRules.{minus_number, constant, primary, unary, product, value}
 use Rattle.inform_grammar.specs.ConditionRules.{test, guarded}
-use Rattle.inform_grammar.specs.StatementRules.{change, statement_after, choice, choices_after, head_after, part_after, default_after, cases_after, cases_of, switch, body_of, else_after, if_after, while_after, do_after, for_body, for_last, for_test, for_after, statements_to_brace, statement, body, part_of, part}
+use Rattle.inform_grammar.specs.StatementRules.{statement_after, choice, head_after, part_after, default_after, cases_after, cases_of, switch, body_of, else_after, if_after, while_after, do_after, for_body, for_last, for_test, for_after, statements_to_brace, statement, body, part_of, part}
 use Rattle.inform_grammar.specs.Plan.{Plan, done, refuse, next, ◌>>=◌, take, one, many, shut}
 use Rattle.inform_grammar.specs.Rule.{rule}
 use Rattle.inform_grammar.specs.Reading.{Input, input, step, reads, within_limit}
 use Rattle.inform_grammar.proofs.Steps.{starts, one-as-here, many-no, many-yes, look-yes, look-no, done-here}
 use Rattle.inform_parser.specs.Reading.{read}
 use Rattle.inform_parser.specs.Begins.{begins_statement, begins_bare}
-use Rattle.inform_parser.specs.Plans.{change_if_any, plain_statement, simple_statement, value_in_brackets, guard_in_brackets, guard_after, statements_in_braces, block, if_statement, while_statement, do_statement, for_statement, until_test, first_change, last_change, test_to_colon, switched_value, first_choices, named_part, bare_part, default_read}
+use Rattle.inform_parser.specs.Plans.{change_if_any, plain_statement, simple_statement, value_in_brackets, guard_in_brackets, guard_after, statements_in_braces, block, if_statement, while_statement, do_statement, for_statement, until_test, first_change, last_change, test_to_colon, switched_value, first_choices, default_read}
 use Rattle.inform_parser.proofs.TreesMade.{no_cases}
 
 -- ---- heads

@@ -1,10 +1,7 @@
 -- The cases of a `switch`, from what stands in its braces.
-use Rattle.std.proofs.Common.{◌≡◌, List, [], ◌∷◌, ◌++◌, map, length, Option, refl, sym, ap, ap₂, ◌∙◌, append_assoc}
+use Rattle.std.proofs.Common.{◌≡◌, List, [], ◌∷◌, ◌++◌, map, length, refl, sym, ap, ◌∙◌, append_assoc}
 use Rattle.std.proofs.lemmas.List.{append-nil}
-use Rattle.std.specs.Global.{Vec}
-use Rattle.inform_tree.specs.declared.values.Const.{Const}
 use Rattle.inform_tree.specs.declared.statements.Case.{Case}
-use Rattle.inform_tree.specs.declared.statements.Stmt.{Stmt}
 use Rattle.inform_tree.specs.declared.statements.Stmt.TheFolds.{fold-roll-Case}
 use Rattle.inform_tree.specs.declared.statements.Case as made
 use Rattle.inform_tree.specs.Statements as s

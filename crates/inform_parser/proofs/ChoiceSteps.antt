@@ -1,10 +1,10 @@
 -- The rules of the heads of cases, by what stands next.
-use Rattle.std.proofs.Common.{◌≡◌, ℕ, true, false, List, [], ◌∷◌, ◌++◌, map, Option, Some, None, Ok, Err, refl, ap, ◌∙◌}
+use Rattle.std.proofs.Common.{◌≡◌, ℕ, true, false, List, [], ◌∷◌, ◌++◌, Some, None, Ok, refl, ap, ◌∙◌}
 use Rattle.inform_tree.specs.declared.values.Const.{Const}
 use Rattle.inform_tree.specs.Statements.{Choice}
 use Rattle.inform_lexemes.specs.declared.symbols.Symbol.TheVariants.{Comma, Colon}
 use Rattle.inform_lexemes.specs.declared.keywords.Keyword.TheVariants as w
-use Rattle.inform_lexemes.specs.Lexemes.{Lexeme, Word, Sign, is_sign, is_word}
+use Rattle.inform_lexemes.specs.Lexemes.{Lexeme, Sign, is_sign, is_word}
 use Rattle.inform_grammar.specs.Rules as r
 use Rattle.inform_grammar.specs.Rules.{SwitchPart, Head}
 use Rattle.inform_grammar.specs.Lexemes.{heads}

@@ -1,5 +1,5 @@
 -- The rules of conditions, by what stands next.
-use Rattle.std.proofs.Common.{◌≡◌, ℕ, true, false, List, [], ◌∷◌, ◌++◌, map, Ok, Err, refl, ap, ◌∙◌}
+use Rattle.std.proofs.Common.{◌≡◌, ℕ, true, false, List, [], ◌∷◌, ◌++◌, map, Ok, Err, refl, ◌∙◌}
 use Rattle.inform_tree.specs.Values.{Expression}
 use Rattle.inform_tree.specs.Conditions as c
 use Rattle.inform_tree.specs.Conditions.{Condition, condition_of}
@@ -10,12 +10,11 @@ use Rattle.inform_grammar.specs.Faults.{Mixed, fault}
 use Rattle.inform_grammar.specs.Rules as r
 use Rattle.inform_grammar.specs.Lexemes.{heads, is_relation}
 use Rattle.inform_grammar.specs.Trees.{Guard, Plain, Tested, AllOf, AnyOf, Join, condition, joined}
-use Rattle.inform_grammar.specs.ValueRules.{value}
 use Rattle.inform_grammar.specs.ConditionRules.{relation_after, bracket_after, test, member, members_after, tests_after, guarded}
-use Rattle.inform_grammar.specs.Plan.{Plan, done, refuse, next, chain, ◌>>=◌, take, one}
+use Rattle.inform_grammar.specs.Plan.{Plan, done, next, ◌>>=◌, take, one}
 use Rattle.inform_grammar.specs.Rule.{rule}
 use Rattle.inform_grammar.specs.Reading.{Input, input, step, reads, within_limit}
-use Rattle.inform_grammar.proofs.Steps.{one-as, one-as-here, done-here}
+use Rattle.inform_grammar.proofs.Steps.{one-as, one-as-here}
 use Rattle.inform_parser.specs.Reading.{read}
 use Rattle.inform_parser.specs.Nexts.{relation_next}
 use Rattle.inform_parser.specs.Plans.{at_connective, at_other, connective_next, members_from, guard_in_brackets, not_after, compared_test}

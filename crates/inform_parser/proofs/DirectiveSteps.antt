@@ -1,11 +1,11 @@
 -- The rules of directives, by what stands next.
-use Rattle.std.proofs.Common.{◌≡◌, ℕ, Bool, true, false, List, [], ◌∷◌, ◌++◌, Option, Some, None, is_some, Ok, Err, refl, ap, ◌∙◌}
+use Rattle.std.proofs.Common.{◌≡◌, ℕ, Bool, true, false, List, [], ◌∷◌, ◌++◌, is_some, Ok, Err, refl, ◌∙◌}
 use Rattle.inform_tree.specs.declared.values.Const.{Const}
 use Rattle.inform_tree.specs.Programs as d
 use Rattle.inform_tree.specs.Programs.{DirectiveTree}
-use Rattle.inform_lexemes.specs.declared.symbols.Symbol.TheVariants.{Semicolon, LeftRound, LeftSquare, Minus}
+use Rattle.inform_lexemes.specs.declared.symbols.Symbol.TheVariants.{Semicolon, LeftRound, LeftSquare}
 use Rattle.inform_lexemes.specs.declared.keywords.Keyword.TheVariants as w
-use Rattle.inform_lexemes.specs.Lexemes.{Lexeme, Word, Name, Sign, is_sign, is_word, is_name}
+use Rattle.inform_lexemes.specs.Lexemes.{Lexeme, Word, Sign, is_sign, is_word, is_name}
 use Rattle.inform_grammar.specs.Faults.{Unexpected, fault}
 use Rattle.inform_grammar.specs.Rules as r
 use Rattle.inform_grammar.specs.Lexemes.{heads, name_in, any_lexeme}

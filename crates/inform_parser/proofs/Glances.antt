@@ -4,14 +4,14 @@ use denote.Enum.Bare.{sameb}
 use Rattle.std.proofs.Common.{◌≡◌, ℕ, suc, ◌<◌, Bool, true, false, List, [], ◌∷◌, drop, Option, Some, None, Ok, Err, refl, sym, ap, ap₂, ◌∙◌, cond, eqb, take, length, ◌-◌, arith}
 use Rattle.std.proofs.lemmas.Grind.{common_steps}
 use Rattle.inform_lexemes.specs.declared.symbols.Symbol.{Symbol}
-use Rattle.inform_lexemes.specs.declared.symbols.Symbol.TheVariants.{Semicolon, LeftRound, RightRound, LeftBrace, RightBrace}
+use Rattle.inform_lexemes.specs.declared.symbols.Symbol.TheVariants.{Semicolon, LeftRound}
 use Rattle.inform_lexemes.specs.declared.keywords.Keyword.{Keyword}
 use Rattle.inform_lexemes.specs.declared.keywords.Keyword.TheVariants as w
 use Rattle.inform_lexemes.specs.contracts.symbols.Symbol as symbol
 use Rattle.inform_lexemes.specs.contracts.keywords.Keyword as keyword
 use Rattle.inform_lexemes.specs.Symbols.{symbol_number, same_symbol}
 use Rattle.inform_lexemes.specs.Keywords.{keyword_number, same_keyword}
-use Rattle.inform_lexemes.specs.Lexemes.{Lexeme, Word, Reserved, Name, Number, Character, Quoted, Sign, is_sign, is_word}
+use Rattle.inform_lexemes.specs.Lexemes.{Lexeme, Word, Sign, is_sign, is_word}
 use Rattle.inform_lexer.specs.declared.glances.Glance.{Glance}
 use Rattle.inform_lexer.specs.declared.glances.Glance.TheVariants as g
 use Rattle.inform_lexer.specs.declared.kinds.Token.{Token}

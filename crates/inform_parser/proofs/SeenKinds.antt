@@ -1,11 +1,9 @@
 -- What is seen to be of a kind.
-use Rattle.std.proofs.Common.{◌≡◌, ℕ, Bool, true, false, List, [], ◌∷◌, drop, Option, Some, None, Ok, Err, refl, sym, ap, subst, ◌∙◌, ◌||◌}
+use Rattle.std.proofs.Common.{◌≡◌, ℕ, Bool, true, false, List, [], ◌∷◌, drop, Some, Ok, Err, refl, sym, ap, subst, ◌∙◌, ◌||◌}
 use Rattle.inform_tree.specs.declared.conditions.Relation.{Relation}
 use Rattle.inform_tree.specs.declared.conditions.Relation.TheVariants.{Eq}
-use Rattle.inform_lexemes.specs.declared.symbols.Symbol.{Symbol}
-use Rattle.inform_lexemes.specs.declared.symbols.Symbol.TheVariants.{Equal, NotEqual, Less, Greater, LessEqual, GreaterEqual, ByteArrow, WordArrow, Plus, Minus, Times, Divide, Remainder}
-use Rattle.inform_lexemes.specs.Lexemes.{Lexeme, Word, Name, Number, Character, Quoted, Sign, is_sign, is_name, is_number, is_character, is_quoted}
-use Rattle.inform_lexer.specs.declared.glances.Glance.{Glance}
+use Rattle.inform_lexemes.specs.declared.symbols.Symbol.TheVariants.{ByteArrow, WordArrow, Plus, Minus, Times, Divide, Remainder}
+use Rattle.inform_lexemes.specs.Lexemes.{Lexeme, Name, Number, Character, Quoted, Sign, is_sign, is_name, is_number, is_character, is_quoted}
 use Rattle.inform_lexer.specs.declared.glances.Glance.TheVariants as g
 use Rattle.inform_grammar.specs.Lexemes.{heads, is_arrow, is_factor_sign, is_term_sign, is_relation, relation_of}
 use Rattle.inform_grammar.specs.Faults.{Unexpected, fault}
@@ -13,8 +11,6 @@ use Rattle.inform_grammar.specs.Plan.{done, refuse, next}
 use Rattle.inform_grammar.specs.Reading.{Input, input, Answer, step, reads}
 use Rattle.inform_grammar.proofs.Binding.{and_then}
 use Rattle.inform_parser.specs.Glances.{first_glance}
-use Rattle.inform_lexer.specs.declared.kinds.Token.{Token}
-use Rattle.inform_lexer.specs.Spans.{lexeme_at, lexemes}
 use Rattle.inform_parser.specs.declared.stops.Stop.{Stop}
 use Rattle.inform_parser.specs.Reading.{read, StandsNext, StopsAt}
 use Rattle.inform_parser.specs.Nexts.{next_of, any_next, arrow_next, relation_next, relation_lexeme}

@@ -1,14 +1,13 @@
 -- The rules of statements without bodies, by what stands next.
-use Rattle.std.proofs.Common.{◌≡◌, ℕ, true, false, List, [], ◌∷◌, ◌++◌, map, Option, Some, None, Ok, Err, refl, ap, ◌∙◌}
+use Rattle.std.proofs.Common.{◌≡◌, ℕ, true, false, List, [], ◌∷◌, ◌++◌, Some, None, Ok, refl, ◌∙◌}
 use Rattle.inform_tree.specs.Statements as s
 use Rattle.inform_tree.specs.Statements.{Statement, Assignment, PrintItem}
-use Rattle.inform_lexemes.specs.declared.symbols.Symbol.TheVariants.{Semicolon, Comma, LeftRound, RightRound, Assign, ByteArrow, WordArrow, Increment, Decrement, Minus}
+use Rattle.inform_lexemes.specs.declared.symbols.Symbol.TheVariants.{Semicolon, Comma, LeftRound, Assign, ByteArrow, WordArrow, Increment, Decrement, Minus}
 use Rattle.inform_lexemes.specs.declared.keywords.Keyword.TheVariants as w
 use Rattle.inform_lexemes.specs.Lexemes.{Lexeme, Word, Name, Quoted, Sign, is_sign, is_word, is_name, is_quoted}
 use Rattle.inform_grammar.specs.Rules as r
 use Rattle.inform_grammar.specs.Lexemes.{heads, name_in, is_arrow}
 use Rattle.inform_grammar.specs.ValueRules.{primary, unary, product, value}
-use Rattle.inform_grammar.specs.ConditionRules.{value_after}
 use Rattle.inform_grammar.specs.StatementRules.{change_after, change, item, further_item, return_after, print_after, read_after}
 use Rattle.inform_grammar.specs.Plan.{Plan, done, refuse, next, ◌>>=◌, take, one, many}
 use Rattle.inform_grammar.specs.Rule.{rule}

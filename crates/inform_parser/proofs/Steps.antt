@@ -1,7 +1,6 @@
 -- How reading goes on, part by part of a plan.
-use Rattle.std.proofs.Common.{◌≡◌, ℕ, Bool, true, false, List, [], ◌∷◌, Result, Ok, Err, refl, ap}
+use Rattle.std.proofs.Common.{◌≡◌, ℕ, Bool, true, false, List, [], ◌∷◌, Ok, Err, refl, ap}
 use Rattle.inform_lexemes.specs.Lexemes.{Lexeme}
-use Rattle.inform_grammar.specs.Faults.{Fault}
 use Rattle.inform_grammar.specs.Lexemes.{heads}
 use Rattle.inform_grammar.specs.Rules.{Rule, TreeOf}
 use Rattle.inform_grammar.specs.Plan.{Plan, done, refuse, next, maybe, chain, shut, ◌>>=◌, one}

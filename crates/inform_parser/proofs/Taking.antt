@@ -1,17 +1,15 @@
 -- A lexeme that passes a test and is taken.
-use Rattle.std.proofs.Common.{◌≡◌, ℕ, zero, suc, ◌-◌, Bool, true, false, List, [], ◌∷◌, drop, Option, Some, None, Ok, Err, refl, sym, ap, subst, ◌∙◌, arith}
+use Rattle.std.proofs.Common.{◌≡◌, ℕ, zero, suc, ◌-◌, Bool, true, false, List, [], ◌∷◌, drop, Ok, Err, refl, sym, ap, subst, ◌∙◌, arith}
 use Rattle.inform_lexemes.specs.declared.symbols.Symbol.{Symbol}
 use Rattle.inform_lexemes.specs.declared.keywords.Keyword.{Keyword}
-use Rattle.inform_lexemes.specs.Lexemes.{Lexeme, Word, Name, Number, Sign, is_sign, is_word, is_number}
+use Rattle.inform_lexemes.specs.Lexemes.{Lexeme, Word, Sign, is_sign, is_word}
 use Rattle.inform_lexemes.proofs.Told.{symbols_told, keywords_told}
-use Rattle.inform_lexer.specs.declared.glances.Glance.{Glance}
 use Rattle.inform_lexer.specs.declared.glances.Glance.TheVariants as g
 use Rattle.inform_grammar.specs.Faults.{Unexpected, fault}
 use Rattle.inform_grammar.specs.Lexemes.{heads, any_lexeme, one_less}
 use Rattle.inform_grammar.specs.Plan.{Plan, done, refuse, next, take}
 use Rattle.inform_grammar.specs.Reading.{Input, input, Answer, step, reads}
 use Rattle.inform_grammar.proofs.Binding.{and_then}
-use Rattle.inform_parser.specs.Glances.{first_glance}
 use Rattle.inform_parser.specs.declared.stops.Stop.{Stop}
 use Rattle.inform_parser.specs.Reading.{read, StopsAt}
 use Rattle.inform_parser.specs.Nexts.{next_of, any_next}

@@ -1,5 +1,5 @@
 -- The rules of constants and expressions, by what stands next.
-use Rattle.std.proofs.Common.{◌≡◌, ℕ, true, false, List, [], ◌∷◌, ◌++◌, map, Ok, refl, ap, ◌∙◌}
+use Rattle.std.proofs.Common.{◌≡◌, ℕ, true, false, List, [], ◌∷◌, ◌++◌, map, Ok, refl, ◌∙◌}
 use Rattle.inform_tree.specs.declared.values.ProdOp.{ProdOp}
 use Rattle.inform_tree.specs.declared.values.SumOp.{SumOp}
 use Rattle.inform_tree.specs.declared.values.Expr.{Expr}
@@ -7,8 +7,8 @@ use Rattle.inform_tree.specs.Values as v
 use Rattle.inform_tree.specs.Values.{Expression, expression_of}
 use Rattle.inform_tree.specs.declared.values.Const.{Const}
 use Rattle.inform_tree.specs.declared.values.Const.TheVariants as k
-use Rattle.inform_lexemes.specs.declared.symbols.Symbol.TheVariants.{Comma, LeftRound, RightRound, Plus, Minus, Times, Divide, Remainder, ByteArrow, WordArrow}
-use Rattle.inform_lexemes.specs.Lexemes.{Lexeme, Word, Name, Number, Character, Sign, is_sign, is_name, is_word, is_number, is_character}
+use Rattle.inform_lexemes.specs.declared.symbols.Symbol.TheVariants.{Comma, LeftRound, RightRound, Plus, Minus, Times, ByteArrow, WordArrow}
+use Rattle.inform_lexemes.specs.Lexemes.{Lexeme, Word, Name, Number, Sign, is_sign, is_name, is_word, is_number, is_character}
 use Rattle.inform_lexemes.specs.declared.keywords.Keyword.TheVariants as w
 use Rattle.inform_grammar.specs.Rules as r
 use Rattle.inform_grammar.specs.Lexemes.{heads, name_in, is_arrow, is_factor_sign, is_term_sign}
@@ -20,7 +20,7 @@ use Rattle.inform_grammar.specs.Reading.{Input, input, step, reads, within_limit
 use Rattle.inform_grammar.proofs.Steps.{starts, one-as, many-no, many-yes, done-here}
 use Rattle.inform_parser.specs.Reading.{read}
 use Rattle.inform_parser.specs.Nexts.{character_in, arrow_next, factor_next, term_next}
-use Rattle.inform_parser.specs.Plans.{named_constant, negative_entry, some_arguments, value_in_brackets, negation}
+use Rattle.inform_parser.specs.Plans.{negative_entry, some_arguments, value_in_brackets, negation}
 use Rattle.inform_parser.proofs.Loops.{map_push}
 
 -- ---- constants

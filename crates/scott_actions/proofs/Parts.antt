@@ -1,7 +1,6 @@
 -- One part after another, said to a console.
 use Rattle.std.proofs.Common.{◌≡◌, ℕ, ◌-◌, ◌<◌, ◌≤◌, List, [], ◌∷◌, length, drop, take, map, get_or, Option, Some, None, Result, Ok, Err, refl, sym, ap, arith}
 use Rattle.std.proofs.lemmas.List.{take_all}
-use Rattle.adv_io.specs.declared.events.Event.{Event}
 use Rattle.adv_io.specs.History.{says}
 use Rattle.adv_io.specs.Console.{ConsoleView, Speaks}
 use Rattle.adv_io.proofs.Histories.{says-append}

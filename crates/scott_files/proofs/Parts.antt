@@ -1,9 +1,9 @@
 -- Parts of a file that are loaded one after the other.
-use Rattle.std.proofs.Common.{◌≡◌, ◌∙◌, ◌<◌, ◌≤◌, ◌+◌, ℕ, List, [], ◌++◌, length, take, drop, Option, Some, None, IfSome, refl, sym, ap, subst, arith, length-append, length-drop, append_assoc}
+use Rattle.std.proofs.Common.{◌≡◌, ◌∙◌, ◌<◌, ◌+◌, ℕ, List, [], ◌++◌, length, take, drop, Option, Some, None, refl, sym, ap, subst, arith, length-append, append_assoc}
 use Rattle.std.proofs.lemmas.List.{take-append-drop, take_all, drop_at, length-take}
 use Rattle.std.specs.Prelude.{IsSomeAnd, unwrap_or}
 use Rattle.std.specs.FinMap.{get}
-use Rattle.adv_io.specs.Shelf.{Files, IsFile, IsPart, HasAtLeast, part_at}
+use Rattle.adv_io.specs.Shelf.{Files, IsFile, IsPart, part_at}
 use Rattle.scott_format.specs.declared.readers.DbReader.{DbReader}
 use Rattle.scott_format.specs.Readers.{HasRead, bytes_fed}
 use Rattle.scott_files.specs.Pieces.{AreFirst, HasFirst, HasAll}

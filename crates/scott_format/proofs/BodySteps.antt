@@ -1,5 +1,5 @@
 -- A file read on by its header and its lists, where bytes come in pieces.
-use Rattle.std.proofs.Common.{◌≡◌, ℕ, ◌+◌, ◌-◌, ◌≤◌, ◌<◌, List, [], ◌∷◌, length, Result, Ok, Err, refl, sym, ap, subst, ◌∙◌, arith}
+use Rattle.std.proofs.Common.{◌≡◌, ℕ, ◌+◌, ◌-◌, List, [], ◌∷◌, length, Result, Ok, Err, refl, sym, ap, subst, ◌∙◌, arith}
 use Rattle.std.specs.Prelude.{IfOk, IfErr, OnOk}
 use Rattle.adv_text.specs.Reading.{Input, input, with_more}
 use Rattle.scott_types.specs.declared.parts.Action.{Action}
@@ -27,8 +27,7 @@ use Rattle.scott_format.specs.Pieces.{IsFaultOf, IsDue, Moves, Advances, StopsAt
 use Rattle.scott_format.specs.Bodies.{action_count, word_count, room_count, message_count, item_count, body_from, from_words, from_rooms, from_messages, from_items, from_comments, from_trailer, IsNew, ActionsRead, WordsRead, RoomsRead, MessagesRead, ItemsRead, AreRead, InOrder}
 use Rattle.scott_format.proofs.Plans.{and_then, run-then, run-ok, Stands-then, Stands-after}
 use Rattle.scott_format.proofs.Loop.{begins}
-use Rattle.scott_format.proofs.ListSteps.{Same, same_then, move_on, list_run, list_full, list_due}
-use Rattle.scott_format.proofs.Dues.{action_due}
+use Rattle.scott_format.proofs.ListSteps.{Same, same_then, list_run, list_full, list_due}
 
 pub on_ok_with : {T E A : Type 0} (B : Type 0) (r : Result T E) → A → OnOk r B → OnOk r (A × B)
 on_ok_with B (Ok x) a b = (a, b)

@@ -1,9 +1,9 @@
 -- What a number or a string leaves of the bytes before it: never more than there were, and some
 -- where the last byte can end neither.
-use Rattle.std.proofs.Common.{◌≡◌, ℕ, suc, ◌+◌, ◌-◌, ◌≤◌, ◌<◌, Bool, true, false, eqb, get_or, List, [], ◌∷◌, length, ℤ, refl, sym, ap, subst, ◌∙◌, arith}
+use Rattle.std.proofs.Common.{◌≡◌, ℕ, suc, ◌-◌, ◌≤◌, ◌<◌, Bool, true, false, eqb, get_or, List, [], ◌∷◌, length, ℤ, refl, sym, ap, subst, ◌∙◌, arith}
 use Rattle.std.specs.Prelude.{◌||◌}
 use Rattle.std.specs.Char.{is_ascii_digit}
-use Rattle.adv_text.specs.Spelling.{AfterWhitespace, here, space, NoDigit, Digits, last, digit, Amount, Signed, bare, plus, minus, BeginsNumber, Number, BigNumber, Inside, here as inside_here, plain, two_quotes, grave, return, Opened, Closes, Quoted, Unclosed, Overlong}
+use Rattle.adv_text.specs.Spelling.{AfterWhitespace, here, space, Digits, last, digit, Amount, Signed, bare, plus, minus, BeginsNumber, Number, BigNumber, Inside, here as inside_here, plain, two_quotes, grave, return, Opened, Closes, Quoted, Overlong}
 use Rattle.scott_format.specs.Pieces.{last_or, may_end}
 
 or_true : (a b : Bool) → a ≡ true → (a || b) ≡ true

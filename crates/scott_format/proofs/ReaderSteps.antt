@@ -1,10 +1,10 @@
 -- What a reader has read stays what it has read, piece by piece.
-use Rattle.std.proofs.Common.{◌≡◌, ℕ, ◌+◌, ◌≤◌, Bool, true, ◌⊎◌, inl, inr, List, [], ◌∷◌, ◌++◌, length, Option, Some, Result, Ok, Err, refl, sym, ap, subst, ◌∙◌, append_assoc, length-append, arith}
+use Rattle.std.proofs.Common.{◌≡◌, ℕ, ◌+◌, ◌≤◌, Bool, inl, inr, List, [], ◌∷◌, ◌++◌, length, Option, Some, Result, Ok, Err, refl, sym, ap, subst, ◌∙◌, append_assoc, length-append, arith}
 use Rattle.std.specs.Prelude.{IfOk, IfErr, MatchResult, OnOk}
 use Rattle.std.specs.List.{list_all}
 use Rattle.std.proofs.lemmas.Bool.{and_parts, and_from}
 use Rattle.std.proofs.lemmas.List.{append-nil}
-use Rattle.adv_text.specs.Reading.{Input, input, with_more, no_number}
+use Rattle.adv_text.specs.Reading.{Input, input, with_more}
 use Rattle.adv_text.specs.Laws.{is_byte, AreBytes}
 use Rattle.scott_types.specs.Database.{Database}
 use Rattle.scott_types.specs.Limits.{KeepsLimits}
@@ -16,7 +16,7 @@ use Rattle.scott_format.specs.declared.stops.Stop.TheVariants as stop
 use Rattle.scott_format.specs.declared.bodies.Body.{Body}
 use Rattle.scott_format.specs.declared.readers.DbReader.{DbReader}
 use Rattle.scott_format.specs.declared.readers.TheConstants.{DATABASE_LIMIT}
-use Rattle.scott_format.specs.Faults.{Fault, text, fault_answer}
+use Rattle.scott_format.specs.Faults.{Fault}
 use Rattle.scott_format.specs.Plan.{Plan, ◌>>=◌, run}
 use Rattle.scott_format.specs.Reading.{Stands}
 use Rattle.scott_format.specs.Sections.{head}

@@ -1,5 +1,5 @@
 -- What a plan reads of the first bytes of a file stays when more follow.
-use Rattle.std.proofs.Common.{◌≡◌, ℕ, ◌+◌, ◌≤◌, ◌<◌, Bool, true, false, ltb, ◌⊎◌, inl, inr, List, length, ℤ, Result, Ok, Err, refl, sym, ap, subst, ◌∙◌, arith}
+use Rattle.std.proofs.Common.{◌≡◌, ℕ, ◌+◌, ◌≤◌, ◌<◌, Bool, true, false, ltb, inl, inr, List, length, ℤ, Result, Ok, Err, refl, sym, ap, subst, ◌∙◌, arith}
 use Rattle.std.specs.Prelude.{not}
 use borrow.Author.Tests.{ltb-true}
 use Rattle.adv_text.specs.Reading.{Input, SameEnd, with_more, number_at, quoted_at, no_number, big_number, no_quote, open_string, long_string}
@@ -7,7 +7,7 @@ use Rattle.adv_text.specs.Reading.{Fault as TextFault}
 use Rattle.adv_text.specs.Laws.{NumberFault, StringFault, IsSettled, Stays}
 use Rattle.scott_format.specs.Faults.{Fault, text, limit, no_start, negative_action, fault_answer}
 use Rattle.scott_format.specs.Plan.{Plan, done, check, number, quoted, perhaps, onward, run}
-use Rattle.scott_format.specs.Pieces.{last_or, may_end, settles, IsContent, IsSteady}
+use Rattle.scott_format.specs.Pieces.{may_end, settles, IsContent, IsSteady}
 use Rattle.scott_format.specs.TextLaws.{TextLaws}
 use Rattle.scott_format.proofs.Exact.{value_is, check-ok, onward-ok}
 use Rattle.scott_format.proofs.Wrongs.{check-err, onward-err}

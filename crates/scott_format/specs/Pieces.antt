@@ -1,5 +1,5 @@
 -- A file that comes in pieces: what its first bytes tell.
-use Rattle.std.specs.Prelude.{ℕ, suc, not, ◌≡◌, ◌+◌, ◌-◌, ◌<◌, ◌≤◌, ◌==◌, ◌||◌, nat_lt, Bool, true, false, List, [], ◌∷◌, ◌++◌, length, Result, Ok, Err, ℤ}
+use Rattle.std.specs.Prelude.{ℕ, not, ◌≡◌, ◌+◌, ◌-◌, ◌==◌, ◌||◌, nat_lt, Bool, true, false, List, [], ◌∷◌, ◌++◌, length, Result, Ok, Err, ℤ}
 use Rattle.std.specs.Char.{is_ascii_digit}
 use Rattle.adv_io.specs.Text.{quote}
 use Rattle.adv_io.specs.Answers.{IsExactly}

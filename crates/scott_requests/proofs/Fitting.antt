@@ -6,7 +6,7 @@ use Rattle.std.proofs.lemmas.Bool.Decides.{nat_tests}
 use Rattle.scott_requests.specs.declared.settings.Kinds.{Kinds}
 use Rattle.scott_requests.specs.declared.settings.TheConstants.{MOST_STEPS, USUAL_STEPS}
 use Rattle.scott_requests.specs.Parts.{file_name, after_prefix, number_of}
-use Rattle.scott_requests.specs.Settings.{AreSteps, PauseFits, Setting, draws, style, opening, saving, pausing, most_steps, word_width, SettingFits, Settings, SettingsFit, listed, seeded, entering, each, style_named, steps_of, width_of, play_setting, position_setting, pause_setting, run_setting, setting_in, play_setting_in, position_setting_in, pause_setting_in, run_setting_in, allows, allowed_in, filled, no_settings, with_setting, settings_from}
+use Rattle.scott_requests.specs.Settings.{AreSteps, Setting, draws, style, opening, saving, pausing, most_steps, word_width, SettingFits, Settings, SettingsFit, listed, seeded, entering, each, style_named, steps_of, width_of, play_setting, position_setting, pause_setting, run_setting, setting_in, play_setting_in, position_setting_in, pause_setting_in, run_setting_in, allows, allowed_in, filled, no_settings, with_setting, settings_from}
 use Rattle.scott_requests.specs.Request.{file_and_settings, steps_in}
 
 -- ---- numbers of steps

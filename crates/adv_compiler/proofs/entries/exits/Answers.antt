@@ -1,7 +1,5 @@
-use Rattle.std.proofs.Common.{◌≡◌, ◌∙◌, ◌≤◌, ◌<◌, ap, sym, ℤ, length, arith, rules, w32, to_z, of_z, Ok}
-use Rattle.std.specs.Prelude.{slice_set}
+use Rattle.std.proofs.Common.{◌≡◌, ◌∙◌, ◌≤◌, ◌<◌, sym, length, arith, rules, w32, to_z, of_z}
 use Rattle.std.proofs.lemmas.List.{length-set}
-use Rattle.adv_compiler.specs.Values.{value_of}
 use Rattle.adv_compiler.specs.Index.{known_in}
 use Rattle.adv_compiler.proofs.Exits.{exits_further, exits_end}
 use Rattle.adv_compiler.proofs.entries.exits.Goals as goal

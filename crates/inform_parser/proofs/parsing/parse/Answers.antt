@@ -3,7 +3,7 @@ use Rattle.inform_tree.specs.Programs.{program_of}
 use Rattle.inform_grammar.specs.Reading.{Input}
 use Rattle.inform_grammar.specs.Rule.{program}
 use Rattle.inform_parser.specs.Reading.{read, StopsAt}
-use Rattle.inform_parser.specs.Programs.{IsFaultOf, place_before, fault_at, fault_answer}
+use Rattle.inform_parser.specs.Programs.{place_before, fault_at, fault_answer}
 use Rattle.inform_parser.proofs.Answered.{found, same, no_fault, first, no_program, expected, refused}
 use Rattle.inform_parser.proofs.parsing.parse.Goals as goal
 

@@ -1,6 +1,4 @@
-use Rattle.std.proofs.Common.{◌≡◌, List, [], length, map, arith, rules}
-use Rattle.std.proofs.lemmas.Grind.{common_steps}
-use Rattle.inform_tree.specs.Statements.{statement_of, statements, case_of}
+use Rattle.std.proofs.Common.{◌≡◌, [], length, map, arith}
 use Rattle.inform_parser.specs.Parts.{part_of}
 use Rattle.inform_parser.proofs.CaseSteps.{finished, no_more, case_made}
 use Rattle.inform_parser.proofs.parts.cases.Goals as goal

@@ -1,4 +1,4 @@
-use Rattle.std.proofs.Common.{◌≡◌, length, take, arith, subst}
+use Rattle.std.proofs.Common.{◌≡◌, length, take, arith}
 use Rattle.std.proofs.lemmas.List.{length-take-le}
 use Rattle.scott_files.proofs.Parts.{fed_after, first_after, all_after}
 use Rattle.scott_files.proofs.loading.read_piece.Goals as goal

@@ -1,4 +1,4 @@
-use Rattle.std.proofs.Common.{◌≡◌, ◌<◌, length, sym, ◌∙◌, arith}
+use Rattle.std.proofs.Common.{sym, ◌∙◌, arith}
 use Rattle.source_reader.proofs.EndMarks.{end_mark_read}
 use Rattle.source_reader.proofs.singles.symbol.Goals as goal
 

@@ -1,4 +1,4 @@
-use Rattle.std.proofs.Common.{◌≡◌, ◌∙◌, ap, map, drop, List}
+use Rattle.std.proofs.Common.{◌∙◌, ap, map, drop, List}
 use Rattle.source_reader.specs.declared.tree.At.{At}
 use Rattle.source_reader.specs.declared.tree.RoomPart.{RoomPart}
 use Rattle.source_reader.specs.declared.tree.MessagePart.{MessagePart}
@@ -6,7 +6,6 @@ use Rattle.source_reader.specs.declared.tree.ItemPart.{ItemPart}
 use Rattle.source_reader.specs.declared.tree.WordPart.{WordPart}
 use Rattle.adv_compiler.specs.declared.names.Key.TheVariants.{Verb, Noun}
 use Rattle.adv_compiler.specs.Known.{named_from, title_of, column_of, known_of}
-use Rattle.adv_compiler.specs.Index.{known_in}
 use Rattle.adv_compiler.proofs.Lookups.{same_known}
 use Rattle.adv_compiler.proofs.tables.Tables.of.Goals as goal
 

@@ -1,4 +1,4 @@
-use Rattle.std.proofs.Common.{◌≡◌, sym, ◌∙◌, ap, length, arith}
+use Rattle.std.proofs.Common.{sym, ◌∙◌, ap, length, arith}
 use Rattle.inform_grammar.specs.Reading.{Input}
 use Rattle.inform_parser.specs.Glances.{first_glance, opened_within}
 use Rattle.inform_parser.specs.Reading.{read}

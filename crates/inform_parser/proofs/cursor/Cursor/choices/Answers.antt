@@ -1,4 +1,4 @@
-use Rattle.std.proofs.Common.{◌≡◌, ◌∙◌, sym, arith}
+use Rattle.std.proofs.Common.{◌∙◌, sym, arith}
 use Rattle.inform_grammar.specs.Rules as r
 use Rattle.inform_parser.proofs.Loops.{goes_on_same}
 use Rattle.inform_parser.proofs.ChoiceSteps.{choice_more}

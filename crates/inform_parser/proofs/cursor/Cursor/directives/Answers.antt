@@ -1,7 +1,7 @@
-use Rattle.std.proofs.Common.{◌≡◌, ◌∙◌, sym, map, arith}
+use Rattle.std.proofs.Common.{◌∙◌, sym, map, arith}
 use Rattle.inform_tree.specs.Programs.{directive_of}
 use Rattle.inform_grammar.specs.Rules as r
-use Rattle.inform_parser.proofs.Loops.{goes_on, goes_on_same}
+use Rattle.inform_parser.proofs.Loops.{goes_on}
 use Rattle.inform_parser.proofs.DirectiveSteps.{directive_more}
 use Rattle.inform_parser.proofs.cursor.Cursor.directives.Goals as goal
 

@@ -1,6 +1,6 @@
-use Rattle.std.proofs.Common.{◌≡◌, ◌∙◌, sym, map, arith}
+use Rattle.std.proofs.Common.{◌∙◌, sym, arith}
 use Rattle.inform_grammar.specs.Rules as r
-use Rattle.inform_parser.proofs.Loops.{goes_on, goes_on_same}
+use Rattle.inform_parser.proofs.Loops.{goes_on_same}
 use Rattle.inform_parser.proofs.DirectiveSteps.{entry_more}
 use Rattle.inform_parser.proofs.cursor.Cursor.entries.Goals as goal
 

@@ -1,8 +1,5 @@
-use Rattle.std.proofs.Common.{◌≡◌, ◌∙◌, sym, refl, false, true}
+use Rattle.std.proofs.Common.{◌∙◌, sym, false}
 use Rattle.std.proofs.lemmas.Result.{err_from_is_err_and}
-use Rattle.inform_lexemes.specs.Lexemes.{is_sign}
-use Rattle.inform_grammar.specs.Lexemes.{is_relation}
-use Rattle.inform_parser.specs.Nexts.{relation_lexeme}
 use Rattle.inform_parser.proofs.Taking.{sign_taken, sign_stops}
 use Rattle.inform_parser.proofs.cursor.Cursor.expect.Goals as goal
 

@@ -1,4 +1,4 @@
-use Rattle.std.proofs.Common.{◌≡◌, ◌∙◌, sym, map, arith}
+use Rattle.std.proofs.Common.{◌∙◌, sym, map, arith}
 use Rattle.inform_tree.specs.Statements.{print_item_of}
 use Rattle.inform_grammar.specs.Rules as r
 use Rattle.inform_parser.proofs.Loops.{goes_on}

@@ -1,8 +1,6 @@
-use Rattle.std.proofs.Common.{◌≡◌, ◌∙◌, sym, refl, false, true}
+use Rattle.std.proofs.Common.{◌∙◌, sym, refl}
 use Rattle.std.proofs.lemmas.Result.{err_from_is_err_and}
 use Rattle.inform_lexemes.specs.Lexemes.{Number, is_number}
-use Rattle.inform_grammar.specs.Lexemes.{is_relation}
-use Rattle.inform_parser.specs.Nexts.{relation_lexeme}
 use Rattle.inform_parser.proofs.Taking.{first_taken, first_stops}
 use Rattle.inform_parser.proofs.cursor.Cursor.number.Goals as goal
 

@@ -1,10 +1,7 @@
 use Rattle.std.proofs.Common.{arith}
-use Rattle.scott_format.specs.declared.stops.Due.TheVariants.{Number}
-use Rattle.scott_format.specs.Sections.{action, word, room, string, item, trailer}
-use Rattle.scott_format.specs.Bodies.{action_count, word_count, room_count, message_count, item_count, from_words, from_rooms, from_messages, from_items, from_comments, from_trailer}
-use Rattle.scott_format.proofs.Dues.{trailer_due}
-use Rattle.scott_format.proofs.ListSteps.{same_advances, list_due}
-use Rattle.scott_format.proofs.BodySteps.{on_ok_with, due_first, to_words, to_rooms, to_messages, to_items, to_comments}
+use Rattle.scott_format.specs.Sections.{word}
+use Rattle.scott_format.specs.Bodies.{word_count, from_words, from_rooms}
+use Rattle.scott_format.proofs.ListSteps.{list_due}
 use Rattle.scott_format.proofs.bodies.Body.read_actions.Goals as goal
 
 pub returns-clause-advances : goal.returns-clause-advances
