@@ -14,7 +14,7 @@ use Rattle.inform_run.specs.declared.runners.Runner.{Runner}
 use Rattle.inform_run.specs.declared.stops.Stop.{Stop}
 use Rattle.inform_run.specs.declared.stops.Stop.TheVariants as v
 use Rattle.inform_run.specs.Runners.{program_run, begun_in, left_to, resumed, Runs, RunsToCall}
-use Rattle.inform_run.specs.Turns.{stop_seen}
+use Rattle.inform_run.specs.Stops.{stop_seen}
 use Rattle.adv_coverage.specs.Calls.{entered_by, entered_since}
 use Rattle.adv_coverage.proofs.Pieces.{on-there, runs-on, enters-more, enters-on, runs-out, enters-out, fails-on}
 

@@ -19,7 +19,7 @@ use Rattle.inform_steps.specs.Laws.{PiecesJoin, EnteredJoin, StoppedStays, Stopp
 use Rattle.inform_run.specs.declared.runners.Runner.{Runner}
 use Rattle.inform_run.specs.declared.stops.Stop.{Stop}
 use Rattle.inform_run.specs.Runners.{program_run, begun_in, world_in, left_to, resumed, Leaves, Runs}
-use Rattle.inform_run.specs.Turns.{stop_seen}
+use Rattle.inform_run.specs.Stops.{stop_seen}
 use Rattle.adv_coverage.specs.Calls.{entered_by, entered_since}
 
 -- ---- what is shown and drawn

@@ -3,7 +3,7 @@ ghost use Rattle.std.specs.Prelude.{◌≡◌, ◌-◌, IfOk, codes};
 ghost use Rattle.inform_meaning.specs.Programs.{no_notes, run_of};
 ghost use Rattle.inform_names.specs.Views.{directives_of};
 ghost use Rattle.inform_run.specs.Runners.{world_in};
-ghost use Rattle.inform_run.specs.Turns.{stop_seen};
+ghost use Rattle.inform_run.specs.Stops.{stop_seen};
 ghost use Rattle.adv_demo.specs.Summaries.{global_of, end_of_run, run_summary};
 
 use crate::summaries::{Summary, end_of_run};

@@ -1,6 +1,6 @@
 //! How a play or a run ended.
 ghost use Rattle.std.specs.Prelude.{◌≡◌};
-ghost use Rattle.inform_run.specs.Turns.{stop_seen};
+ghost use Rattle.inform_run.specs.Stops.{stop_seen};
 ghost use Rattle.adv_demo.specs.Summaries.{end_of_play, end_of_run};
 
 use inform_run::Stop;

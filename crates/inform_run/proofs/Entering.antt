@@ -20,7 +20,7 @@ use Rattle.inform_frames.specs.declared.nexts.Said.TheVariants as s
 use Rattle.inform_frames.specs.Frames.{signal_of}
 use Rattle.inform_run.specs.Points.{Point, config_at, run_from, first_need, next_need, EntersNone}
 use Rattle.inform_run.specs.Machines.{LeadsOn, LeadsSilently, EntersNoneOn, EntersNoneAnyway}
-use Rattle.inform_run.specs.Turns.{given, unused}
+use Rattle.inform_run.specs.Stops.{given, unused}
 use Rattle.inform_run.proofs.Moving.{Asks, asks, needed, ends-spent}
 use Rattle.inform_run.proofs.Advances.{begun, taken-out, taken-needs, goes-lead}
 use Rattle.inform_run.proofs.Quiet.{here}

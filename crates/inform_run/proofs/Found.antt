@@ -10,7 +10,7 @@ use Rattle.inform_meaning.specs.Frames.{Outcome}
 use Rattle.inform_meaning.specs.Runs.{Stop, resume, stop_of, begun_of}
 use Rattle.inform_meaning.specs.Laws.{RunsGo}
 use Rattle.inform_frames.specs.declared.signals.Signal.TheVariants as g
-use Rattle.inform_run.specs.Turns.{EndsOn, BreaksAfter}
+use Rattle.inform_run.specs.Stops.{EndsOn, BreaksAfter}
 
 -- where something is known, what holds of each such thing
 pub if-known : {X : Type 0} {P : X → Type 0} (o : Option X) → ((x : X) → o ≡ Some x → P x) → IfSome o P

@@ -15,7 +15,7 @@ use Rattle.inform_frames.specs.declared.nexts.Said.TheVariants as s
 use Rattle.inform_frames.specs.Frames.{signal_of}
 use Rattle.inform_run.specs.Points.{Point, next_need, said_of, MovesOn, StepsOn, Ends, Breaks}
 use Rattle.inform_run.specs.Machines.{LeadsOn}
-use Rattle.inform_run.specs.Turns.{EndsOn, BreaksAfter}
+use Rattle.inform_run.specs.Stops.{EndsOn, BreaksAfter}
 use Rattle.adv_io.proofs.Sayings.{nothing_said}
 use Rattle.inform_run.proofs.Advances.{goes-lead}
 use Rattle.inform_run.proofs.Moving.{line-next, draw-next, ends-then, breaks-then, ends-over, ends-spent, ends-line, ends-draw, breaks-ticks}
@@ -43,6 +43,11 @@ pub any-none : {X E : Type 0} (A : Type 0) (r : Result (Option X) E) → A → I
 any-none A (Ok None) a = a
 any-none A (Ok (Some x)) a = tt
 any-none A (Err e) a = tt
+
+pub none-some : {X E : Type 0} (A : X → Type 0) (r : Result (Option X) E) → IfOk r (λ o. o ≡ None) → IfOk r (λ o. IfSome o A)
+none-some A (Ok None) is = tt
+none-some A (Ok (Some x)) is = absurd cc
+none-some A (Err e) is = tt
 
 -- ---- after what led there
 

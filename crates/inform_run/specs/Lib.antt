@@ -1,5 +1,6 @@
 pub mod Points
 pub mod Machines
-pub mod Turns
+pub mod Stops
+pub mod Stepping
 pub mod Runners
 pub mod Fitness

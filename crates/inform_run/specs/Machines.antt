@@ -1,7 +1,8 @@
 -- A machine, as the definitions see it.
-use Rattle.std.specs.Prelude.{ℕ, ℤ, ◌≡◌, ◌≤◌, Bool, true, false, List, [], Option, Some, ⊤}
+use Rattle.std.specs.Prelude.{ℕ, ℤ, ◌≡◌, ◌≤◌, Bool, true, false, List, [], Option, Some, Result, ⊤}
 use Rattle.adv_io.specs.Steps.{Step}
 use Rattle.adv_io.specs.Console.{ConsoleView}
+use Rattle.adv_io.specs.Faults.{HasCause}
 use Rattle.inform_meaning.specs.Worlds.{Program}
 use Rattle.inform_meaning.specs.Runs.{CALL_LIMIT}
 use Rattle.inform_moves.specs.Heights.{Fits, calls_open}
@@ -22,6 +23,20 @@ point_of m = record { frames = stack_of m.stack; handed = m.signal; world = worl
 abbrev pub IsFit : Machine → Type 0
 IsFit m = Fits (stack_of m.stack) × ((calls_open (stack_of m.stack) ≤ CALL_LIMIT)
     × IsReady (world_of m.world) (stack_of m.stack))
+
+-- the program stays, and the machine is fit
+pub record Keeps (old new : Machine) : Type 0 where
+  pub names : new.world.names ≡ old.world.names
+  pub sound : IsFit new
+
+-- the same of what works on a console, which adds no line to those that may come, and counts what
+-- failed
+pub record KeepsOn {T E : Type 0} (old new : Machine) (before after : ConsoleView)
+    (result : Result T E) : Type 0 where
+  pub names : new.world.names ≡ old.world.names
+  pub sound : IsFit new
+  pub bounded : after.bound ≤ before.bound
+  pub cause : HasCause before.faults after.faults result
 
 -- what is due at a point, where these lines, if they are known, and these draws are left
 abbrev pub IsDue : Point → Option (List (List ℕ)) → List ℕ → Due → Type 0

@@ -16,7 +16,7 @@ use Rattle.inform_run.specs.declared.runners.Runner.{Runner}
 use Rattle.inform_run.specs.declared.stops.Stop.{Stop}
 use Rattle.inform_steps.specs.Pieces.{entered_in}
 use Rattle.inform_frames.specs.Stacks.{stack_of}
-use Rattle.inform_run.specs.Turns.{stop_seen}
+use Rattle.inform_run.specs.Stops.{stop_seen}
 
 abbrev pub program_run : Runner → Program
 program_run r = program_seen r.machine.world
@@ -59,8 +59,8 @@ pub record Runs (old_console new_console : ConsoleView) (result : Result Stop Co
   pub lines : OnOk result (new_console.left ≡ Some t.1.lines)
   pub leaves : IfOk result (λ stop. Leaves t steps old new before now stop)
 
--- A run that goes no further than to where a call is due: it uses some number of its steps, in which
--- no routine is entered, and with those it does what the program does.
+-- A run that goes no further than to where a call is due: it uses some number of its steps, in
+-- which no routine is entered, and with those it does what the program does.
 pub record RunsToCall (old_console new_console : ConsoleView) (result : Result Stop ConsoleFault)
     (steps : ℕ) (lines : List (List ℕ)) (old new : Runner) (before now : Supply) : Type 0 where
   pub count : ℕ

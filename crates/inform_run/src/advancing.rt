@@ -2,7 +2,6 @@
 ghost use Rattle.std.specs.Prelude.{◌≡◌, false, ◌≤◌, Option, ◌<◌, List, ℕ, Some, IfOk, OnErr};
 ghost use Rattle.adv_draws.specs.Supply.{supplied};
 ghost use Rattle.adv_io.specs.Console.{ConsoleView};
-ghost use Rattle.adv_io.specs.Faults.{HasCause};
 ghost use Rattle.inform_meaning.specs.Words.{draw_within};
 ghost use Rattle.inform_moves.specs.Needs.{Nothing, ALine, ADraw};
 ghost use Rattle.inform_moves.specs.Readiness.{AreDry};
@@ -11,7 +10,7 @@ ghost use Rattle.inform_worlds.specs.Views.{world_of, program_seen};
 ghost use Rattle.inform_frames.specs.Frames.{rest_of};
 ghost use Rattle.inform_frames.specs.Stacks.{stack_of};
 ghost use Rattle.inform_run.specs.Points.{next_need};
-ghost use Rattle.inform_run.specs.Machines.{point_of, IsFit, is_still, IsDue, LeadsOn, BreaksOn};
+ghost use Rattle.inform_run.specs.Machines.{point_of, IsFit, Keeps, KeepsOn, is_still, IsDue, LeadsOn, BreaksOn};
 
 use crate::machines::{Machine, say};
 use adv_draws::Draws;
@@ -64,8 +63,7 @@ impl<'a> Machine<'a> {
     // The innermost frame is finished, and this is handed on.
     fn finish(&mut self, signal: Signal)
         requires { IsFit self.old }
-        ensures names { self.new.world.names ≡ self.old.world.names }
-        ensures sound { IsFit self.new }
+        ensures kept { Keeps self.old self.new }
         ensures point { point_of self.new ≡ record {
           frames = rest_of (stack_of self.old.stack);
           handed = signal;
@@ -86,10 +84,7 @@ impl<'a> Machine<'a> {
     ) -> Result<Due, ConsoleFault>
         requires sound { IsFit self.old }
         requires needs { next_need (point_of self.old) ≡ Some (ALine name.now) }
-        ensures names { self.new.world.names ≡ self.old.world.names }
-        ensures sound { IsFit self.new }
-        ensures bounded { (C.seen console.new).bound ≤ (C.seen console.old).bound }
-        ensures cause { HasCause (C.seen console.old).faults (C.seen console.new).faults result }
+        ensures kept { KeepsOn self.old self.new (C.seen console.old) (C.seen console.new) result }
         ensures leads { (draws : List ℕ) → IfOk result (λ due. LeadsOn (program_seen self.old.world)
             (C.seen console.old) (C.seen console.new) (point_of self.old) (point_of self.new)
             draws draws 0) }
@@ -119,8 +114,7 @@ impl<'a> Machine<'a> {
     fn draw(&mut self, n: i32, draws: &mut Draws) -> Due
         requires sound { IsFit self.old }
         requires needs { next_need (point_of self.old) ≡ Some (ADraw n) }
-        ensures names { self.new.world.names ≡ self.old.world.names }
-        ensures sound { IsFit self.new }
+        ensures kept { Keeps self.old self.new }
         ensures supply { supplied draws.new ≡ supplied draws.old }
         ensures leads { (seen : ConsoleView) → LeadsOn (program_seen self.old.world) seen seen
             (point_of self.old) (point_of self.new) draws.old.left draws.new.left 0 }
@@ -145,10 +139,7 @@ impl<'a> Machine<'a> {
     fn go<C: Console>(&mut self, console: &mut C) -> Result<Due, ConsoleFault>
         requires sound { IsFit self.old }
         requires needs { next_need (point_of self.old) ≡ Some Nothing }
-        ensures names { self.new.world.names ≡ self.old.world.names }
-        ensures sound { IsFit self.new }
-        ensures bounded { (C.seen console.new).bound ≤ (C.seen console.old).bound }
-        ensures cause { HasCause (C.seen console.old).faults (C.seen console.new).faults result }
+        ensures kept { KeepsOn self.old self.new (C.seen console.old) (C.seen console.new) result }
         ensures leads { (draws : List ℕ) → IfOk result (λ due. LeadsOn (program_seen self.old.world)
             (C.seen console.old) (C.seen console.new) (point_of self.old) (point_of self.new)
             draws draws 0) }
@@ -177,10 +168,7 @@ impl<'a> Machine<'a> {
         console: &mut C,
     ) -> Result<Due, ConsoleFault>
         requires { IsFit self.old }
-        ensures names { self.new.world.names ≡ self.old.world.names }
-        ensures sound { IsFit self.new }
-        ensures bounded { (C.seen console.new).bound ≤ (C.seen console.old).bound }
-        ensures cause { HasCause (C.seen console.old).faults (C.seen console.new).faults result }
+        ensures kept { KeepsOn self.old self.new (C.seen console.old) (C.seen console.new) result }
         ensures supply { supplied draws.new ≡ supplied draws.old }
         ensures leads { IfOk result (λ due. LeadsOn (program_seen self.old.world)
             (C.seen console.old) (C.seen console.new) (point_of self.old) (point_of self.new)

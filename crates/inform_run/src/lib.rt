@@ -6,12 +6,12 @@
 mod machines;
 mod stops;
 
-// A move; the next turn of a loop at once; moves up to the next step; a turn with that step; turns.
+// A move; moves up to the next step; the next turn of a loop at once; a step; a run.
 mod advancing;
-mod rounds;
+mod loops;
 mod running;
 mod settling;
-mod turning;
+mod stepping;
 
 // A run from its beginning, and on from where it stopped.
 mod runners;

@@ -1,12 +1,11 @@
 //! A run with so many steps.
 ghost use Rattle.std.specs.Prelude.{◌≡◌, ◌≤◌, ◌<◌, ◌-◌, true, IfOk, OnErr};
 ghost use Rattle.adv_draws.specs.Supply.{supplied};
-ghost use Rattle.adv_io.specs.Faults.{HasCause};
 ghost use Rattle.inform_steps.specs.Standing.{CallIsDue};
 ghost use Rattle.inform_worlds.specs.Views.{world_of, program_seen};
 ghost use Rattle.inform_frames.specs.Stacks.{stack_of};
-ghost use Rattle.inform_run.specs.Machines.{point_of, IsFit, EntersNoneOn};
-ghost use Rattle.inform_run.specs.Turns.{stop_seen, given, unused, EndsOn, BreaksAfter};
+ghost use Rattle.inform_run.specs.Machines.{point_of, IsFit, KeepsOn, EntersNoneOn};
+ghost use Rattle.inform_run.specs.Stops.{stop_seen, given, unused, EndsOn, BreaksAfter};
 
 use crate::machines::Machine;
 use crate::stops::Stop;
@@ -21,7 +20,7 @@ pub struct Ran {
 }
 
 impl<'a> Machine<'a> {
-    /// Turns, until the run stops, or, if it pauses at calls, until a call is due.
+    /// Steps, until the run stops, or, if it pauses at calls, until a call is due.
     pub fn run<C: Console>(
         &mut self,
         steps: u64,
@@ -30,10 +29,7 @@ impl<'a> Machine<'a> {
         console: &mut C,
     ) -> Result<Ran, ConsoleFault>
         requires { IsFit self.old }
-        ensures names { self.new.world.names ≡ self.old.world.names }
-        ensures sound { IsFit self.new }
-        ensures bounded { (C.seen console.new).bound ≤ (C.seen console.old).bound }
-        ensures cause { HasCause (C.seen console.old).faults (C.seen console.new).faults result }
+        ensures kept { KeepsOn self.old self.new (C.seen console.old) (C.seen console.new) result }
         ensures supply { supplied draws.new ≡ supplied draws.old }
         ensures fewer { IfOk result (λ ran. ran.left ≤ steps) }
         ensures enters { IfOk result (λ ran. to_call ≡ true → EntersNoneOn
@@ -51,7 +47,7 @@ impl<'a> Machine<'a> {
     {
         let mut line = Line::of(&[]);
         let mut left = steps;
-        'turns: loop {
+        'running: loop {
             let stopped = self.next_step(left, to_call, draws, &mut line, console)?;
             match stopped {
                 Some(stop) => return Ok(Ran { stop, left }),

@@ -1,9 +1,8 @@
 //! Moves that take no step, up to the next step or to where the run stops.
-ghost use Rattle.std.specs.Prelude.{◌≡◌, true, ◌≤◌, IfOk, OnErr};
+ghost use Rattle.std.specs.Prelude.{◌≡◌, true, IfOk, OnErr};
 ghost use Rattle.adv_draws.specs.Supply.{supplied};
-ghost use Rattle.adv_io.specs.Faults.{HasCause};
 ghost use Rattle.inform_worlds.specs.Views.{program_seen};
-ghost use Rattle.inform_run.specs.Machines.{point_of, IsFit, IsDue, is_still, LeadsOn, BreaksOn};
+ghost use Rattle.inform_run.specs.Machines.{point_of, IsFit, KeepsOn, IsDue, is_still, LeadsOn, BreaksOn};
 
 use crate::advancing::Due;
 use crate::machines::Machine;
@@ -19,10 +18,7 @@ impl<'a> Machine<'a> {
         console: &mut C,
     ) -> Result<Due, ConsoleFault>
         requires { IsFit self.old }
-        ensures names { self.new.world.names ≡ self.old.world.names }
-        ensures sound { IsFit self.new }
-        ensures bounded { (C.seen console.new).bound ≤ (C.seen console.old).bound }
-        ensures cause { HasCause (C.seen console.old).faults (C.seen console.new).faults result }
+        ensures kept { KeepsOn self.old self.new (C.seen console.old) (C.seen console.new) result }
         ensures supply { supplied draws.new ≡ supplied draws.old }
         ensures leads { IfOk result (λ due. LeadsOn (program_seen self.old.world)
             (C.seen console.old) (C.seen console.new) (point_of self.old) (point_of self.new)

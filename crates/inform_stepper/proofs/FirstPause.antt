@@ -5,7 +5,7 @@ use Rattle.std.proofs.lemmas.Bool.Decides.{nat_tests}
 use Rattle.inform_meaning.specs.Tables.{first_of_two}
 use Rattle.inform_run.specs.declared.stops.Stop.{Stop}
 use Rattle.inform_run.specs.declared.stops.Stop.TheVariants as s
-use Rattle.inform_run.specs.Turns.{stop_seen}
+use Rattle.inform_run.specs.Stops.{stop_seen}
 use Rattle.inform_stepper.specs.declared.pauses.Until.{Until}
 use Rattle.inform_stepper.specs.declared.pauses.Paused.{Paused}
 use Rattle.inform_stepper.specs.declared.pauses.Paused.TheVariants as p

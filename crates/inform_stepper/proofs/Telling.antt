@@ -21,7 +21,7 @@ use Rattle.inform_steps.specs.Laws.{PiecesJoin, SpentGoesOn, StoppedStays}
 use Rattle.inform_run.specs.declared.runners.Runner.{Runner}
 use Rattle.inform_run.specs.declared.stops.Stop.{Stop}
 use Rattle.inform_run.specs.declared.stops.Stop.TheVariants as s
-use Rattle.inform_run.specs.Turns.{stop_seen}
+use Rattle.inform_run.specs.Stops.{stop_seen}
 use Rattle.inform_run.specs.Runners.{program_run, begun_in, world_in, left_to, resumed, Leaves, Runs}
 use Rattle.inform_stepper.specs.declared.pauses.Until.{Until}
 use Rattle.inform_stepper.specs.declared.pauses.Paused.{Paused}

@@ -21,7 +21,7 @@ use Rattle.inform_names.specs.declared.accepted.Accepted.{Accepted}
 use Rattle.inform_run.specs.declared.runners.Runner.{Runner}
 use Rattle.inform_run.specs.declared.stops.Stop as s
 use Rattle.inform_run.specs.Runners.{resumed, Runs}
-use Rattle.inform_run.specs.Turns.{stop_seen}
+use Rattle.inform_run.specs.Stops.{stop_seen}
 use Rattle.inform_tree.specs.declared.widths.Width.{Width}
 use Rattle.inform_tree.specs.Programs.{DirectiveTree}
 use Rattle.scott_tool.specs.Calls.{entered_counts, calls_end}

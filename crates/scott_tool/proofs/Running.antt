@@ -20,7 +20,7 @@ use Rattle.adv_io.specs.Faults.{HasCause, Rose}
 use Rattle.adv_io.specs.declared.faults.ConsoleFault.{ConsoleFault}
 use Rattle.inform_meaning.specs.Worlds as w
 use Rattle.inform_run.specs.declared.stops.Stop as s
-use Rattle.inform_run.specs.Turns.{stop_seen}
+use Rattle.inform_run.specs.Stops.{stop_seen}
 use Rattle.adv_io.specs.History.{grown, GrewByPrefix}
 use Rattle.adv_io.specs.Shelf.{ShelfView}
 use Rattle.inform_tree.specs.declared.widths.Width.{Width}

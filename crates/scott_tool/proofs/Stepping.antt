@@ -19,7 +19,7 @@ use Rattle.inform_worlds.specs.Worlds.{program_of}
 use Rattle.inform_run.specs.declared.runners.Runner.{Runner}
 use Rattle.inform_run.specs.declared.stops.Stop as s
 use Rattle.inform_run.specs.Runners.{program_run, begun_in, world_in, resumed}
-use Rattle.inform_run.specs.Turns.{stop_seen}
+use Rattle.inform_run.specs.Stops.{stop_seen}
 use Rattle.inform_stepper.specs.declared.repeats.Pausing.{Pausing}
 use Rattle.inform_stepper.specs.Laws.{StepsAreShown}
 use Rattle.inform_stepper.specs.Repeats.{waited, globals_of, shown_with_pauses, RunsShowing}

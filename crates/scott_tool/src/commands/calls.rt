@@ -2,7 +2,7 @@
 //! it entered.
 ghost use Rattle.std.specs.Prelude.{◌≡◌, Ok, IfOk, length, replicate};
 ghost use Rattle.inform_names.specs.Views.{directives_of};
-ghost use Rattle.inform_run.specs.Turns.{stop_seen};
+ghost use Rattle.inform_run.specs.Stops.{stop_seen};
 ghost use Rattle.scott_requests.specs.Request.{calls};
 ghost use Rattle.scott_requests.specs.Views.{asked_run, source_of};
 ghost use Rattle.scott_tool.specs.Calls.{called_text, calls_end};

@@ -3,7 +3,7 @@ ghost use Rattle.std.specs.Prelude.{◌≡◌, Ok};
 ghost use Rattle.adv_io.specs.Console.{Speaks};
 ghost use Rattle.adv_io.specs.History.{says};
 ghost use Rattle.inform_names.specs.Views.{directives_of};
-ghost use Rattle.inform_run.specs.Turns.{stop_seen};
+ghost use Rattle.inform_run.specs.Stops.{stop_seen};
 ghost use Rattle.scott_requests.specs.Request.{run};
 ghost use Rattle.scott_requests.specs.Views.{asked_run, source_of};
 ghost use Rattle.scott_tool.specs.Refusal.{refusing};

@@ -2,7 +2,7 @@ use Rattle.std.proofs.Common.{◌≡◌, ◌∙◌, ◌-◌, length, refl, ap}
 use Rattle.inform_meaning.specs.Frames.{Outcome}
 use Rattle.inform_meaning.specs.Worlds.{Config}
 use Rattle.inform_run.specs.Runners.{program_run, begun_in, world_in, left_to, resumed}
-use Rattle.inform_run.specs.Turns.{stop_seen}
+use Rattle.inform_run.specs.Stops.{stop_seen}
 use Rattle.adv_demo.specs.Summaries.{run_summary}
 use Rattle.adv_demo.proofs.Ends.{run_is, ran, steps_left}
 use Rattle.adv_demo.proofs.running.run_lines.Goals as goal

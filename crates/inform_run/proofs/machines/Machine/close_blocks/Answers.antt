@@ -9,8 +9,10 @@ use Rattle.inform_run.proofs.machines.Machine.close_blocks.Goals as goal
 pub closing-init : goal.closing-init
 closing-init c =
     record {
-      names = refl;
-      sound = c.requires.sound;
+      kept = record {
+        names = refl;
+        sound = c.requires.sound;
+      };
       signal = c.requires.signal;
       quiet = λ seen draws. stays (program_seen c.args.self.now.world) (point_of c.args.self.now) draws draws refl seen;
     }
@@ -21,9 +23,11 @@ closing-preserved c =
     let at = point_of c.closing.self in
     let after = point_of c.close_block.new.self in
     record {
-      names = c.close_block.ensures.names ∙ c.closing.invariant.names;
-      sound = c.close_block.ensures.sound;
-      signal = c.close_block.ensures.signal;
+      kept = record {
+        names = c.close_block.ensures.closes.kept.names ∙ c.closing.invariant.kept.names;
+        sound = c.close_block.ensures.closes.kept.sound;
+      };
+      signal = c.close_block.ensures.closes.signal;
       quiet = silently-then p (point_of c.args.self.now) at after 0 0 c.closing.invariant.quiet
-          (subst (λ q. LeadsSilently q at after 0) (ap (λ names. program_of names.accepted.now) c.closing.invariant.names) c.close_block.ensures.quiet);
+          (subst (λ q. LeadsSilently q at after 0) (ap (λ names. program_of names.accepted.now) c.closing.invariant.kept.names) c.close_block.ensures.closes.quiet);
     }

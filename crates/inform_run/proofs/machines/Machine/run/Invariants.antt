@@ -4,9 +4,9 @@ use Rattle.inform_worlds.specs.Views.{program_seen}
 use Rattle.inform_run.specs.Machines.{point_of, IsFit, LeadsOn, EntersNoneOn}
 use Rattle.inform_run.proofs.machines.Machine.run.Given as goal
 
--- the turns so far lead here, and those of a run that pauses at calls enter no routine
-abbrev pub invariant-turns : goal.invariant-turns
-invariant-turns g l =
+-- the steps so far lead here, and those of a run that pauses at calls enter no routine
+abbrev pub invariant-running : goal.invariant-running
+invariant-running g l =
     let seen = g.C.Console.seen in
     record {
       names : l.self.world.names ≡ l.initial.self.world.names;
@@ -20,5 +20,5 @@ invariant-turns g l =
     }
 
 -- each takes a step
-abbrev pub decreases-turns : goal.decreases-turns
-decreases-turns g l = l.left
+abbrev pub decreases-running : goal.decreases-running
+decreases-running g l = l.left

@@ -21,9 +21,9 @@ pub moves-preserved : goal.moves-preserved
 moves-preserved g c =
     let seen = g.C.Console.seen in
     record {
-      names = c.advance.ensures.names ∙ c.moves.invariant.names;
-      sound = c.advance.ensures.sound;
-      bounded = omega (arith, c.moves.invariant.bounded, c.advance.ensures.bounded);
+      names = c.advance.ensures.kept.names ∙ c.moves.invariant.names;
+      sound = c.advance.ensures.kept.sound;
+      bounded = omega (arith, c.moves.invariant.bounded, c.advance.ensures.kept.bounded);
       steady = search rules;
       supply = c.advance.ensures.supply ∙ c.moves.invariant.supply;
       leads = on-then (program_seen c.args.self.now.world) (program_seen c.moves.self.world) (ap (λ names. program_of names.accepted.now) c.moves.invariant.names) (seen c.args.console.now) (seen c.moves.console) (seen c.advance.new.console)

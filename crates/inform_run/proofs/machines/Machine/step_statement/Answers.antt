@@ -6,19 +6,38 @@ use Rattle.inform_run.specs.Machines.{point_of}
 use Rattle.inform_run.proofs.Advances.{steps-lead}
 use Rattle.inform_run.proofs.Stopping.{steps-break}
 use Rattle.inform_run.proofs.Entering.{enters-statement}
+use Rattle.adv_io.proofs.Sayings.{cause_again, cause_fails}
 use Rattle.inform_run.proofs.machines.Machine.step_statement.Goals as goal
 
-pub returns-in-Ok-clause-leads : goal.returns-in-Ok-clause-leads
-returns-in-Ok-clause-leads g c =
-    let seen = g.C.Console.seen in
-    steps-lead c.moves_mean.ensures (program_seen c.args.self.now.world) (point_of c.args.self.now) (point_of c.make_statement-said.new.self) (seen c.args.console.now) (seen c.say.new.console) c.make_statement-said.result
-    c.make_statement-said.ensures.steps c.in-Ok.ensures
+pub returns-in-Ok-clause-step : goal.returns-in-Ok-clause-step
+returns-in-Ok-clause-step g c =
+    record {
+      kept = record {
+        names = c.make_statement-said.ensures.names;
+        sound = c.make_statement-said.ensures.fit;
+        bounded = c.say.ensures.bounded;
+        cause = cause_again _ c.in-Ok.ensures.cause;
+      };
+      leads = (let seen = g.C.Console.seen in
+          steps-lead c.moves_mean.ensures (program_seen c.args.self.now.world) (point_of c.args.self.now) (point_of c.make_statement-said.new.self) (seen c.args.console.now) (seen c.say.new.console) c.make_statement-said.result
+          c.make_statement-said.ensures.steps c.in-Ok.ensures);
+      breaks = λ draws. tt;
+    }
 
-pub returns-in-Err-clause-breaks : goal.returns-in-Err-clause-breaks
-returns-in-Err-clause-breaks g c =
-    let seen = g.C.Console.seen in
-    steps-break c.moves_mean.ensures c.runs_add.ensures (program_seen c.args.self.now.world) (point_of c.args.self.now) (point_of c.make_statement-said.new.self) (seen c.args.console.now) (seen c.say.new.console) c.args.left c.make_statement-said.result
-    c.make_statement-said.ensures.steps c.requires.some c.in-Err.ensures.part
+pub returns-in-Err-clause-step : goal.returns-in-Err-clause-step
+returns-in-Err-clause-step g c =
+    record {
+      kept = record {
+        names = c.make_statement-said.ensures.names;
+        sound = c.make_statement-said.ensures.fit;
+        bounded = c.say.ensures.bounded;
+        cause = cause_fails c.in-Err.fault c.in-Err.ensures.cause;
+      };
+      leads = λ draws. tt;
+      breaks = (let seen = g.C.Console.seen in
+          steps-break c.moves_mean.ensures c.runs_add.ensures (program_seen c.args.self.now.world) (point_of c.args.self.now) (point_of c.make_statement-said.new.self) (seen c.args.console.now) (seen c.say.new.console) c.args.left c.make_statement-said.result
+          c.make_statement-said.ensures.steps c.requires.some c.in-Err.ensures.part);
+    }
 
 pub returns-in-Ok-clause-enters : goal.returns-in-Ok-clause-enters
 returns-in-Ok-clause-enters g c =

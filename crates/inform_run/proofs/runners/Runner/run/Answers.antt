@@ -1,7 +1,7 @@
 use Rattle.std.proofs.Common.{arith}
 use Rattle.inform_worlds.specs.Views.{world_of, program_seen}
 use Rattle.inform_frames.specs.Stacks.{stack_of}
-use Rattle.inform_run.specs.Turns.{stop_seen}
+use Rattle.inform_run.specs.Stops.{stop_seen}
 use Rattle.inform_run.specs.Runners.{left_to}
 use Rattle.inform_run.proofs.Found.{if-known, found, broke}
 use Rattle.inform_run.proofs.runners.Runner.run.Goals as goal

@@ -1,13 +1,13 @@
 //! The next turn of a loop at once: the moves up to it, which need nothing and say nothing, and its
 //! step.
-ghost use Rattle.std.specs.Prelude.{◌≡◌, ◌<◌, ◌∷◌, true, false};
+ghost use Rattle.std.specs.Prelude.{◌≡◌, ◌<◌, ◌∷◌, true};
 ghost use Rattle.inform_tree.specs.Statements as s;
 ghost use Rattle.inform_meaning.specs.Frames as f;
-ghost use Rattle.inform_worlds.specs.Views.{program_seen};
 ghost use Rattle.inform_frames.specs.Frames.{rest_of};
 ghost use Rattle.inform_frames.specs.declared.signals.Signal.TheVariants as g;
 ghost use Rattle.inform_frames.specs.Stacks.{stack_of};
-ghost use Rattle.inform_run.specs.Machines.{point_of, IsFit, LeadsSilently, EntersNoneAnyway};
+ghost use Rattle.inform_run.specs.Machines.{IsFit};
+ghost use Rattle.inform_run.specs.Stepping.{Closes, BeginsTurn};
 
 use crate::machines::Machine;
 use inform_frames::{Begin, Frame, Signal};
@@ -22,14 +22,7 @@ impl<'a> Machine<'a> {
     fn turn_loop(&mut self) -> bool
         requires sound { IsFit self.old }
         requires signal { self.old.signal ≡ g.Normal }
-        ensures names { self.new.world.names ≡ self.old.world.names }
-        ensures sound { IsFit self.new }
-        ensures turned { result ≡ true → LeadsSilently (program_seen self.old.world)
-            (point_of self.old) (point_of self.new) 1 }
-        ensures enters { result ≡ true → EntersNoneAnyway (program_seen self.old.world)
-            (point_of self.old) 1 }
-        ensures quiet { result ≡ false → LeadsSilently (program_seen self.old.world)
-            (point_of self.old) (point_of self.new) 0 }
+        ensures { BeginsTurn self.old self.new result }
     {
         frames_are_few();
         moves_mean();
@@ -68,12 +61,8 @@ impl<'a> Machine<'a> {
         requires signal { self.old.signal ≡ g.Normal }
         requires block { stack_of self.old.stack
             ≡ f.Begins (f.Blocks s.NoStatements) ∷ rest_of (stack_of self.old.stack) }
-        ensures names { self.new.world.names ≡ self.old.world.names }
-        ensures sound { IsFit self.new }
-        ensures signal { self.new.signal ≡ g.Normal }
+        ensures closes { Closes self.old self.new }
         ensures rest { stack_of self.new.stack ≡ rest_of (stack_of self.old.stack) }
-        ensures quiet { LeadsSilently (program_seen self.old.world) (point_of self.old)
-            (point_of self.new) 0 }
     {
         moves_mean();
         moves_need();
@@ -84,11 +73,7 @@ impl<'a> Machine<'a> {
     fn close_blocks(&mut self)
         requires sound { IsFit self.old }
         requires signal { self.old.signal ≡ g.Normal }
-        ensures names { self.new.world.names ≡ self.old.world.names }
-        ensures sound { IsFit self.new }
-        ensures signal { self.new.signal ≡ g.Normal }
-        ensures quiet { LeadsSilently (program_seen self.old.world) (point_of self.old)
-            (point_of self.new) 0 }
+        ensures { Closes self.old self.new }
     {
         'closing: loop {
             if !self.stack.is_done() {
@@ -104,14 +89,7 @@ impl<'a> Machine<'a> {
     fn close(&mut self) -> bool
         requires sound { IsFit self.old }
         requires signal { self.old.signal ≡ g.Normal }
-        ensures names { self.new.world.names ≡ self.old.world.names }
-        ensures sound { IsFit self.new }
-        ensures turned { result ≡ true → LeadsSilently (program_seen self.old.world)
-            (point_of self.old) (point_of self.new) 1 }
-        ensures enters { result ≡ true → EntersNoneAnyway (program_seen self.old.world)
-            (point_of self.old) 1 }
-        ensures quiet { result ≡ false → LeadsSilently (program_seen self.old.world)
-            (point_of self.old) (point_of self.new) 0 }
+        ensures { BeginsTurn self.old self.new result }
     {
         self.close_blocks();
         self.turn_loop()
@@ -123,15 +101,8 @@ impl<'a> Machine<'a> {
     #[inline(always)]
     pub fn turn_at_once(&mut self, left: u64) -> bool
         requires { IsFit self.old }
-        ensures names { self.new.world.names ≡ self.old.world.names }
-        ensures sound { IsFit self.new }
         ensures some { result ≡ true → 0 < left }
-        ensures turned { result ≡ true → LeadsSilently (program_seen self.old.world)
-            (point_of self.old) (point_of self.new) 1 }
-        ensures enters { result ≡ true → EntersNoneAnyway (program_seen self.old.world)
-            (point_of self.old) 1 }
-        ensures quiet { result ≡ false → LeadsSilently (program_seen self.old.world)
-            (point_of self.old) (point_of self.new) 0 }
+        ensures turn { BeginsTurn self.old self.new result }
     {
         if left == 0 {
             return false;

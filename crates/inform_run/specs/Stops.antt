@@ -24,8 +24,8 @@ halted halt = m.Halted (halt_of halt)
 
 -- ---- steps
 
--- How many steps a run is given of so many, where so many of them aren't used, and how many of those
--- it is given are left at its end. One that pauses at calls is given the steps that it uses.
+-- How many steps a run is given of so many, where so many of them aren't used, and how many of
+-- those it is given are left at its end. One that pauses at calls is given the steps that it uses.
 abbrev pub given : Bool → ℕ → ℕ → ℕ
 given true steps left = steps - left
 given false steps left = steps
