@@ -9,7 +9,7 @@ ghost use Rattle.scott_rules.specs.Actions.{goes_on_after};
 use crate::calls::{left, name, next};
 use adv_io::Memory;
 use inform_tree::{Cond, Expr, Stmt};
-use scott_types::action_lines::{opcode_numbers, parameters};
+use scott_types::action_lines::{argument_of, condition_code, opcode_numbers, parameters};
 use scott_types::{Action, Db, Opcode};
 use std::alloc::Global;
 
@@ -24,8 +24,11 @@ const MORE: u32 = 73;
 fn test(alloc: Global, packed: u32) -> Result<Stmt, Memory>
     ensures { IfOk result (λ test. statement_of test ≡ condition_test packed) }
 {
-    let argument = next(alloc, 1, &[packed / 20])?;
-    let holds = Expr::Call(name(alloc, b"cond_", (packed % 20) as usize)?, argument);
+    let argument = next(alloc, 1, &[argument_of(packed)])?;
+    let holds = Expr::Call(
+        name(alloc, b"cond_", usize::from(condition_code(packed)))?,
+        argument,
+    );
     let fails = Cond::Not(Box::new(alloc, Cond::Nonzero(holds))?);
     let mut refused = Vec::with_capacity(alloc, 1)?;
     refused.push(Stmt::Rfalse)?;
@@ -41,7 +44,7 @@ fn tests(alloc: Global, conds: &[u32], after: Vec<Stmt>) -> Result<Vec<Stmt>, Me
         [] => Ok(after),
         [packed, others @ ..] => {
             let mut body = tests(alloc, others, after)?;
-            if *packed % 20 != 0 {
+            if condition_code(*packed) != 0 {
                 body.insert(0, test(alloc, *packed)?)?;
             }
             Ok(body)

@@ -13,7 +13,7 @@ use crate::opcodes::{ENDLESS_REFILL, OPCODES, REFILL};
 use adv_io::Memory;
 use inform_codes::{Code, Row, routines};
 use inform_tree::Directive;
-use scott_types::action_lines::opcode_numbers;
+use scott_types::action_lines::{condition_code, opcode_numbers};
 use scott_types::{Action, Db, Style};
 use std::alloc::Global;
 
@@ -31,7 +31,10 @@ pub enum Kind {
 fn has_condition(action: &Action, code: u32) -> bool
     ensures { result ≡ the_condition code action.now }
 {
-    action.conds.iter().any(|packed| *packed % 20 == code)
+    action
+        .conds
+        .iter()
+        .any(|packed| u32::from(condition_code(*packed)) == code)
 }
 
 fn has_opcode(action: &Action, number: u32) -> bool

@@ -17,6 +17,7 @@ use adv_io::Memory;
 use indexmap::IndexMap;
 use inform_codes::numbered;
 use inform_tree::{Case, Change, Cond, Const, Directive, Expr, Name, Relation, Routine, Stmt};
+use scott_types::action_lines::{noun_of, verb_of};
 use scott_types::{Action, Db};
 use std::alloc::Global;
 
@@ -111,7 +112,7 @@ fn put_first(
     if action.vocab == 0 {
         return Ok(None);
     }
-    let next = firsts.insert(action.vocab / 150, line)?;
+    let next = firsts.insert(verb_of(action.vocab), line)?;
     Ok(next)
 }
 
@@ -150,7 +151,7 @@ fn verb_tries(
     let mut body = Vec::new(alloc);
     let mut next = first;
     while let Some(line) = next {
-        put_head(alloc, actions[line].vocab % 150, line, &mut body)?;
+        put_head(alloc, noun_of(actions[line].vocab), line, &mut body)?;
         next = nexts[line];
     }
     Ok(body)
@@ -195,7 +196,7 @@ fn put_case(
     ensures { IfOk result (λ _. cases_of (reverse all.new.items)
         ≡ verb_cases (groups_of 0 actions.now) (groups_after actions.now line)) }
 {
-    let verb = actions[line].vocab / 150;
+    let verb = verb_of(actions[line].vocab);
     if verb == 0 {
         return Ok(());
     }

@@ -8,6 +8,7 @@ ghost use Rattle.trans_groups.specs.Automatic.{chance, chances, forget_noun, aut
 use adv_io::Memory;
 use inform_codes::numbered;
 use inform_tree::{Change, Cond, Directive, Expr, Name, Relation, Routine, Stmt};
+use scott_types::action_lines::{noun_of, verb_of};
 use scott_types::{Action, Db};
 use std::alloc::Global;
 
@@ -29,8 +30,8 @@ fn chances(alloc: Global, actions: &[Action]) -> Result<Vec<Stmt>, Memory>
     let mut all = Vec::new(alloc);
     for line in (0..actions.len()).rev() {
         let vocab = actions[line].vocab;
-        if vocab != 0 && vocab / 150 == 0 {
-            all.push(chance(alloc, vocab % 150, line)?)?;
+        if vocab != 0 && verb_of(vocab) == 0 {
+            all.push(chance(alloc, noun_of(vocab), line)?)?;
         }
     }
     all.reverse();

@@ -5,6 +5,7 @@ ghost use Rattle.translator.specs.LineByLine as l;
 
 use inform_tree::Width;
 use scott_types::Db;
+use scott_types::action_lines::{argument_of, verb_of};
 use scott_types::parts::{Action, Header};
 use trans_specs::Place;
 
@@ -55,12 +56,12 @@ fn wide_in_action(width: Width, k: u16, action: &Action) -> Option<(Place, i64)>
     let [first, second, third, fourth, fifth] = action.conds;
     let [one, other] = action.pairs;
     let placed = [
-        (Place::Verb(k), (action.vocab / 150) as i64),
-        (Place::Condition(k, 1), (first / 20) as i64),
-        (Place::Condition(k, 2), (second / 20) as i64),
-        (Place::Condition(k, 3), (third / 20) as i64),
-        (Place::Condition(k, 4), (fourth / 20) as i64),
-        (Place::Condition(k, 5), (fifth / 20) as i64),
+        (Place::Verb(k), verb_of(action.vocab) as i64),
+        (Place::Condition(k, 1), argument_of(first) as i64),
+        (Place::Condition(k, 2), argument_of(second) as i64),
+        (Place::Condition(k, 3), argument_of(third) as i64),
+        (Place::Condition(k, 4), argument_of(fourth) as i64),
+        (Place::Condition(k, 5), argument_of(fifth) as i64),
         (Place::Opcode(k, 1), (one / 150) as i64),
         (Place::Opcode(k, 3), (other / 150) as i64),
     ];

@@ -28,4 +28,5 @@ loop-next-preserved c = let head : IsFound c.args.actions.now c.args.verb (Some 
     (slice_index_or c.args.nexts.now c.in-Some.line None) c.in-Some.line c.in-Some.is
     (c.requires.nexts c.in-Some.line head.there) (map statement_of c.loop-next.body.items)
     (map statement_of c.put_head.new.body.items) (verb_tries c.args.verb
-    (groups_of 0 c.args.actions.now)) c.loop-next.invariant c.in_ok-put_head.ensures
+    (groups_of 0 c.args.actions.now)) c.loop-next.invariant
+    (rw c.noun_of.ensures at c.in_ok-put_head.ensures)
