@@ -383,7 +383,11 @@ fn console_of<R: Abort + AllocGlobal>(rt: &R, lines: &[&[u8]]) -> MemoryConsole 
 }
 
 // Runs a program on a console: why it stops, and how many steps it used.
-fn stopped<R: Abort + AllocGlobal>(rt: &R, case: &Case, console: &mut MemoryConsole) -> (Stop, u64) {
+fn stopped<R: Abort + AllocGlobal>(
+    rt: &R,
+    case: &Case,
+    console: &mut MemoryConsole,
+) -> (Stop, u64) {
     let program = accepted(rt, case);
     let mut draws = Draws::listed(rt.alloc(), case.draws).expect(rt, "draws");
     let mut runner = Runner::open(rt.alloc(), &program).expect(rt, "memory");

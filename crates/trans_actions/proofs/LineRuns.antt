@@ -10,7 +10,7 @@ use Rattle.inform_tree.specs.Statements.{Statement, Statements, statements}
 use Rattle.inform_tree.specs.Programs.{Routine}
 use Rattle.inform_meaning.specs.Words.{number_word}
 use Rattle.inform_meaning.specs.Worlds.{Program, Scope, scope_of}
-use Rattle.inform_meaning.specs.Frames.{Progress, Returns}
+use Rattle.inform_meaning.specs.Frames.{Outcome, Returns}
 use Rattle.inform_meaning.specs.Runs.{noted_body}
 use Rattle.inform_logic.specs.Stages.{Stage, with_past}
 use Rattle.inform_logic.specs.Leading.{Does, Runs, by_return}
@@ -109,7 +109,7 @@ module _ {style : Style} {db : Database} {p : Program} (known : Known style db p
 
   -- a test that holds, and what comes after it
   holds_then : (packed : ℕ) → CanTest packed → (condition_code packed == 0) ≡ false
-      → condition_holds db s packed ≡ true → {e : Progress} {last : Scope} {w' : Stage} {m : ℕ}
+      → condition_holds db s packed ≡ true → {e : Outcome} {last : Scope} {w' : Stage} {m : ℕ}
       {ys : Statements} → Runs p d ys scope w e last w' m
       → Runs p d (t.MoreStatements (condition_test packed) ys) scope w e last w' (test_steps db + m)
   holds_then packed can test is run = within (omega arith) (next (if_false (negated (nonzero
@@ -131,7 +131,7 @@ module _ {style : Style} {db : Database} {p : Program} (known : Known style db p
 
   -- where all conditions hold, the statements after their tests are run
   tests_hold : (cs : List ℕ) → AllByRecursion CanTest cs → list_all (condition_holds db s) cs ≡ true
-      → (ys : List Statement) {e : Progress} {last : Scope} {w' : Stage} {m : ℕ}
+      → (ys : List Statement) {e : Outcome} {last : Scope} {w' : Stage} {m : ℕ}
       → Runs p d (statements ys) scope w e last w' m
       → Runs p d (tests_then cs ys) scope w e last w' (length cs * test_steps db + m)
   tests_hold [] can all ys run = within (omega arith) run

@@ -6,7 +6,7 @@ use Rattle.inform_tree.specs.Values.{Arguments, NoArguments}
 use Rattle.inform_tree.specs.Conditions.{Condition}
 use Rattle.inform_tree.specs.Statements.{Statement, Call, If, statements}
 use Rattle.inform_meaning.specs.Worlds.{Program, Scope}
-use Rattle.inform_meaning.specs.Frames.{Progress, Normal, Quits}
+use Rattle.inform_meaning.specs.Frames.{Outcome, Normal, Quits}
 use Rattle.inform_meaning.specs.Runs.{Halted}
 use Rattle.inform_logic.specs.Stages.{Stage}
 use Rattle.inform_logic.specs.Leading.{Leads, TheCall, TheBlock, Executes, Tests, Runs}
@@ -27,7 +27,7 @@ use Rattle.trans_specs.proofs.Acts.{CallActs}
 pub record ListDone (db : Database) (p : Program) (d : ℕ) (xs : List Statement) (scope : Scope)
     (w : Stage) (noun : List ℕ) (s : State) (bytes : List ℕ) (most : ℕ) : Type 0 where
   pub after : Stage
-  pub leads : (ys : List Statement) (e : Progress) (last : Scope) (w' : Stage) (m : ℕ)
+  pub leads : (ys : List Statement) (e : Outcome) (last : Scope) (w' : Stage) (m : ℕ)
       → Runs p d (statements ys) scope after e last w' m
       → Runs p d (statements (xs ++ ys)) scope w e last w' (most + m)
   pub leaves : StageLeft db s noun (said_steps bytes) w after
@@ -131,13 +131,13 @@ module _ {db : Database} {p : Program} {d : ℕ} {noun : List ℕ} {scope : Scop
       (cs ++ bs) (n + m + 1)
   list_branch {over} {test} taken left b {w} {w1} {s} {t} cs bs {n} {m} tests before r =
       record { acts = by over r.acts } where
-        whole : (xs : List Statement) {e : Progress} {last : Scope} {w' : Stage} {k : ℕ}
+        whole : (xs : List Statement) {e : Outcome} {last : Scope} {w' : Stage} {k : ℕ}
             → Runs p d (statements (xs ++ [])) scope w1 e last w' k
             → Runs p d (statements xs) scope w1 e last w' k
         whole xs {e} {last} {w'} {k} run =
             subst (λ zs. Runs p d (statements zs) scope w1 e last w' k) (append-nil xs) run
 
-        chosen : (b : Bool) → Tests p d test scope w b w1 n → {e : Progress} {last : Scope}
+        chosen : (b : Bool) → Tests p d test scope w b w1 n → {e : Outcome} {last : Scope}
             {w' : Stage} {k : ℕ} → Runs p d (statements (if b then taken else left)) scope w1 e last
             w' k
             → Executes p d (If test (statements taken) (statements left)) scope w e last w'
@@ -168,7 +168,7 @@ module _ {db : Database} {p : Program} {d : ℕ} {noun : List ℕ} {scope : Scop
   pub list_call : (over : Option ℕ) {f : List ℕ} {values : List ℤ} {args : Arguments}
       {xs : List Statement} {w : Stage} (t : State) (bytes : List ℕ) {n m : ℕ}
       (rest : State → Traced ℕ Result)
-      → ((e : Progress) (last : Scope) (w' : Stage) (k : ℕ)
+      → ((e : Outcome) (last : Scope) (w' : Stage) (k : ℕ)
       → Leads p d (TheCall f values NoArguments) scope w e last w' k
       → Leads p d (TheCall f [] args) scope w e last w' k)
       → CallActs over db p d f values w noun t (said_steps bytes) n

@@ -7,7 +7,7 @@ use Rattle.inform_tree.specs.Values.{NoArguments}
 use Rattle.inform_tree.specs.Statements.{Statement}
 use Rattle.inform_meaning.specs.Words.{number_word}
 use Rattle.inform_meaning.specs.Worlds.{Program, Scope}
-use Rattle.inform_meaning.specs.Frames.{Progress}
+use Rattle.inform_meaning.specs.Frames.{Outcome}
 use Rattle.inform_logic.specs.Stages.{Stage}
 use Rattle.inform_logic.specs.Leading.{Leads, TheCall, Does}
 use Rattle.inform_logic.proofs.Values.{within, valued, number, call, argument, called}
@@ -109,7 +109,7 @@ few_parameters More = omega arith
 module _ {p : Program} {d : ℕ} {scope : Scope} {w : Stage} where
   -- the parameters of a call are its arguments
   leads_with : (f : List ℕ) (params : List ℕ) → AllByRecursion (IsOwnWord p) params → (c : ℕ)
-      → c ≤ 2 → (e : Progress) (last : Scope) (w' : Stage) (k : ℕ)
+      → c ≤ 2 → (e : Outcome) (last : Scope) (w' : Stage) (k : ℕ)
       → Leads p d (TheCall f (map pos (take c (slice_index params 0 ∷ slice_index params 1 ∷ [])))
       NoArguments) scope w e last w' k
       → Leads p d (TheCall f [] (number_arguments (next_parameters c params))) scope w e last w' k
@@ -228,7 +228,7 @@ module _ {style : Style} {db : Database} {p : Program} (known : Known style db p
               (opcode_specs known n (ap is_called is ∙ called_too) used
               (ap is_called is ∙ called_too) a b s noun w d space stands)
 
-          leads : (e : Progress) (last : Scope) (w' : Stage) (k : ℕ)
+          leads : (e : Outcome) (last : Scope) (w' : Stage) (k : ℕ)
               → Leads p d (TheCall (opcode_name n)
               (map pos (take (parameter_count o) (a ∷ b ∷ []))) NoArguments) scope w e last w' k
               → Leads p d (TheCall (opcode_name n) []

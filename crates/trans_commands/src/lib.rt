@@ -11,7 +11,7 @@ mod transfers;
 mod walking;
 
 // All of them as directives, and that they meet their specifications.
-pub mod laws;
 mod emitting;
+pub mod laws;
 
 pub use emitting::commands;
