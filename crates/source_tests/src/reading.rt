@@ -88,7 +88,7 @@ fn words_and_items_are_read(rt: HostRuntime) {
     let words = source.words.entries.as_slice();
     expect!(rt; words.len() == 2);
     for word in words {
-        let found = (word.at, word.what.noun.as_slice());
+        let found = (word.at, word.what.noun.bytes());
         expect!(rt; found == (89, b"ANY".as_slice()) || found == (102, b"NORTH".as_slice()));
     }
     let items = source.items.entries.as_slice();
@@ -105,7 +105,7 @@ fn rooms_are_read(rt: HostRuntime) {
     expect!(rt; rooms.len() == 2);
     for room in rooms {
         let [north, _, _, west, _, _] = &room.what.exits;
-        let found = (room.at, room.what.text.as_slice());
+        let found = (room.at, room.what.text.bytes());
         expect!(rt; found == (126, b"".as_slice()) || found == (153, b"hall".as_slice()));
         expect!(rt; room.at == 126 || matches!(&north.what, Ref::Name(_)));
         expect!(rt; room.at == 126 || matches!(&west.what, Ref::Number(7)));
