@@ -133,8 +133,8 @@ impl<'a, R: Files> Shelf for DiskShelf<'a, R> {
     }
 
     /// The file stays open while each part fills `out` and the next one goes on where it ended, so
-    /// that a file is opened once, a pipe can be read, and one that is replaced meanwhile is read as
-    /// it was. A name of more than 255 bytes is the exception: its file is opened for each part.
+    /// that a file is opened once, a pipe can be read, and one that is replaced meanwhile is read
+    /// as it was. A name of more than 255 bytes is the exception: its file is opened for each part.
     /// Each failure counts as a fault, want of memory too.
     fn load_part(&mut self, name: &str, at: usize, out: &mut [u8]) -> Result<usize, ShelfFault>
         ensures counted { self.new ≡ count_after result self.old }

@@ -47,7 +47,8 @@ with_product op p =
 
 abbrev pub with_argument : Parts → Parts
 with_argument p =
-    with_arguments (v.MoreArguments (nearest_value p) (nearest_arguments p)) (less_value (less_arguments p))
+    with_arguments (v.MoreArguments (nearest_value p) (nearest_arguments p))
+    (less_value (less_arguments p))
 
 -- ---- conditions
 

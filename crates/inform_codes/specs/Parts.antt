@@ -23,7 +23,14 @@ pub record Parts : Type 0 where
   pub switches : List Branches
 
 abbrev pub none : Parts
-none = record { values = []; argument_lists = []; tests = []; blocks = []; choices = []; switches = [] }
+none = record {
+  values = [];
+  argument_lists = [];
+  tests = [];
+  blocks = [];
+  choices = [];
+  switches = [];
+}
 
 -- all but the nearest
 abbrev rest : {X : Type 0} → List X → List X

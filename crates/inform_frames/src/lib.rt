@@ -1,4 +1,4 @@
-//! The frames of a run of an Inform program, what its next move needs, and the next move of a value.
+//! The frames of a run of an Inform program, what its next move needs, and that of a value.
 #![tactic(auto)]
 
 // What has begun, and what is handed to it.

@@ -35,7 +35,7 @@ main body = routine (codes "main") [] body
 abbrev call : List ℕ → List Expression → Expression
 call name xs = v.Call name (v.arguments xs)
 
--- ---- what a run comes to: why it stopped, what happened, and the steps that are left
+-- ---- what a run gives: why it stopped, what happened, and the steps that are left
 
 abbrev ended : Outcome × Config → Stop × List Event × ℕ
 ended r = (stop_of r.0, trace_of r.1.past, r.1.steps)

@@ -98,8 +98,8 @@ pub record Leads (p : Program) (old new : ConsoleView) (before after : Point)
       → run_from p before (steps + used) given drawn past
       ≡ run_from p after steps rest left (past ++ done)
 
--- the run from there with so many steps comes to an end: it stops for this, these frames have
--- begun and aren't finished, and so many steps are left
+-- the run from there with so many steps ends: it stops for this, these frames have begun and
+-- aren't finished, and so many steps are left
 pub record Ends (p : Program) (old new : ConsoleView) (before : Point) (steps : ℕ)
     (given : List (List ℕ)) (drawn left : List ℕ) (stop : m.Stop) (frames : List f.Frame)
     (world : World) (unused : ℕ) : Type 0 where

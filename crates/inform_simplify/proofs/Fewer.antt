@@ -167,7 +167,7 @@ module _ {b : ℕ} (f f' : Frame) where
   left-on m m' e e' (equal (Waits lack fs)) left = stay-by (waiting _ _ _)
   left-on m m' e e' (waiting lack fs gs) left = stay-by (waiting _ _ _)
 
-  -- what stands after a part that never comes to its end
+  -- what stands after a part that never reaches its end
   pub on_left-fewer : (m m' : Meaning) → Going m → Going m'
       → Follows IsLeft b (on_normal f m) (on_normal f' m')
   unfolding on_normal
@@ -360,7 +360,7 @@ module _ {b : ℕ} where
   draw_at-by [] n c k few = alike _ _ c k (omega arith) (equal _)
   draw_at-by (draw ∷ draws) n c k few = alike _ _ _ k (omega arith) (equal _)
 
-  -- a random number comes to the same where more steps are left
+  -- a random number is the same where more steps are left
   pub random_to-fewer : (n : ℤ) → Fewer b (random_to n) (random_to n)
   unfolding when
   random_to-fewer n = record {
@@ -378,7 +378,7 @@ module _ {b : ℕ} where
   line_at-by [] name c k few = alike _ _ c k (omega arith) (equal _)
   line_at-by (line ∷ lines) name c k few = alike _ _ _ k (omega arith) (equal _)
 
-  -- a line that is read comes to the same where more steps are left
+  -- a line that is read is the same where more steps are left
   pub read_line-fewer : (name : List ℕ) → Fewer b (read_line name) (read_line name)
   unfolding when
   read_line-fewer name = record {

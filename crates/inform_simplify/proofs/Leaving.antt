@@ -18,11 +18,11 @@ use Rattle.inform_simplify.specs.Redexes.{leaves}
 use Rattle.inform_simplify.proofs.Fewer.{IsLeft}
 use Rattle.inform_simplify.proofs.Plain.{no}
 
--- a part that never comes to the end of a statement
+-- a part that never reaches the end of a statement
 pub record Left (m : Meaning) : Type 0 where
   pub by : (c : Config) → IsLeft (m c).0
 
--- what a frame does with a value, where its part never comes to the end of a statement
+-- what a frame does with a value, where its part never reaches the end of a statement
 on_value-left : (x : Frame) {k : ℤ → Meaning} → ((a : ℤ) → Left (k a)) → (e : Outcome) → IsLeft e
     → Left (on_value x k e)
 unfolding on_value
@@ -109,7 +109,7 @@ module _ (p : Program) (call : Calls) (hc : LeftCalls call) where
         value-left (Wants (f.ProductOnto op a xs)) (eval-left x)
         (λ b. on_product-left (multiplied p.width op a b) (λ e. eval_product-left e xs))
 
-  -- a statement that leaves never comes to its end
+  -- a statement that leaves never reaches its end
   act-left : (x : Statement) → leaves x ≡ true → Left (act p call x)
   act-left s.Break is = record { by = λ c. tt }
   act-left s.Continue is = record { by = λ c. tt }

@@ -110,8 +110,8 @@ fn expect_simplified<R: Abort + AllocGlobal>(rt: &R, case: &Case) {
     let old = accepted(rt, case);
     let most = steps_of(rt, &old, case.said);
     let new = simplify(rt.alloc(), old).expect(rt, "memory");
-    let simpler = program_of(rt, case.simpler.as_bytes());
-    expect!(rt; printed(rt, new.program()).as_slice() == printed(rt, &simpler).as_slice(), case.text);
+    let simpler = printed(rt, &program_of(rt, case.simpler.as_bytes()));
+    expect!(rt; printed(rt, new.program()).as_slice() == simpler.as_slice(), case.text);
     expect!(rt; new.width() == case.width, case.text);
     expect!(rt; steps_of(rt, &new, case.said) <= most, case.text);
 }

@@ -97,8 +97,8 @@ StopsAt p s (stop.Fault fault) after = (more : List ℕ) → Stands fault (run p
 abbrev pub IsDue : {X : Type 0} → Due → Plan X → Type 0
 IsDue what p = (at : ℕ) → run p (input at []) ≡ Err (missing what at)
 
--- a value is taken from an input to another, whatever follows; or the bytes end too early, for it or
--- for what is due after it
+-- a value is taken from an input to another, whatever follows; or the bytes end too early, for it
+-- or for what is due after it
 abbrev pub Takes : {X : Type 0} → Plan X → Due → Input → Result X Stop → Input → Type 0
 Takes p then s (Ok x) after =
     SameEnd s after

@@ -66,8 +66,8 @@ pub record SimplifyRequest : Type 0 where
 -- database is to be played or translated, or a program run; so many sessions of a database are to
 -- be played from one list of lines; a database is to be translated as it stands at a position; a
 -- program is to be simplified; or run step by step; a database is to be played, and then told which
--- of its lines were tried; a program is to be run, and then told which of a game's lines it entered;
--- or the game of this number is to be shown
+-- of its lines were tried; a program is to be run, and then told which of a game's lines it
+-- entered; or the game of this number is to be shown
 pub data Request : Type 0 where
   check : List ℕ → Request
   compile : List ℕ → List ℕ → Request

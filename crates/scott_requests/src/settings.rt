@@ -25,8 +25,8 @@ pub enum DrawSource<'a> {
     Seeded(u64),
 }
 
-/// Where a run pauses: at each entering of the routine of this name, which isn't empty, or each time
-/// that so many steps more were used, 1 to `MOST_STEPS`.
+/// Where a run pauses: at each entering of the routine of this name, which isn't empty, or each
+/// time that so many steps more were used, 1 to `MOST_STEPS`.
 #[derive(Clone, Copy, PartialEq, Eq)]
 pub enum Pause<'a> {
     At(&'a str),

@@ -217,8 +217,8 @@ fn routine_at(alloc: Global, accepted: &Accepted, name: &str) -> Result<Option<u
     Ok(routine_meant(names.find(name.bytes())))
 }
 
-/// At what a run of a program pauses, if it has the routine that is named. The file of this name has
-/// the program.
+/// At what a run of a program pauses, if it has the routine that is named. The file of this name
+/// has the program.
 pub fn pausing<'a>(
     alloc: Global,
     file: &'a str,

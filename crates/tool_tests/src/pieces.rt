@@ -10,8 +10,8 @@ fn filled<R: Abort + AllocGlobal>(rt: &R, mut bytes: Vec<u8>, size: usize) -> Ve
     bytes
 }
 
-// Expects what is expected of a case, with these bytes as its game, where the call of the shelf with
-// this number fails. The first one stores the game.
+// Expects what is expected of a case, with these bytes as its game, where the call of the shelf
+// with this number fails. The first one stores the game.
 fn expect_failing<R: Abort + AllocGlobal>(rt: &R, bytes: &[u8], call: u64, case: &Case<'_>) {
     let calls = [call];
     let failing = Case {

@@ -202,7 +202,7 @@ pub fn expect_translated<R: Abort + AllocGlobal>(rt: &R, case: &Translated<'_>) 
     shelf
 }
 
-// Whether the run of a stored program comes to the end of its lines with so many steps.
+// Whether so many steps are enough for a stored program to use up its lines.
 fn is_enough<R: Abort + AllocGlobal>(
     rt: &R,
     case: &Case<'_>,

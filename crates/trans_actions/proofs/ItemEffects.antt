@@ -47,7 +47,7 @@ use Rattle.trans_actions.proofs.Effects.{left_by, opcode_steps, OpcodeSpec, some
 use Rattle.trans_actions.proofs.Moved.{move_numbers, Moves, moves}
 
 module _ {style : Style} {db : Database} {p : Program} (known : Known style db p) where
-  -- what a call of `move_item` comes to
+  -- what a call of `move_item` does
   moving : (n i : ℕ) → slice_get move_numbers i ≡ Some n → uses kinds.Opcode db n ≡ true
       → list_any (uses kinds.Opcode db) move_numbers ≡ true
   moving n i at used = some_is (uses kinds.Opcode db) move_numbers i at used

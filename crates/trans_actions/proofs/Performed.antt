@@ -154,7 +154,7 @@ takes_all db s Screen h = refl
 takes_all db s Picture h = refl
 takes_all db s More h = cc
 
--- an opcode that is called comes to its call, and then the statements of the opcodes after it
+-- the statements of an opcode that is called are its call, and those of the opcodes after it
 is_a_call : (db : Database) (n : ℕ) (params : List ℕ) (others : List ℕ → List Statement)
     (o : Opcode) → is_called o ≡ true → opcode_statements db o n params others
     ≡ opcode_call n params ∷ others (drop (parameter_count o) params)

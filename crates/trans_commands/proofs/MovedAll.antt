@@ -49,7 +49,7 @@ module _ {style : Style} {db : Database} {p : Program} (known : Known style db p
   Dark t b = Tests p (suc (suc (suc d))) (test_of (first_of (body style db MOVE_ALL)))
       (at_item known typed t d room 0 false) w b w (text_steps db + 1)
 
-  -- the test whether it is too dark to get all comes to what the rules say
+  -- the test whether it is too dark to get all has the answer of the rules
   dark : (t : Transfer) (b : Bool) → is_too_dark t s ≡ b → Dark t b
   unfolding body_of
   dark PickUp true is = within (omega arith) (all_of (one_holds (compare (local refl) number refl)

@@ -17,8 +17,8 @@ use Rattle.trans_commands.specs.Directives.{command_directives}
 -- Where a program has the routines of commands, and its helpers and its search meet their
 -- specifications, a command meets its specification.
 abbrev pub CommandsMeetSpecs : Type 0
-CommandsMeetSpecs = (style : Style) (width : Width) (db : Database) (p : Program) → Translates width db
-    → Serves width (command_directives style db) p
+CommandsMeetSpecs = (style : Style) (width : Width) (db : Database) (p : Program)
+    → Translates width db → Serves width (command_directives style db) p
     → HelperSpecs (in_style style db) p helper_names
     → SearchSpec (in_style style db) p (codes "search")
     → CommandSpec (in_style style db) p (codes "command")

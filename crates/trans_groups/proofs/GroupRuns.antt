@@ -96,8 +96,8 @@ module _ (game : Game) (p : Program) (meets : LineSpec game p) (g : Group)
     leaves = x.leaves;
   }
 
-  -- the routine of a head alone does what the rules do, whatever its line comes to, where a line
-  -- that goes on has no others to try
+  -- the routine of a head alone does what the rules do, however its line ends, where a line that
+  -- goes on has no others to try
   alone : Alone → (t.value.ran ≡ Passed true → tried_of game.db g.tail ≡ []) → (ran : Ran)
       → t.value.ran ≡ ran → HeadRan ran
       → let r = after_head ran game noun g.tail t in Acts r.value.ran r

@@ -21,7 +21,7 @@ use Rattle.trans_specs.proofs.Acts.{BlockEndsGame}
 
 -- ---- what becomes of a block of the step
 
--- it comes to its end
+-- it is run to its end
 pub record BlockThrough (db : Database) (p : Program) (d : ℕ) (block : Statements) (scope : Scope)
     (w : Stage) (s : State) (draws : List ℕ) (steps : List Step) (most : ℕ) : Type 0 where
   pub after : Stage

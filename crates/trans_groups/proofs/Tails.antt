@@ -44,7 +44,7 @@ line_ran game p d k w noun Not t x = x
 line_ran game p d k w noun (Passed more) t x = x
 line_ran game p d k w noun (Over ending) t x = x
 
--- a block comes to its end
+-- a block is run to its end
 pub record BlockDone (db : Database) (p : Program) (d : ℕ) (block : Statements) (scope : Scope)
     (w : Stage) (noun : List ℕ) (s : State) (steps : List Step) (most : ℕ) : Type 0 where
   pub after : Stage

@@ -53,7 +53,7 @@ scope_at directive verb noun m = record {
 
 -- ---- what becomes of a block of tries
 
--- it comes to its end, with this mark
+-- it is run to its end, with this mark
 pub record TriesEnd (db : Database) (p : Program) (d : ℕ) (block : Statements) (first last : Scope)
     (w : Stage) (typed : List ℕ) (s : State) (steps : List Step) (most : ℕ) : Type 0 where
   pub after : Stage

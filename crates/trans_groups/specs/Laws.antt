@@ -23,8 +23,8 @@ use Rattle.trans_groups.specs.GroupSpecs.{GroupSpec}
 -- Where a program has the routines of groups, and each line meets its specification, so does each
 -- group.
 abbrev pub GroupsMeetSpecs : Type 0
-GroupsMeetSpecs = (style : Style) (width : Width) (db : Database) (p : Program) → Translates width db
-    → Serves width (group_directives db) p → LineSpec (in_style style db) p
+GroupsMeetSpecs = (style : Style) (width : Width) (db : Database) (p : Program)
+    → Translates width db → Serves width (group_directives db) p → LineSpec (in_style style db) p
     → AllByRecursion (GroupSpec (in_style style db) p) (groups db)
 
 -- Where a program has the automatic step, and each group meets its specification, so does the step.
@@ -36,8 +36,8 @@ AutomaticMeetsSpec = (style : Style) (width : Width) (db : Database) (p : Progra
 
 -- Where a program has the search, and each group meets its specification, so does the search.
 abbrev pub SearchMeetsSpec : Type 0
-SearchMeetsSpec = (style : Style) (width : Width) (db : Database) (p : Program) → Translates width db
-    → Serves width (search_directives db) p
+SearchMeetsSpec = (style : Style) (width : Width) (db : Database) (p : Program)
+    → Translates width db → Serves width (search_directives db) p
     → AllByRecursion (GroupSpec (in_style style db) p) (groups db)
     → SearchSpec (in_style style db) p (codes "search")
 
@@ -49,8 +49,8 @@ pub record TryingRows (game : Game) (p : Program) : Type 0 where
 
 -- Where a program has all of these routines, and each line meets its specification, so do they.
 abbrev pub TryingMeetsSpecs : Type 0
-TryingMeetsSpecs = (style : Style) (width : Width) (db : Database) (p : Program) → Translates width db
-    → Serves width (trying_directives db) p → LineSpec (in_style style db) p
+TryingMeetsSpecs = (style : Style) (width : Width) (db : Database) (p : Program)
+    → Translates width db → Serves width (trying_directives db) p → LineSpec (in_style style db) p
     → TryingRows (in_style style db) p
 
 -- All of these routines are well formed.

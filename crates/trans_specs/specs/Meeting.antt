@@ -21,7 +21,8 @@ pub record Translates (width : Width) (db : Database) : Type 0 where
   pub none_wide : wide_at width db ≡ None
 
 -- the arrays and texts: the routines of look, inventory, score and light by their names
-abbrev pub MeetDataSpecs : Width → Game → List DirectiveTree → List ℕ → List ℕ → List ℕ → List ℕ → Type 0
+abbrev pub MeetDataSpecs : Width → Game → List DirectiveTree → List ℕ → List ℕ → List ℕ → List ℕ
+    → Type 0
 MeetDataSpecs width game ds look lists score light = (p : Program) → Translates width game.db
     → Serves width ds p → DataSpecs game p look lists score light
 
@@ -44,6 +45,8 @@ pub record TurnSpecs (game : Game) (p : Program) (calls : RoundCalls) (begin : P
     pub all_rounds : MainSpec game p begin
 
 -- the turn, where in the program each line and the word reader meet their specifications
-abbrev pub MeetTurnSpecs : Width → Game → List DirectiveTree → List ℕ → RoundCalls → Position → Type 0
+abbrev pub MeetTurnSpecs : Width → Game → List DirectiveTree → List ℕ → RoundCalls → Position
+    → Type 0
 MeetTurnSpecs width game ds reader calls begin = (p : Program) → Translates width game.db
-    → Serves width ds p → LineSpec game p → ReaderSpec game.db p reader → TurnSpecs game p calls begin
+    → Serves width ds p → LineSpec game p → ReaderSpec game.db p reader
+    → TurnSpecs game p calls begin

@@ -42,7 +42,7 @@ RoundsMeetSpecs = (width : Width) (game : Game) (begin : Position) (p : Program)
 
 -- All of a turn, where the program has the texts too.
 abbrev pub TurnMeetsSpecs : Type 0
-TurnMeetsSpecs = (style : Style) (width : Width) (db : Database) (begin : Position) → IsOpening begin
-    → MeetTurnSpecs width (in_style style db)
+TurnMeetsSpecs = (style : Style) (width : Width) (db : Database) (begin : Position)
+    → IsOpening begin → MeetTurnSpecs width (in_style style db)
     (text_directives style db ++ turn_directives style db begin)
     (codes "hear") round_calls begin
