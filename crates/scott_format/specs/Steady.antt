@@ -5,8 +5,7 @@ use Rattle.scott_format.specs.Pieces.{IsSteady}
 
 pub action_steady : (k : ℕ) → IsSteady (action k)
 unfolding action
-action_steady k = λ a. (tt, λ b. (tt, λ c. (tt, λ d. (tt, λ e. (tt, λ f. (tt, λ g. (tt,
-    λ h. (tt, tt))))))))
+action_steady k = λ a. (tt, λ b. (tt, λ c. (tt, λ d. (tt, λ e. (tt, λ f. (tt, λ g. (tt, λ h. (tt, tt))))))))
 
 pub word_steady : (k : ℕ) → IsSteady word
 unfolding word
@@ -25,5 +24,4 @@ item_steady k = λ text place. tt
 
 pub head_steady : (k : ℕ) → IsSteady head
 unfolding head sizes play_numbers closing
-head_steady k = λ unused items. (tt, λ actions. (tt, λ words. (tt, λ rooms. (tt, λ carry start. (tt,
-    λ treasures length. (tt, λ light. (tt, λ messages. (tt, λ home. tt))))))))
+head_steady k = λ unused items. (tt, λ actions. (tt, λ words. (tt, λ rooms. (tt, λ carry start. (tt, λ treasures length. (tt, λ light. (tt, λ messages. (tt, λ home. tt))))))))
