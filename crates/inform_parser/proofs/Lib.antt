@@ -14,3 +14,4 @@ pub mod BodySteps
 pub mod DirectiveSteps
 pub mod Answered
 pub mod TreesMade
+pub mod InTurn

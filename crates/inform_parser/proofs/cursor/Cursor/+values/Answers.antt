@@ -1,8 +1,12 @@
-use Rattle.std.proofs.Common.{◌∙◌, sym, map, arith}
-use Rattle.inform_grammar.specs.Rules as r
+use Rattle.std.proofs.Common.{◌∙◌, sym, map, arith, refl}
 use Rattle.inform_parser.specs.Views.{factor_of, term_of}
 use Rattle.inform_parser.proofs.Loops.{goes_on}
-use Rattle.inform_parser.proofs.ValueSteps.{factor_more, term_more}
+use Rattle.inform_parser.proofs.ValueSteps.{factor_more, term_more, argument_as, arguments_as, entry_after_arrow, entry_after_name, factor_as, term_as, primary_as, product_as, value_as, unary_as, factor_last, term_last, argument_more}
+use Rattle.inform_grammar.specs.ValueRules.{name_after, factors_after, terms_after}
+use Rattle.inform_parser.specs.Plans.{value_in_brackets}
+use Rattle.inform_parser.proofs.TreesMade.{expression_of_number, expression_of_char, expression_of_name, expression_of_call, factor_of_pair, term_of_pair}
+use Rattle.inform_parser.proofs.InTurn.{only, made, same, same_some, known, ended, memory, stops, stops_some, follows, follows_some, resumed, passed, there, other, other_some}
+use Rattle.inform_grammar.specs.Rules as r
 use Rattle.inform_parser.proofs.cursor.Cursor.«+values».Goals as goal
 
 pub factors-loop-alloc-preserved : goal.factors-loop-alloc-preserved
@@ -22,3 +26,183 @@ terms-loop-alloc-preserved t c =
           c.in_ok-term.ensures.gives l.invariant.0,
       omega arith,
     )
+
+pub argument-returns-in_err-expect : goal.argument-returns-in_err-expect
+argument-returns-in_err-expect t c = same_some _ (argument_as _) (stops_some _ c.from_residual.result c.from_residual.ensures.1 (only c.in_err-expect.ensures))
+
+pub argument-returns : goal.argument-returns
+argument-returns t c = same_some _ (argument_as _) (follows_some _ c.in_ok-expect.ensures (only c.value.ensures))
+
+pub arguments-returns-in_err-expect : goal.arguments-returns-in_err-expect
+arguments-returns-in_err-expect t c = same_some _ (arguments_as _) (there _ _ (sym c.at.ensures ∙ c.if-at.true) (stops_some _ c.from_residual.result c.from_residual.ensures.1 (only c.in_err-expect.ensures)))
+
+pub arguments-returns : goal.arguments-returns
+arguments-returns t c = same_some _ (arguments_as _) (other_some _ _ (sym c.at.ensures ∙ c.if-at.false) c.some_arguments.ensures)
+
+pub entry_after-returns-in_err-words : goal.entry_after-returns-in_err-words
+entry_after-returns-in_err-words t c = same _ (entry_after_arrow _ _ (sym c.at_arrow.ensures ∙ c.if-at_arrow.true)) (stops _ c.from_residual.result c.from_residual.ensures.1 (only c.in_err-words.ensures))
+
+pub entry_after-returns-in_err-index : goal.entry_after-returns-in_err-index
+entry_after-returns-in_err-index t c = same _ (entry_after_arrow _ _ (sym c.at_arrow.ensures ∙ c.if-at_arrow.true)) (follows _ (only c.in_ok-words.ensures) (stops _ c.from_residual-in_err-index.result c.from_residual-in_err-index.ensures.1 (only c.in_err-index.ensures)))
+
+pub entry_after-returns-in_err-new : goal.entry_after-returns-in_err-new
+entry_after-returns-in_err-new t c = same _ (entry_after_arrow _ _ (sym c.at_arrow.ensures ∙ c.if-at_arrow.true)) (follows _ (only c.in_ok-words.ensures) (follows _ (only c.in_ok-index.ensures) (memory _ _ _ c.from_residual-in_err-new.result c.from_residual-in_err-new.ensures.1 (omega arith))))
+
+pub entry_after-returns : goal.entry_after-returns
+entry_after-returns t c = same _ (entry_after_name _ _ (sym c.at_arrow.ensures ∙ c.if-at_arrow.false)) c.name_after.ensures
+
+pub factor-returns-in_err-sign : goal.factor-returns-in_err-sign
+factor-returns-in_err-sign t c = same_some _ (factor_as _) (stops_some _ c.from_residual.result c.from_residual.ensures.1 (only c.in_err-sign.ensures))
+
+pub factor-returns-in_err-unary : goal.factor-returns-in_err-unary
+factor-returns-in_err-unary t c = same_some _ (factor_as _) (follows_some _ c.in_ok-sign.ensures (stops _ c.from_residual-in_err-unary.result c.from_residual-in_err-unary.ensures.1 (only c.in_err-unary.ensures)))
+
+pub factor-returns : goal.factor-returns
+factor-returns t c = same_some _ (factor_as _) (follows_some _ c.in_ok-sign.ensures (follows _ (only c.in_ok-unary.ensures) (made _ (factor_of_pair _ _))))
+
+pub term-returns-in_err-sign : goal.term-returns-in_err-sign
+term-returns-in_err-sign t c = same_some _ (term_as _) (stops_some _ c.from_residual.result c.from_residual.ensures.1 (only c.in_err-sign.ensures))
+
+pub term-returns-in_err-product : goal.term-returns-in_err-product
+term-returns-in_err-product t c = same_some _ (term_as _) (follows_some _ c.in_ok-sign.ensures (stops _ c.from_residual-in_err-product.result c.from_residual-in_err-product.ensures.1 (only c.in_err-product.ensures)))
+
+pub term-returns : goal.term-returns
+term-returns t c = same_some _ (term_as _) (follows_some _ c.in_ok-sign.ensures (follows _ (only c.in_ok-product.ensures) (made _ (term_of_pair _ _))))
+
+pub factors_after-returns-in_err-factors : goal.factors_after-returns-in_err-factors
+unfolding factors_after
+factors_after-returns-in_err-factors t c = stops _ c.from_residual.result c.from_residual.ensures.1 c.in_err-factors.ensures
+
+pub terms_after-returns-in_err-terms : goal.terms_after-returns-in_err-terms
+unfolding terms_after
+terms_after-returns-in_err-terms t c = stops _ c.from_residual.result c.from_residual.ensures.1 c.in_err-terms.ensures
+
+pub name_after-returns-in_err-expect : goal.name_after-returns-in_err-expect
+unfolding name_after
+name_after-returns-in_err-expect t c = only (there _ _ (sym c.at.ensures ∙ c.if-at.true) (stops_some _ c.from_residual.result c.from_residual.ensures.1 (only c.in_err-expect.ensures)))
+
+pub name_after-returns-in_err-arguments : goal.name_after-returns-in_err-arguments
+unfolding name_after
+name_after-returns-in_err-arguments t c = only (there _ _ (sym c.at.ensures ∙ c.if-at.true) (follows_some _ c.in_ok-expect.ensures (stops _ c.from_residual-in_err-arguments.result c.from_residual-in_err-arguments.ensures.1 (only c.in_err-arguments.ensures))))
+
+pub name_after-returns-then-at : goal.name_after-returns-then-at
+unfolding name_after
+name_after-returns-then-at t c = only (there _ _ (sym c.at.ensures ∙ c.if-at.true) (follows_some _ c.in_ok-expect.ensures (follows _ (only c.in_ok-arguments.ensures) (made _ (expression_of_call _ _)))))
+
+pub name_after-returns : goal.name_after-returns
+unfolding name_after
+name_after-returns t c = other _ _ (sym c.at.ensures ∙ c.if-at.false) (made _ (expression_of_name _))
+
+pub named_primary-returns-in_err-name : goal.named_primary-returns-in_err-name
+named_primary-returns-in_err-name t c = stops_some _ c.from_residual.result c.from_residual.ensures.1 (only c.in_err-name.ensures)
+
+pub named_primary-returns : goal.named_primary-returns
+named_primary-returns t c = follows_some _ c.in_ok-name.ensures (ended c.name_after.ensures)
+
+pub named_unary-returns-in_err-name : goal.named_unary-returns-in_err-name
+named_unary-returns-in_err-name t c = stops_some _ c.from_residual.result c.from_residual.ensures.1 (only c.in_err-name.ensures)
+
+pub named_unary-returns : goal.named_unary-returns
+named_unary-returns t c = follows_some _ c.in_ok-name.ensures (ended c.entry_after.ensures)
+
+pub negation-returns-in_err-operand : goal.negation-returns-in_err-operand
+negation-returns-in_err-operand t c = stops_some _ c.from_residual.result c.from_residual.ensures.1 (only c.in_err-operand.ensures)
+
+pub negation-returns-in_err-new : goal.negation-returns-in_err-new
+negation-returns-in_err-new t c = follows_some _ c.in_ok-operand.ensures (memory _ _ _ c.from_residual-in_err-new.result c.from_residual-in_err-new.ensures.1 (omega arith))
+
+pub random-returns-in_err-expect_word : goal.random-returns-in_err-expect_word
+random-returns-in_err-expect_word t c = stops_some _ c.from_residual.result c.from_residual.ensures.1 (only c.in_err-expect_word.ensures)
+
+pub random-returns-in_err-limit : goal.random-returns-in_err-limit
+random-returns-in_err-limit t c = follows_some _ c.in_ok-expect_word.ensures (stops _ c.from_residual-in_err-limit.result c.from_residual-in_err-limit.ensures.1 (only c.in_err-limit.ensures))
+
+pub random-returns-in_err-new : goal.random-returns-in_err-new
+random-returns-in_err-new t c = follows_some _ c.in_ok-expect_word.ensures (follows _ (only c.in_ok-limit.ensures) (memory _ _ _ c.from_residual-in_err-new.result c.from_residual-in_err-new.ensures.1 (omega arith)))
+
+pub primary-returns-then-at_number : goal.primary-returns-then-at_number
+primary-returns-then-at_number t c = same_some _ (primary_as _) (passed _ _ (sym c.at_number.ensures ∙ c.if-at_number.true) c.pass_number.ensures (made _ (expression_of_number _)))
+
+pub primary-returns-then-at_character : goal.primary-returns-then-at_character
+primary-returns-then-at_character t c = same_some _ (primary_as _) (other_some _ _ (sym c.at_number.ensures ∙ c.if-at_number.false) (passed _ _ (sym c.at_character.ensures ∙ c.if-at_character.true) c.pass_character.ensures (made _ (expression_of_char _))))
+
+pub primary-returns-then-at_name : goal.primary-returns-then-at_name
+primary-returns-then-at_name t c = same_some _ (primary_as _) (other_some _ _ (sym c.at_number.ensures ∙ c.if-at_number.false) (other_some _ _ (sym c.at_character.ensures ∙ c.if-at_character.false) (there _ _ (sym c.at_name.ensures ∙ c.if-at_name.true) c.named_primary.ensures)))
+
+pub primary-returns-then-at_word : goal.primary-returns-then-at_word
+primary-returns-then-at_word t c = same_some _ (primary_as _) (other_some _ _ (sym c.at_number.ensures ∙ c.if-at_number.false) (other_some _ _ (sym c.at_character.ensures ∙ c.if-at_character.false) (other_some _ _ (sym c.at_name.ensures ∙ c.if-at_name.false) (there _ _ (sym c.at_word.ensures ∙ c.if-at_word.true) c.random.ensures))))
+
+pub primary-returns : goal.primary-returns
+primary-returns t c = same_some _ (primary_as _) (other_some _ _ (sym c.at_number.ensures ∙ c.if-at_number.false) (other_some _ _ (sym c.at_character.ensures ∙ c.if-at_character.false) (other_some _ _ (sym c.at_name.ensures ∙ c.if-at_name.false) (other_some _ _ (sym c.at_word.ensures ∙ c.if-at_word.false) (c.value_in_brackets.ensures)))))
+
+pub product-returns-in_err-first : goal.product-returns-in_err-first
+product-returns-in_err-first t c = same_some _ (product_as _) (stops_some _ c.from_residual.result c.from_residual.ensures.1 (only c.in_err-first.ensures))
+
+pub product-returns : goal.product-returns
+product-returns t c = same_some _ (product_as _) (follows_some _ c.in_ok-first.ensures (ended c.factors_after.ensures))
+
+pub value-returns-in_err-first : goal.value-returns-in_err-first
+value-returns-in_err-first t c = same_some _ (value_as _) (stops_some _ c.from_residual.result c.from_residual.ensures.1 (only c.in_err-first.ensures))
+
+pub value-returns : goal.value-returns
+value-returns t c = same_some _ (value_as _) (follows_some _ c.in_ok-first.ensures (ended c.terms_after.ensures))
+
+pub some_arguments-returns-in_err-first : goal.some_arguments-returns-in_err-first
+some_arguments-returns-in_err-first t c = stops_some _ c.from_residual.result c.from_residual.ensures.1 (only c.in_err-first.ensures)
+
+pub some_arguments-returns-in_err-arguments : goal.some_arguments-returns-in_err-arguments
+some_arguments-returns-in_err-arguments t c = follows_some _ c.in_ok-first.ensures (stops _ c.from_residual-in_err-arguments.result c.from_residual-in_err-arguments.ensures.1 c.in_err-arguments.ensures)
+
+pub some_arguments-returns : goal.some_arguments-returns
+some_arguments-returns t c = follows_some _ c.in_ok-first.ensures (follows _ c.in_ok-arguments.ensures (only c.expressions_to.ensures))
+
+pub unary-returns-then-at_name : goal.unary-returns-then-at_name
+unary-returns-then-at_name t c = same_some _ (unary_as _) (there _ _ (sym c.at_name.ensures ∙ c.if-at_name.true) c.named_unary.ensures)
+
+pub unary-returns-then-at : goal.unary-returns-then-at
+unary-returns-then-at t c = same_some _ (unary_as _) (other_some _ _ (sym c.at_name.ensures ∙ c.if-at_name.false) (passed _ _ (sym c.at.ensures ∙ c.if-at.true) c.pass.ensures (only c.negation.ensures)))
+
+pub unary-returns : goal.unary-returns
+unary-returns t c = same_some _ (unary_as _) (other_some _ _ (sym c.at_name.ensures ∙ c.if-at_name.false) (other_some _ _ (sym c.at.ensures ∙ c.if-at.false) (c.primary.ensures)))
+
+pub value_in_brackets-returns-in_err-expect : goal.value_in_brackets-returns-in_err-expect
+unfolding value_in_brackets
+value_in_brackets-returns-in_err-expect t c = stops_some _ c.from_residual.result c.from_residual.ensures.1 (only c.in_err-expect.ensures)
+
+pub value_in_brackets-returns-in_err-value : goal.value_in_brackets-returns-in_err-value
+unfolding value_in_brackets
+value_in_brackets-returns-in_err-value t c = follows_some _ c.in_ok-expect.ensures (stops _ c.from_residual-in_err-value.result c.from_residual-in_err-value.ensures.1 (only c.in_err-value.ensures))
+
+pub value_in_brackets-returns : goal.value_in_brackets-returns
+unfolding value_in_brackets
+value_in_brackets-returns t c = follows_some _ c.in_ok-expect.ensures (follows _ (only c.in_ok-value.ensures) (only c.expression_to.ensures))
+
+pub factors-returns-in_err-factor : goal.factors-returns-in_err-factor
+factors-returns-in_err-factor t c = resumed c.loop-alloc.invariant.0 c.loop-alloc.invariant.1 (same _ (factor_more _ _ (sym c.at_factor.ensures ∙ c.loop-alloc-test.true)) (stops _ c.from_residual.result c.from_residual.ensures.1 (only c.in_err-factor.ensures)))
+
+pub factors-returns-in_err-push : goal.factors-returns-in_err-push
+factors-returns-in_err-push t c = memory _ _ _ c.from_residual-in_err-push.result c.from_residual-in_err-push.ensures.1 (omega arith)
+
+pub factors-returns : goal.factors-returns
+factors-returns t c = resumed c.loop-alloc.invariant.0 c.loop-alloc.invariant.1 (known (factor_last _ _ (sym c.at_factor.ensures ∙ c.loop-alloc-test.false)) refl)
+
+pub terms-returns-in_err-term : goal.terms-returns-in_err-term
+terms-returns-in_err-term t c = resumed c.loop-alloc.invariant.0 c.loop-alloc.invariant.1 (same _ (term_more _ _ (sym c.at_term.ensures ∙ c.loop-alloc-test.true)) (stops _ c.from_residual.result c.from_residual.ensures.1 (only c.in_err-term.ensures)))
+
+pub terms-returns-in_err-push : goal.terms-returns-in_err-push
+terms-returns-in_err-push t c = memory _ _ _ c.from_residual-in_err-push.result c.from_residual-in_err-push.ensures.1 (omega arith)
+
+pub terms-returns : goal.terms-returns
+terms-returns t c = resumed c.loop-alloc.invariant.0 c.loop-alloc.invariant.1 (known (term_last _ _ (sym c.at_term.ensures ∙ c.loop-alloc-test.false)) refl)
+
+pub further_arguments-returns-in_err-arguments : goal.further_arguments-returns-in_err-arguments
+further_arguments-returns-in_err-arguments t c = memory _ _ _ c.from_residual.result c.from_residual.ensures.1 (omega arith)
+
+pub further_arguments-returns-in_err-push : goal.further_arguments-returns-in_err-push
+further_arguments-returns-in_err-push t c = memory _ _ _ c.from_residual-in_err-push.result c.from_residual-in_err-push.ensures.1 (omega arith)
+
+pub further_arguments-returns-in_err-argument : goal.further_arguments-returns-in_err-argument
+further_arguments-returns-in_err-argument t c = resumed c.loop-alloc.invariant.0 c.loop-alloc.invariant.1 (same _ (argument_more _ _ (sym c.at.ensures ∙ c.loop-alloc-test.true)) (stops _ c.from_residual-in_err-argument.result c.from_residual-in_err-argument.ensures.1 (only c.in_err-argument.ensures)))
+
+pub further_arguments-returns-in_err-push-2 : goal.further_arguments-returns-in_err-push-2
+further_arguments-returns-in_err-push-2 t c = memory _ _ _ c.from_residual-in_err-push-2.result c.from_residual-in_err-push-2.ensures.1 (omega arith)
