@@ -1,8 +1,9 @@
-use Rattle.std.proofs.Common.{◌∙◌, sym, map, arith}
+use Rattle.std.proofs.Common.{◌∙◌, sym, map, arith, refl}
 use Rattle.inform_tree.specs.Programs.{directive_of}
-use Rattle.inform_grammar.specs.Rules as r
 use Rattle.inform_parser.proofs.Loops.{goes_on}
-use Rattle.inform_parser.proofs.DirectiveSteps.{directive_more}
+use Rattle.inform_parser.proofs.DirectiveSteps.{directive_more, directive_last}
+use Rattle.inform_parser.proofs.InTurn.{only, same, known, memory, stops, resumed}
+use Rattle.inform_grammar.specs.Rules as r
 use Rattle.inform_parser.proofs.cursor.Cursor.directives.Goals as goal
 
 pub loop-alloc-preserved : goal.loop-alloc-preserved
@@ -13,3 +14,12 @@ loop-alloc-preserved c =
           c.in_ok-directive.ensures.gives l.invariant.0,
       omega arith,
     )
+
+pub returns-in_err-directive : goal.returns-in_err-directive
+returns-in_err-directive c = resumed c.loop-alloc.invariant.0 c.loop-alloc.invariant.1 (same _ (directive_more _ _ (sym c.at_directive.ensures ∙ c.loop-alloc-test.true)) (stops _ c.from_residual.result c.from_residual.ensures.1 (only c.in_err-directive.ensures)))
+
+pub returns-in_err-push : goal.returns-in_err-push
+returns-in_err-push c = memory _ _ _ c.from_residual-in_err-push.result c.from_residual-in_err-push.ensures.1 (omega arith)
+
+pub returns : goal.returns
+returns c = resumed c.loop-alloc.invariant.0 c.loop-alloc.invariant.1 (known (directive_last _ _ (sym c.at_directive.ensures ∙ c.loop-alloc-test.false)) refl)

@@ -1,8 +1,9 @@
-use Rattle.std.proofs.Common.{◌∙◌, sym, map, arith}
+use Rattle.std.proofs.Common.{◌∙◌, sym, map, arith, refl}
 use Rattle.inform_tree.specs.Statements.{print_item_of}
-use Rattle.inform_grammar.specs.Rules as r
 use Rattle.inform_parser.proofs.Loops.{goes_on}
-use Rattle.inform_parser.proofs.StatementSteps.{item_more}
+use Rattle.inform_parser.proofs.StatementSteps.{item_more, item_last}
+use Rattle.inform_parser.proofs.InTurn.{only, same, known, memory, stops, resumed}
+use Rattle.inform_grammar.specs.Rules as r
 use Rattle.inform_parser.proofs.cursor.Cursor.items.Goals as goal
 
 pub loop-alloc-preserved : goal.loop-alloc-preserved
@@ -13,3 +14,18 @@ loop-alloc-preserved c =
           c.in_ok-item.ensures.gives l.invariant.0,
       omega arith,
     )
+
+pub returns-in_err-items : goal.returns-in_err-items
+returns-in_err-items c = memory _ _ _ c.from_residual.result c.from_residual.ensures.1 (omega arith)
+
+pub returns-in_err-push : goal.returns-in_err-push
+returns-in_err-push c = memory _ _ _ c.from_residual-in_err-push.result c.from_residual-in_err-push.ensures.1 (omega arith)
+
+pub returns-in_err-item : goal.returns-in_err-item
+returns-in_err-item c = resumed c.loop-alloc.invariant.0 c.loop-alloc.invariant.1 (same _ (item_more _ _ (sym c.at.ensures ∙ c.loop-alloc-test.true)) (stops _ c.from_residual-in_err-item.result c.from_residual-in_err-item.ensures.1 (only c.in_err-item.ensures)))
+
+pub returns-in_err-push-2 : goal.returns-in_err-push-2
+returns-in_err-push-2 c = memory _ _ _ c.from_residual-in_err-push-2.result c.from_residual-in_err-push-2.ensures.1 (omega arith)
+
+pub returns : goal.returns
+returns c = resumed c.loop-alloc.invariant.0 c.loop-alloc.invariant.1 (known (item_last _ _ (sym c.at.ensures ∙ c.loop-alloc-test.false)) refl)

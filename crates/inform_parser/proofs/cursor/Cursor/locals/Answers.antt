@@ -1,7 +1,8 @@
-use Rattle.std.proofs.Common.{◌∙◌, sym, arith}
-use Rattle.inform_grammar.specs.Rules as r
+use Rattle.std.proofs.Common.{◌∙◌, sym, arith, refl}
 use Rattle.inform_parser.proofs.Loops.{goes_on_same}
-use Rattle.inform_parser.proofs.DirectiveSteps.{local_more}
+use Rattle.inform_parser.proofs.DirectiveSteps.{local_more, local_last}
+use Rattle.inform_parser.proofs.InTurn.{only, same, known, memory, stops, resumed}
+use Rattle.inform_grammar.specs.Rules as r
 use Rattle.inform_parser.proofs.cursor.Cursor.locals.Goals as goal
 
 pub loop-alloc-preserved : goal.loop-alloc-preserved
@@ -12,3 +13,15 @@ loop-alloc-preserved c =
           c.in_ok-local.ensures.gives l.invariant.0,
       omega arith,
     )
+
+pub returns-in_err-locals : goal.returns-in_err-locals
+returns-in_err-locals c = memory _ _ _ c.from_residual.result c.from_residual.ensures.1 (omega arith)
+
+pub returns-in_err-local : goal.returns-in_err-local
+returns-in_err-local c = resumed c.loop-alloc.invariant.0 c.loop-alloc.invariant.1 (same _ (local_more _ _ (sym c.at_name-in-loop-alloc.ensures ∙ c.loop-alloc-test.true)) (stops _ c.from_residual-in_err-local.result c.from_residual-in_err-local.ensures.1 (only c.in_err-local.ensures)))
+
+pub returns-in_err-push : goal.returns-in_err-push
+returns-in_err-push c = memory _ _ _ c.from_residual-in_err-push.result c.from_residual-in_err-push.ensures.1 (omega arith)
+
+pub returns : goal.returns
+returns c = resumed c.loop-alloc.invariant.0 c.loop-alloc.invariant.1 (known (local_last _ _ (sym c.at_name-in-loop-alloc.ensures ∙ c.loop-alloc-test.false)) refl)

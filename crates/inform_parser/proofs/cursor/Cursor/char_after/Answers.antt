@@ -1,0 +1,12 @@
+use Rattle.std.proofs.Common.{refl}
+use Rattle.inform_parser.proofs.InTurn.{only, made, stops, stops_some, follows, follows_some}
+use Rattle.inform_parser.proofs.cursor.Cursor.char_after.Goals as goal
+
+pub returns-in_err-expect : goal.returns-in_err-expect
+returns-in_err-expect c = stops_some _ c.from_residual.result c.from_residual.ensures.1 (only c.in_err-expect.ensures)
+
+pub returns-in_err-value : goal.returns-in_err-value
+returns-in_err-value c = follows_some _ c.in_ok-expect.ensures (stops _ c.from_residual-in_err-value.result c.from_residual-in_err-value.ensures.1 (only c.in_err-value.ensures))
+
+pub returns : goal.returns
+returns c = follows_some _ c.in_ok-expect.ensures (follows _ (only c.in_ok-value.ensures) (made _ (refl)))

@@ -1,0 +1,13 @@
+use Rattle.std.proofs.Common.{refl}
+use Rattle.inform_parser.proofs.ChoiceSteps.{choices_after_as}
+use Rattle.inform_parser.proofs.InTurn.{only, made, same_some, stops_some, follows_some, follows_later}
+use Rattle.inform_parser.proofs.cursor.Cursor.choices_after.Goals as goal
+
+pub returns-in_err-choices : goal.returns-in_err-choices
+returns-in_err-choices c = same_some _ (choices_after_as _ _) (stops_some _ c.from_residual.result c.from_residual.ensures.1 c.in_err-choices.ensures)
+
+pub returns-in_err-expect : goal.returns-in_err-expect
+returns-in_err-expect c = same_some _ (choices_after_as _ _) (follows_later _ c.in_ok-choices.ensures (stops_some _ c.from_residual-in_err-expect.result c.from_residual-in_err-expect.ensures.1 (only c.in_err-expect.ensures)))
+
+pub returns : goal.returns
+returns c = same_some _ (choices_after_as _ _) (follows_later _ c.in_ok-choices.ensures (follows_some _ c.in_ok-expect.ensures (made _ (refl))))
