@@ -10,7 +10,7 @@ use Rattle.inform_grammar.specs.Reading.{Input, Answer}
 use Rattle.inform_grammar.proofs.Binding.{and_then}
 use Rattle.inform_parser.specs.declared.stops.Stop.{Stop}
 use Rattle.inform_parser.specs.declared.stops.Stop.TheVariants as stop
-use Rattle.inform_parser.specs.Reading.{read, StopsAt, Answered, Reads, ReadsSome, Passes, shut_spot}
+use Rattle.inform_parser.specs.Reading.{read, StopsAt, Answered, Gives, Reads, ReadsSome, Passes, shut_spot}
 use Rattle.inform_parser.specs.Nexts.{next_of}
 use Rattle.inform_parser.proofs.Steps.{continued, read-done, read-then, read-shut, stops-then, next_yes, next_no, ends-done}
 
@@ -122,6 +122,18 @@ module _ {U W : Type 0} {out : U → W} where
       ahead = omega (arith, h.ahead, g.ahead);
       taken = on_ok_weaker r (λ e. omega (arith, e, h.ahead)) g.taken;
     }
+
+  -- what was read is known by its plan
+  forgotten : {V : Type 0} (view : U → V) (p : Plan V) (s after : Input) (r : Result U Stop) (y : W) → ((x : U) → out x ≡ y)
+      → Gives view p s r after → Gives out (p >>= λ _. done y) s r after
+  forgotten view p s after (Ok x) y e h = read_on p (λ _. done y) s after (view x) h ∙ read-done y after ∙ ap (λ (y : W). Ok (y, after)) (sym (e x))
+  forgotten view p s after (Err d) y e h =
+      subst (λ (a : Answer W). StopsAt after d a) (sym (read-then (λ _. done y) p s)) (stops-then after d (continued (λ _. done y)) (read p s) h)
+
+  pub forgets : {V : Type 0} {view : U → V} {p : Plan V} {s after : Input} {r : Result U Stop} (y : W) → ((x : U) → out x ≡ y)
+      → ReadsSome view p s r after → ReadsSome out (p >>= λ _. done y) s r after
+  forgets {view = view} {p = p} {s = s} {after = after} {r = r} y e h =
+      record { gives = forgotten view p s after r y e h.gives; ahead = h.ahead; taken = h.taken }
 
   module _ (test : Lexeme → Bool) (k : Lexeme → Plan W) {q : Plan W} {s : Input} where
     -- what stands next passes the test, and is taken

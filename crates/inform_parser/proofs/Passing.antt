@@ -1,5 +1,5 @@
 -- A symbol or a word that stands next, and opens nothing and closes nothing.
-use Rattle.std.proofs.Common.{◌≡◌, ℕ, ◌≤◌, ◌<◌, Bool, true, false, List, [], ◌∷◌, length, drop, Some, Ok, refl, sym, subst, ◌∙◌, arith}
+use Rattle.std.proofs.Common.{◌≡◌, ℕ, ◌≤◌, ◌<◌, Bool, true, false, List, [], ◌∷◌, length, drop, Some, Ok, refl, sym, ap, subst, ◌∙◌, arith}
 use Rattle.inform_lexemes.specs.declared.symbols.Symbol.{Symbol}
 use Rattle.inform_lexemes.specs.declared.keywords.Keyword.{Keyword}
 use Rattle.inform_lexemes.specs.Lexemes.{Lexeme, Word, Number, Character, Sign, is_sign, is_word, is_number, is_character}
@@ -10,7 +10,7 @@ use Rattle.inform_grammar.specs.Reading.{Input, input, step, reads, within_limit
 use Rattle.inform_grammar.proofs.Steps.{done-here}
 use Rattle.inform_lexer.specs.declared.glances.Glance.TheVariants as g
 use Rattle.inform_parser.specs.Glances.{first_glance}
-use Rattle.inform_parser.specs.Reading.{read, Passes}
+use Rattle.inform_parser.specs.Reading.{read, ReadsSome, Passes, StandsNext}
 use Rattle.inform_parser.specs.Nexts.{next_of}
 
 passed_as : (xs : List Lexeme) (n : ℕ) (x : Lexeme) (test : Lexeme → Bool) → test x ≡ true → is_opener x ≡ false → is_closer x ≡ false
@@ -60,6 +60,20 @@ pub word_passes : (s after : Input) (a : Keyword) → heads (is_word a) s.rest �
 word_passes s after a e opens same =
     subst (λ (after : Input). Passes (is_word a) (Word a) s after) (sym same)
     (record { gives = word_passed s a e opens; taken = fewer_left s.rest (word_there s.rest a e) })
+
+-- what is known to stand next
+module _ {T : Type 0} (view : T → Lexeme) (s after : Input) (x : T) (first : StandsNext (view x) s) where
+  pub stands_there : 1 ≤ length s.rest
+  stands_there = omega (arith, ap (λ (xs : List Lexeme). length xs) first)
+
+  pub stands_read : (test : Lexeme → Bool) → test (view x) ≡ true → is_opener (view x) ≡ false → is_closer (view x) ≡ false
+      → after ≡ input s.opened (drop 1 s.rest) → ReadsSome view (next_of test) s (Ok x) after
+  stands_read test passes opens closes same = record {
+    gives = ap (λ (xs : List Lexeme). read (next_of test) (input s.opened xs)) first ∙ passed_as (drop 1 s.rest) s.opened (view x) test passes opens closes
+        ∙ ap (λ (after : Input). Ok (view x, after)) (sym same);
+    ahead = omega (arith, ap (λ (xs : List Lexeme). length xs) first, ap (λ (s : Input). length s.rest) same);
+    taken = omega (arith, ap (λ (xs : List Lexeme). length xs) first, ap (λ (s : Input). length s.rest) same);
+  }
 
 pub ruleset passed = (sign_there, word_there)
 

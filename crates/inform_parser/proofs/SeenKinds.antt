@@ -5,17 +5,17 @@ use Rattle.inform_tree.specs.declared.conditions.Relation.TheVariants.{Eq}
 use Rattle.inform_lexemes.specs.declared.symbols.Symbol.TheVariants.{ByteArrow, WordArrow, Plus, Minus, Times, Divide, Remainder}
 use Rattle.inform_lexemes.specs.Lexemes.{Lexeme, Name, Number, Character, Quoted, Sign, is_sign, is_name, is_number, is_character, is_quoted}
 use Rattle.inform_lexer.specs.declared.glances.Glance.TheVariants as g
-use Rattle.inform_grammar.specs.Lexemes.{heads, is_arrow, is_factor_sign, is_term_sign, is_relation, relation_of}
+use Rattle.inform_grammar.specs.Lexemes.{heads, is_opener, is_closer, is_arrow, is_factor_sign, is_term_sign, is_relation, relation_of}
 use Rattle.inform_grammar.specs.Faults.{Unexpected, fault}
 use Rattle.inform_grammar.specs.Plan.{done, refuse, next}
 use Rattle.inform_grammar.specs.Reading.{Input, input, Answer, step, reads}
 use Rattle.inform_grammar.proofs.Binding.{and_then}
 use Rattle.inform_parser.specs.Glances.{first_glance}
-use Rattle.inform_parser.specs.declared.stops.Stop.{Stop}
-use Rattle.inform_parser.specs.Reading.{read, StandsNext, StopsAt}
-use Rattle.inform_parser.specs.Nexts.{next_of, any_next, arrow_next, relation_next, relation_lexeme}
-use Rattle.inform_parser.proofs.Steps.{read-done, read-then, stops-then}
-use Rattle.inform_parser.proofs.Taking.{fails, first_taken, first_stops}
+use Rattle.inform_parser.specs.Reading.{read, StandsNext, ReadsSome}
+use Rattle.inform_parser.specs.Nexts.{next_of, arrow_next, relation_next, relation_lexeme}
+use Rattle.inform_parser.proofs.Steps.{read-done, read-then}
+use Rattle.inform_parser.proofs.Taking.{fails}
+use Rattle.inform_parser.proofs.Passing.{stands_read}
 
 pub number_first : (xs : List Lexeme) (m : ℕ) → first_glance xs ≡ Some (g.Number m) → xs ≡ Number m ∷ drop 1 xs
 number_first (Number x ∷ xs) m e = let same : x ≡ m = cc in ap (λ n. Number n ∷ xs) same
@@ -92,18 +92,20 @@ relation_by s = read-then (λ x. done (relation_of x)) (next_of is_relation) s �
 pub relation_fails : (s : Input) → heads is_relation s.rest ≡ false → read relation_next s ≡ Err (fault Unexpected s.rest)
 relation_fails s e = relation_by s ∙ ap (λ a. and_then a (λ x s. Ok (relation_of x, s))) (fails s is_relation done e)
 
-module _ (s : Input) (op : Relation) (first : StandsNext (relation_lexeme op) s) where
-  pub relation_taken : (mid : Input) → read any_next s ≡ Ok (tt, mid) → read relation_next s ≡ Ok (op, mid)
-  relation_taken mid e =
-      relation_by s
-      ∙ ap (λ a. and_then a (λ x s. Ok (relation_of x, s))) (first_taken s is_relation (relation_lexeme op) first (relation_kind op) mid e)
-      ∙ ap (λ op. Ok (op, mid)) (relation_known op)
+relation_plain : (op : Relation) → (is_opener (relation_lexeme op) ≡ false) × (is_closer (relation_lexeme op) ≡ false)
+relation_plain Eq = (refl, refl)
+relation_plain _ = (refl, refl)
 
-  pub relation_stops : (after : Input) (stop : Stop) → StopsAt after stop (read any_next s) → StopsAt after stop (read relation_next s)
-  relation_stops after stop e =
-      subst (λ a. StopsAt after stop a) (sym (relation_by s))
-      (stops-then after stop (λ x s. Ok (relation_of x, s)) (read (next_of is_relation) s)
-      (first_stops s is_relation (relation_lexeme op) first (relation_kind op) after stop e))
+-- a relation that stands next is read
+pub relation_read : (s after : Input) (op : Relation) → StandsNext (relation_lexeme op) s → after ≡ input s.opened (drop 1 s.rest)
+    → ReadsSome (λ op. op) relation_next s (Ok op) after
+relation_read s after op first same =
+    let one = stands_read relation_lexeme s after op first is_relation (relation_kind op) (relation_plain op).0 (relation_plain op).1 same in
+    record {
+      gives = relation_by s ∙ ap (λ a. and_then a (λ x s. Ok (relation_of x, s))) one.gives ∙ ap (λ op. Ok (op, after)) (relation_known op);
+      ahead = one.ahead;
+      taken = one.taken;
+    }
 
 pub at_relation : (xs : List Lexeme) (op : Relation) → xs ≡ relation_lexeme op ∷ drop 1 xs → heads is_relation xs ≡ true
 at_relation xs op e = rw e (relation_kind op)

@@ -11,7 +11,8 @@ use Rattle.inform_grammar.specs.Plan.{Plan, done, refuse, next, take}
 use Rattle.inform_grammar.specs.Reading.{Input, input, Answer, step, reads}
 use Rattle.inform_grammar.proofs.Binding.{and_then}
 use Rattle.inform_parser.specs.declared.stops.Stop.{Stop}
-use Rattle.inform_parser.specs.Reading.{read, StopsAt}
+use Rattle.std.specs.Prelude.{Result}
+use Rattle.inform_parser.specs.Reading.{read, StopsAt, Gives, ReadsSome}
 use Rattle.inform_parser.specs.Nexts.{next_of, any_next}
 use Rattle.inform_parser.proofs.Steps.{read-done, read-then, stops-then}
 
@@ -79,25 +80,16 @@ word_told s a h =
     let e = told_first (is_word a) (Word a) s.rest (keywords_told a) h in
     passes s (drop 1 s.rest) (Word a) (is_word a) e (same_first (is_word a) (Word a) s.rest e h)
 
-pub sign_taken : (s mid : Input) (a : Symbol) → heads (is_sign a) s.rest ≡ true → read any_next s ≡ Ok (tt, mid) → read (next_of (is_sign a)) s ≡ Ok (Sign a, mid)
-sign_taken s mid a h e = after_any (is_sign a) (Sign a) s mid (sign_told s a h) e
+-- a symbol or a word that stands next is read as any lexeme is
+known : (test : Lexeme → Bool) (x : Lexeme) (s after : Input) (r : Result (Unit {0}) Stop) → Taken test x s
+    → Gives (λ _. tt) any_next s r after → Gives (λ _. x) (next_of test) s r after
+known test x s after (Ok y) e h = after_any test x s after e h
+known test x s after (Err stop) e h = stops_any test x s after stop e h
 
-pub sign_stops : (s after : Input) (stop : Stop) (a : Symbol) → heads (is_sign a) s.rest ≡ true → StopsAt after stop (read any_next s) → StopsAt after stop (read (next_of (is_sign a)) s)
-sign_stops s after stop a h e = stops_any (is_sign a) (Sign a) s after stop (sign_told s a h) e
+pub sign_read : (s after : Input) (r : Result (Unit {0}) Stop) (a : Symbol) → heads (is_sign a) s.rest ≡ true → ReadsSome (λ _. tt) any_next s r after
+    → ReadsSome (λ _. Sign a) (next_of (is_sign a)) s r after
+sign_read s after r a e h = record { gives = known (is_sign a) (Sign a) s after r (sign_told s a e) h.gives; ahead = h.ahead; taken = h.taken }
 
-pub word_taken : (s mid : Input) (a : Keyword) → heads (is_word a) s.rest ≡ true → read any_next s ≡ Ok (tt, mid) → read (next_of (is_word a)) s ≡ Ok (Word a, mid)
-word_taken s mid a h e = after_any (is_word a) (Word a) s mid (word_told s a h) e
-
-pub word_stops : (s after : Input) (stop : Stop) (a : Keyword) → heads (is_word a) s.rest ≡ true → StopsAt after stop (read any_next s) → StopsAt after stop (read (next_of (is_word a)) s)
-word_stops s after stop a h e = stops_any (is_word a) (Word a) s after stop (word_told s a h) e
-
--- ---- what is seen to be of a kind
-
-module _ (s : Input) (test : Lexeme → Bool) (x : Lexeme) (first : s.rest ≡ x ∷ drop 1 s.rest) (kind : test x ≡ true) where
-  pub first_taken : (mid : Input) → read any_next s ≡ Ok (tt, mid) → read (next_of test) s ≡ Ok (x, mid)
-  first_taken mid e = after_any test x s mid (passes s (drop 1 s.rest) x test first kind) e
-
-  pub first_stops : (after : Input) (stop : Stop) → StopsAt after stop (read any_next s) → StopsAt after stop (read (next_of test) s)
-  first_stops after stop e = stops_any test x s after stop (passes s (drop 1 s.rest) x test first kind) e
-
-pub ruleset taken = (sign_taken, sign_stops, word_taken, word_stops, fails, first_taken, first_stops)
+pub word_read : (s after : Input) (r : Result (Unit {0}) Stop) (a : Keyword) → heads (is_word a) s.rest ≡ true → ReadsSome (λ _. tt) any_next s r after
+    → ReadsSome (λ _. Word a) (next_of (is_word a)) s r after
+word_read s after r a e h = record { gives = known (is_word a) (Word a) s after r (word_told s a e) h.gives; ahead = h.ahead; taken = h.taken }

@@ -95,7 +95,8 @@ impl<'a> Cursor<'a> {
     {
         self.expect(Symbol::LeftBrace)?;
         let body = self.statements(alloc, BODY_ROOM)?;
-        self.statements_to(Symbol::RightBrace, body)
+        self.expect(Symbol::RightBrace)?;
+        Ok(body)
     }
 
     // A block.
@@ -217,34 +218,6 @@ impl<'a> Cursor<'a> {
         Ok(Stmt::For(head, body))
     }
 
-    // The head of a `for` after its second colon.
-    #[cycle(statements)]
-    #[tactic(auto, using(crate::proofs::Steps::steps, crate::proofs::BodySteps::for_last_as))]
-    #[inline(always)]
-    fn for_last(
-        &mut self,
-        alloc: Global,
-        first: Option<Change>,
-        test: Option<Guard>,
-    ) -> Result<Stmt, Stop>
-        ensures { Reads statement_of (for_last (assignment_if_any first) (guard_if_any test))
-            self.old result self.new }
-    {
-        let last = self.last_change(alloc)?;
-        self.for_body(alloc, first, test, last)
-    }
-
-    // The head of a `for` after its first colon.
-    #[cycle(statements)]
-    #[tactic(auto, using(crate::proofs::Steps::steps, crate::proofs::BodySteps::for_test_as))]
-    #[inline(always)]
-    fn for_test(&mut self, alloc: Global, first: Option<Change>) -> Result<Stmt, Stop>
-        ensures { Reads statement_of (for_test (assignment_if_any first)) self.old result self.new }
-    {
-        let test = self.test_to_colon(alloc)?;
-        self.for_last(alloc, first, test)
-    }
-
     // A `for`.
     #[cycle(statements)]
     #[tactic(auto, using(crate::proofs::Steps::steps, crate::proofs::BodySteps::for_statement_as))]
@@ -253,7 +226,9 @@ impl<'a> Cursor<'a> {
         ensures { ReadsSome statement_of for_statement self.old result self.new }
     {
         let first = self.first_change(alloc)?;
-        self.for_test(alloc, first)
+        let test = self.test_to_colon(alloc)?;
+        let last = self.last_change(alloc)?;
+        self.for_body(alloc, first, test, last)
     }
 
     // What follows `switch`.

@@ -13,16 +13,6 @@ use inform_tree::{Change, Name, Stmt};
 use std::alloc::Global;
 
 impl<'a> Cursor<'a> {
-    // What follows a name and `=`.
-    #[tactic(auto, using(crate::proofs::Steps::steps))]
-    #[inline(always)]
-    fn set_after(&mut self, alloc: Global, name: Name) -> Result<Change, Stop>
-        ensures { ReadsSome assignment_of (set_after name) self.old result self.new }
-    {
-        let value = self.value(alloc)?;
-        Ok(Change::Set(name, value))
-    }
-
     // What follows the name of an array that is changed.
     #[tactic(auto, using(crate::proofs::Steps::steps))]
     fn entry_change(&mut self, alloc: Global, name: Name) -> Result<Change, Stop>
@@ -43,7 +33,8 @@ impl<'a> Cursor<'a> {
     {
         if self.at(Symbol::Assign) {
             self.pass(Symbol::Assign);
-            return self.set_after(alloc, name);
+            let value = self.value(alloc)?;
+            return Ok(Change::Set(name, value));
         }
         if self.at_arrow() {
             return self.entry_change(alloc, name);
@@ -77,27 +68,6 @@ impl<'a> Cursor<'a> {
         Ok(Some(change))
     }
 
-    // The arguments of a call in their brackets, and its semicolon.
-    #[tactic(auto, using(crate::proofs::Steps::steps, crate::proofs::TreesMade::statements))]
-    #[inline(always)]
-    fn call_after(&mut self, alloc: Global, name: Name) -> Result<Stmt, Stop>
-        ensures { ReadsSome statement_of (call_after name) self.old result self.new }
-    {
-        self.expect(Symbol::LeftRound)?;
-        let arguments = self.arguments(alloc)?;
-        self.statement_to(Symbol::Semicolon, Stmt::Call(name, arguments))
-    }
-
-    // What follows the name in a change, and its semicolon.
-    #[tactic(auto, using(crate::proofs::Steps::steps, crate::proofs::TreesMade::statements))]
-    #[inline(always)]
-    fn changed_after(&mut self, alloc: Global, name: Name) -> Result<Stmt, Stop>
-        ensures { ReadsSome statement_of (changed_after name) self.old result self.new }
-    {
-        let change = self.change_after(alloc, name)?;
-        self.statement_to(Symbol::Semicolon, Stmt::Change(change))
-    }
-
     /// A call or a change with its semicolon, after its name.
     #[tactic(auto, using(crate::proofs::Steps::steps), unfolding(inform_grammar::specs::StatementRules::statement_after))]
     #[inline(always)]
@@ -105,9 +75,12 @@ impl<'a> Cursor<'a> {
         ensures { ReadsSome statement_of (statement_after name) self.old result self.new }
     {
         if self.at(Symbol::LeftRound) {
-            return self.call_after(alloc, name);
+            self.expect(Symbol::LeftRound)?;
+            let arguments = self.arguments(alloc)?;
+            return self.statement_to(Symbol::Semicolon, Stmt::Call(name, arguments));
         }
-        self.changed_after(alloc, name)
+        let change = self.change_after(alloc, name)?;
+        self.statement_to(Symbol::Semicolon, Stmt::Change(change))
     }
 
     /// A statement that begins with a name.

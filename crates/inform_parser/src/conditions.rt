@@ -45,10 +45,9 @@ impl<'a> Cursor<'a> {
         ensures { ReadsSome (λ x. x) (connective_next (join_of join)) self.old result self.new }
     {
         match join {
-            Join::All => self.expect(Symbol::And)?,
-            Join::Any => self.expect(Symbol::Or)?,
+            Join::All => self.expect(Symbol::And),
+            Join::Any => self.expect(Symbol::Or),
         }
-        Ok(())
     }
 
     // What follows a value: a symbol that compares it with another one, and that, or nothing.

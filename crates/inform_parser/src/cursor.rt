@@ -299,7 +299,7 @@ impl<'a> Cursor<'a> {
     }
 
     /// Takes this symbol, which must stand next.
-    #[tactic(auto, using(crate::proofs::Taking::sign_taken, crate::proofs::Taking::sign_stops, crate::proofs::Taking::fails))]
+    #[tactic(auto, using(crate::proofs::Taking::fails))]
     #[inline(always)]
     pub fn expect(&mut self, symbol: Symbol) -> Result<(), Stop>
         ensures { ReadsSome (λ _. Sign symbol) (next_of (is_sign symbol)) self.old result self.new }
@@ -307,8 +307,7 @@ impl<'a> Cursor<'a> {
         if !self.at(symbol) {
             return Err(Stop::Unexpected);
         }
-        self.advance()?;
-        Ok(())
+        self.advance()
     }
 
     /// Takes this word of the grammar, which must stand next.
@@ -321,8 +320,7 @@ impl<'a> Cursor<'a> {
         if !self.at_word(keyword) {
             return Err(Stop::Unexpected);
         }
-        self.advance()?;
-        Ok(())
+        self.advance()
     }
 
     // The number that stands next.
@@ -347,7 +345,7 @@ impl<'a> Cursor<'a> {
         let Some(number) = self.next_number() else {
             return Err(Stop::Unexpected);
         };
-        self.advance()?;
+        self.skip();
         Ok(number)
     }
 
@@ -405,7 +403,7 @@ impl<'a> Cursor<'a> {
         let Some(name) = self.next_name(alloc)? else {
             return Err(Stop::Unexpected);
         };
-        self.advance()?;
+        self.skip();
         Ok(name)
     }
 
@@ -432,7 +430,7 @@ impl<'a> Cursor<'a> {
         let Some(text) = self.next_text(alloc)? else {
             return Err(Stop::Unexpected);
         };
-        self.advance()?;
+        self.skip();
         Ok(text)
     }
 
@@ -455,7 +453,7 @@ impl<'a> Cursor<'a> {
         let Some(relation) = self.next_relation() else {
             return Err(Stop::Unexpected);
         };
-        self.advance()?;
+        self.skip();
         Ok(relation)
     }
 

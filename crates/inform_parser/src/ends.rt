@@ -40,33 +40,11 @@ impl<'a> Cursor<'a> {
         Ok(made)
     }
 
-    /// Statements, up to this symbol.
-    #[tactic(auto, using(crate::proofs::Steps::steps))]
-    #[inline(always)]
-    pub fn statements_to(&mut self, symbol: Symbol, made: Vec<Stmt>) -> Result<Vec<Stmt>, Stop>
-        ensures { ReadsSome statements_in (take (is_sign symbol) (done (statements_in made)))
-            self.old result self.new }
-    {
-        self.expect(symbol)?;
-        Ok(made)
-    }
-
     /// An expression, up to this symbol.
     #[tactic(auto, using(crate::proofs::Steps::steps))]
     #[inline(always)]
     pub fn expression_to(&mut self, symbol: Symbol, made: Expr) -> Result<Expr, Stop>
         ensures { ReadsSome expression_of (take (is_sign symbol) (done (expression_of made)))
-            self.old result self.new }
-    {
-        self.expect(symbol)?;
-        Ok(made)
-    }
-
-    /// Expressions, up to this symbol.
-    #[tactic(auto, using(crate::proofs::Steps::steps))]
-    #[inline(always)]
-    pub fn expressions_to(&mut self, symbol: Symbol, made: Vec<Expr>) -> Result<Vec<Expr>, Stop>
-        ensures { ReadsSome expressions_of (take (is_sign symbol) (done (expressions_of made)))
             self.old result self.new }
     {
         self.expect(symbol)?;

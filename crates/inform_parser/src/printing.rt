@@ -15,29 +15,6 @@ use inform_tree::{Item, Stmt};
 use std::alloc::Global;
 
 impl<'a> Cursor<'a> {
-    // What follows `char` in an item: its closing bracket, and a value.
-    #[tactic(auto, using(crate::proofs::Steps::steps))]
-    #[inline(always)]
-    fn char_after(&mut self, alloc: Global) -> Result<Item, Stop>
-        ensures { ReadsSome print_item_of char_after self.old result self.new }
-    {
-        self.expect(Symbol::RightRound)?;
-        let value = self.value(alloc)?;
-        Ok(Item::Char(value))
-    }
-
-    // A value with its closing bracket, which goes on.
-    #[tactic(auto, using(crate::proofs::Steps::steps))]
-    #[inline(always)]
-    fn value_inside(&mut self, alloc: Global) -> Result<Item, Stop>
-        ensures { ReadsSome print_item_of value_inside self.old result self.new }
-    {
-        let first = self.value(alloc)?;
-        self.expect(Symbol::RightRound)?;
-        let value = self.value_after(alloc, first)?;
-        Ok(Item::Value(value))
-    }
-
     // What follows the opening bracket of an item: `char`, its closing bracket and a value, or a
     // value that goes on.
     #[tactic(auto, using(crate::proofs::Steps::steps, crate::proofs::StatementSteps::item_inside_as))]
@@ -46,38 +23,13 @@ impl<'a> Cursor<'a> {
     {
         if self.at_word(Keyword::Char) {
             self.pass_word(Keyword::Char);
-            return self.char_after(alloc);
+            self.expect(Symbol::RightRound)?;
+            let value = self.value(alloc)?;
+            return Ok(Item::Char(value));
         }
-        self.value_inside(alloc)
-    }
-
-    // A string.
-    #[tactic(auto, using(crate::proofs::Steps::steps))]
-    #[inline(always)]
-    fn text_item(&mut self, alloc: Global) -> Result<Item, Stop>
-        ensures { ReadsSome print_item_of text_item self.old result self.new }
-    {
-        let text = self.text(alloc)?;
-        Ok(Item::Text(text))
-    }
-
-    // An item that begins with a bracket.
-    #[tactic(auto, using(crate::proofs::Steps::steps))]
-    #[inline(always)]
-    fn bracketed_item(&mut self, alloc: Global) -> Result<Item, Stop>
-        ensures { ReadsSome print_item_of bracketed_item self.old result self.new }
-    {
-        self.expect(Symbol::LeftRound)?;
-        self.item_inside(alloc)
-    }
-
-    // A value.
-    #[tactic(auto, using(crate::proofs::Steps::steps))]
-    #[inline(always)]
-    fn value_item(&mut self, alloc: Global) -> Result<Item, Stop>
-        ensures { ReadsSome print_item_of value_item self.old result self.new }
-    {
-        let value = self.value(alloc)?;
+        let first = self.value(alloc)?;
+        self.expect(Symbol::RightRound)?;
+        let value = self.value_after(alloc, first)?;
         Ok(Item::Value(value))
     }
 
@@ -87,12 +39,15 @@ impl<'a> Cursor<'a> {
         ensures { ReadsSome print_item_of (one r.Item done) self.old result self.new }
     {
         if self.at_text() {
-            return self.text_item(alloc);
+            let text = self.text(alloc)?;
+            return Ok(Item::Text(text));
         }
         if self.at(Symbol::LeftRound) {
-            return self.bracketed_item(alloc);
+            self.expect(Symbol::LeftRound)?;
+            return self.item_inside(alloc);
         }
-        self.value_item(alloc)
+        let value = self.value(alloc)?;
+        Ok(Item::Value(value))
     }
 
     // A further item, after its comma.

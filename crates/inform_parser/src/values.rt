@@ -57,31 +57,6 @@ impl<'a> Cursor<'a> {
         Ok(Const::Name(name))
     }
 
-    // A number with its minus sign.
-    #[tactic(auto, using(crate::proofs::Steps::steps), unfolding(inform_grammar::specs::ValueRules::minus_number))]
-    #[inline(always)]
-    fn negative_number(&mut self) -> Result<Const, Stop>
-        ensures { ReadsSome same_tree (take (is_sign Minus) minus_number)
-            self.old result self.new }
-    {
-        self.expect(Symbol::Minus)?;
-        let number = self.number()?;
-        Ok(Const::Minus(number))
-    }
-
-    // A number with its minus sign, between brackets.
-    #[tactic(auto, using(crate::proofs::Steps::steps), unfolding(inform_grammar::specs::ValueRules::minus_number))]
-    #[inline(always)]
-    fn negative_entry(&mut self) -> Result<Const, Stop>
-        ensures { ReadsSome same_tree negative_entry self.old result self.new }
-    {
-        self.expect(Symbol::LeftRound)?;
-        self.expect(Symbol::Minus)?;
-        let number = self.number()?;
-        self.expect(Symbol::RightRound)?;
-        Ok(Const::Minus(number))
-    }
-
     /// A constant.
     #[tactic(auto, using(crate::proofs::Steps::steps, crate::proofs::ValueSteps::constant_as))]
     pub fn constant(&mut self, alloc: Global) -> Result<Const, Stop>
@@ -96,7 +71,9 @@ impl<'a> Cursor<'a> {
         if self.at_name() {
             return self.named_constant(alloc);
         }
-        self.negative_number()
+        self.expect(Symbol::Minus)?;
+        let number = self.number()?;
+        Ok(Const::Minus(number))
     }
 
     /// An entry of an array.
@@ -113,7 +90,11 @@ impl<'a> Cursor<'a> {
         if self.at_name() {
             return self.named_constant(alloc);
         }
-        self.negative_entry()
+        self.expect(Symbol::LeftRound)?;
+        self.expect(Symbol::Minus)?;
+        let number = self.number()?;
+        self.expect(Symbol::RightRound)?;
+        Ok(Const::Minus(number))
     }
 
     /// What follows the bracket after a name: the arguments of a call, and a closing bracket.
@@ -137,7 +118,8 @@ impl<'a> Cursor<'a> {
     {
         let first = self.value(alloc)?;
         let arguments = self.further_arguments(alloc, first)?;
-        self.expressions_to(Symbol::RightRound, arguments)
+        self.expect(Symbol::RightRound)?;
+        Ok(arguments)
     }
 
     // The further arguments of a call, after the first one.
@@ -210,23 +192,15 @@ impl<'a> Cursor<'a> {
             return Ok(Expr::Char(self.pass_character()));
         }
         if self.at_name() {
-            return self.named_primary(alloc);
+            let name = self.name(alloc)?;
+            return self.name_after(alloc, name);
         }
         if self.at_word(Keyword::Random) {
-            return self.random(alloc);
+            self.pass_word(Keyword::Random);
+            let limit = self.value_in_brackets(alloc)?;
+            return Ok(Expr::Random(Box::new(alloc, limit)?));
         }
         self.value_in_brackets(alloc)
-    }
-
-    // A name, or a call of it.
-    #[cycle(values)]
-    #[tactic(auto, using(crate::proofs::Steps::steps))]
-    #[inline(always)]
-    fn named_primary(&mut self, alloc: Global) -> Result<Expr, Stop>
-        ensures { ReadsSome expression_of named_primary self.old result self.new }
-    {
-        let name = self.name(alloc)?;
-        self.name_after(alloc, name)
     }
 
     /// A value between brackets.
@@ -240,17 +214,6 @@ impl<'a> Cursor<'a> {
         self.expression_to(Symbol::RightRound, value)
     }
 
-    // A draw, with its word.
-    #[cycle(values)]
-    #[tactic(auto, using(crate::proofs::Steps::steps, crate::proofs::TreesMade::expressions))]
-    fn random(&mut self, alloc: Global) -> Result<Expr, Stop>
-        ensures { ReadsSome expression_of random_plan self.old result self.new }
-    {
-        self.expect_word(Keyword::Random)?;
-        let limit = self.value_in_brackets(alloc)?;
-        Ok(Expr::Random(Box::new(alloc, limit)?))
-    }
-
     // An operand.
     #[cycle(values)]
     #[tactic(auto, using(crate::proofs::Steps::steps, crate::proofs::TreesMade::expressions, crate::proofs::ValueSteps::unary_as))]
@@ -259,35 +222,15 @@ impl<'a> Cursor<'a> {
         ensures { ReadsSome expression_of (one r.Unary done) self.old result self.new }
     {
         if self.at_name() {
-            return self.named_unary(alloc);
+            let name = self.name(alloc)?;
+            return self.entry_after(alloc, name);
         }
         if self.at(Symbol::Minus) {
             self.pass(Symbol::Minus);
-            return self.negation(alloc);
+            let operand = self.primary(alloc)?;
+            return Ok(Expr::Neg(Box::new(alloc, operand)?));
         }
         self.primary(alloc)
-    }
-
-    // A name, a call of it, or an entry of the array that it names.
-    #[cycle(values)]
-    #[tactic(auto, using(crate::proofs::Steps::steps))]
-    #[inline(always)]
-    fn named_unary(&mut self, alloc: Global) -> Result<Expr, Stop>
-        ensures { ReadsSome expression_of named_unary self.old result self.new }
-    {
-        let name = self.name(alloc)?;
-        self.entry_after(alloc, name)
-    }
-
-    // What follows a minus sign.
-    #[cycle(values)]
-    #[tactic(auto, using(crate::proofs::Steps::steps, crate::proofs::TreesMade::expressions))]
-    #[inline(always)]
-    fn negation(&mut self, alloc: Global) -> Result<Expr, Stop>
-        ensures { ReadsSome expression_of negation self.old result self.new }
-    {
-        let operand = self.primary(alloc)?;
-        Ok(Expr::Neg(Box::new(alloc, operand)?))
     }
 
     // A further factor, after its sign.

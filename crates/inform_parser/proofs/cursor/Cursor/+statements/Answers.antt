@@ -88,23 +88,33 @@ pub for_body-returns-in_err-body : goal.for_body-returns-in_err-body
 unfolding for_body
 for_body-returns-in_err-body t c = stops _ c.from_residual-in_err-body.result c.from_residual-in_err-body.ensures.1 (only c.in_err-body.ensures)
 
-pub for_last-returns-in_err-last : goal.for_last-returns-in_err-last
-for_last-returns-in_err-last t c = same _ (for_last_as _ _ _) (stops _ c.from_residual.result c.from_residual.ensures.1 (only c.in_err-last.ensures))
+pub statements_in_braces-returns-in_err-expect : goal.statements_in_braces-returns-in_err-expect
+unfolding statements_in_braces
+statements_in_braces-returns-in_err-expect t c = stops_some _ c.from_residual.result c.from_residual.ensures.1 (only c.in_err-expect.ensures)
 
-pub for_last-returns : goal.for_last-returns
-for_last-returns t c = same _ (for_last_as _ _ _) (follows _ (only c.in_ok-last.ensures) (c.for_body.ensures))
+pub statements_in_braces-returns-in_err-body : goal.statements_in_braces-returns-in_err-body
+unfolding statements_in_braces
+statements_in_braces-returns-in_err-body t c = follows_some _ c.in_ok-expect.ensures (stops _ c.from_residual-in_err-body.result c.from_residual-in_err-body.ensures.1 c.in_err-body.ensures)
+
+pub statements_in_braces-returns-in_err-expect-2 : goal.statements_in_braces-returns-in_err-expect-2
+unfolding statements_in_braces
+statements_in_braces-returns-in_err-expect-2 t c = follows_some _ c.in_ok-expect.ensures (follows _ c.in_ok-body.ensures (stops _ c.from_residual-in_err-expect-2.result c.from_residual-in_err-expect-2.ensures.1 (only c.in_err-expect-2.ensures)))
+
+pub statements_in_braces-returns : goal.statements_in_braces-returns
+unfolding statements_in_braces
+statements_in_braces-returns t c = follows_some _ c.in_ok-expect.ensures (follows _ c.in_ok-body.ensures (follows _ (only c.in_ok-expect-2.ensures) (made _ (refl))))
 
 pub for_statement-returns-in_err-first : goal.for_statement-returns-in_err-first
 for_statement-returns-in_err-first t c = same_some _ (for_statement_as _) (stops_some _ c.from_residual.result c.from_residual.ensures.1 (only c.in_err-first.ensures))
 
+pub for_statement-returns-in_err-test : goal.for_statement-returns-in_err-test
+for_statement-returns-in_err-test t c = same_some _ (for_statement_as _) (follows_some _ c.in_ok-first.ensures (ended (same _ (for_test_as _ _) (stops _ c.from_residual-in_err-test.result c.from_residual-in_err-test.ensures.1 (only c.in_err-test.ensures)))))
+
+pub for_statement-returns-in_err-last : goal.for_statement-returns-in_err-last
+for_statement-returns-in_err-last t c = same_some _ (for_statement_as _) (follows_some _ c.in_ok-first.ensures (ended (same _ (for_test_as _ _) (follows _ (only c.in_ok-test.ensures) (same _ (for_last_as _ _ _) (stops _ c.from_residual-in_err-last.result c.from_residual-in_err-last.ensures.1 (only c.in_err-last.ensures)))))))
+
 pub for_statement-returns : goal.for_statement-returns
-for_statement-returns t c = same_some _ (for_statement_as _) (follows_some _ c.in_ok-first.ensures (ended c.for_test.ensures))
-
-pub for_test-returns-in_err-test : goal.for_test-returns-in_err-test
-for_test-returns-in_err-test t c = same _ (for_test_as _ _) (stops _ c.from_residual.result c.from_residual.ensures.1 (only c.in_err-test.ensures))
-
-pub for_test-returns : goal.for_test-returns
-for_test-returns t c = same _ (for_test_as _ _) (follows _ (only c.in_ok-test.ensures) (c.for_last.ensures))
+for_statement-returns t c = same_some _ (for_statement_as _) (follows_some _ c.in_ok-first.ensures (ended (same _ (for_test_as _ _) (follows _ (only c.in_ok-test.ensures) (same _ (for_last_as _ _ _) (follows _ (only c.in_ok-last.ensures) c.for_body.ensures))))))
 
 pub if_statement-returns-in_err-test : goal.if_statement-returns-in_err-test
 if_statement-returns-in_err-test t c = same_some _ (if_statement_as _) (stops_some _ c.from_residual.result c.from_residual.ensures.1 (only c.in_err-test.ensures))
@@ -162,18 +172,6 @@ statement-returns-then-at_word-5 t c = same_some _ (statement_as _) (other_some 
 
 pub statement-returns : goal.statement-returns
 statement-returns t c = same_some _ (statement_as _) (other_some _ _ (sym c.at.ensures ∙ c.if-at.false) (other_some _ _ (sym c.at-2.ensures ∙ c.if-at-2.false) (other_some _ _ (sym c.at_name.ensures ∙ c.if-at_name.false) (other_some _ _ (sym c.at_word.ensures ∙ c.if-at_word.false) (other_some _ _ (sym c.at_word-2.ensures ∙ c.if-at_word-2.false) (other_some _ _ (sym c.at_word-3.ensures ∙ c.if-at_word-3.false) (other_some _ _ (sym c.at_word-4.ensures ∙ c.if-at_word-4.false) (other_some _ _ (sym c.at_word-5.ensures ∙ c.if-at_word-5.false) (ended_some c.simple_statement.ensures)))))))))
-
-pub statements_in_braces-returns-in_err-expect : goal.statements_in_braces-returns-in_err-expect
-unfolding statements_in_braces
-statements_in_braces-returns-in_err-expect t c = stops_some _ c.from_residual.result c.from_residual.ensures.1 (only c.in_err-expect.ensures)
-
-pub statements_in_braces-returns-in_err-body : goal.statements_in_braces-returns-in_err-body
-unfolding statements_in_braces
-statements_in_braces-returns-in_err-body t c = follows_some _ c.in_ok-expect.ensures (stops _ c.from_residual-in_err-body.result c.from_residual-in_err-body.ensures.1 c.in_err-body.ensures)
-
-pub statements_in_braces-returns : goal.statements_in_braces-returns
-unfolding statements_in_braces
-statements_in_braces-returns t c = follows_some _ c.in_ok-expect.ensures (follows _ c.in_ok-body.ensures (only c.statements_to.ensures))
 
 pub switch_after-returns-in_err-value : goal.switch_after-returns-in_err-value
 switch_after-returns-in_err-value t c = same _ (switch_as _) (stops _ c.from_residual.result c.from_residual.ensures.1 (only c.in_err-value.ensures))

@@ -39,12 +39,6 @@ decreases-do_statement l = 8 * length l.self.now.rest + 1
 abbrev pub decreases-for_body : goal.decreases-for_body
 decreases-for_body l = 8 * length l.self.now.rest + 6
 
-abbrev pub decreases-for_last : goal.decreases-for_last
-decreases-for_last l = 8 * length l.self.now.rest + 1
-
-abbrev pub decreases-for_test : goal.decreases-for_test
-decreases-for_test l = 8 * length l.self.now.rest + 1
-
 abbrev pub decreases-for_statement : goal.decreases-for_statement
 decreases-for_statement l = 8 * length l.self.now.rest + 1
 

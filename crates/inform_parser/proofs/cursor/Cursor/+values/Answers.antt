@@ -4,7 +4,7 @@ use Rattle.inform_parser.proofs.Loops.{goes_on}
 use Rattle.inform_parser.proofs.ValueSteps.{factor_more, term_more, argument_as, arguments_as, entry_after_arrow, entry_after_name, factor_as, term_as, primary_as, product_as, value_as, unary_as, factor_last, term_last, argument_more}
 use Rattle.inform_grammar.specs.ValueRules.{name_after, factors_after, terms_after}
 use Rattle.inform_parser.specs.Plans.{value_in_brackets}
-use Rattle.inform_parser.proofs.TreesMade.{expression_of_number, expression_of_char, expression_of_name, expression_of_call, factor_of_pair, term_of_pair}
+use Rattle.inform_parser.proofs.TreesMade.{expression_of_number, expression_of_char, expression_of_name, expression_of_call, expression_of_random, expression_of_neg, factor_of_pair, term_of_pair}
 use Rattle.inform_parser.proofs.InTurn.{only, made, same, same_some, known, ended, memory, stops, stops_some, follows, follows_some, resumed, passed, there, other, other_some}
 use Rattle.inform_grammar.specs.Rules as r
 use Rattle.inform_parser.proofs.cursor.Cursor.«+values».Goals as goal
@@ -93,47 +93,29 @@ pub name_after-returns : goal.name_after-returns
 unfolding name_after
 name_after-returns t c = other _ _ (sym c.at.ensures ∙ c.if-at.false) (made _ (expression_of_name _))
 
-pub named_primary-returns-in_err-name : goal.named_primary-returns-in_err-name
-named_primary-returns-in_err-name t c = stops_some _ c.from_residual.result c.from_residual.ensures.1 (only c.in_err-name.ensures)
-
-pub named_primary-returns : goal.named_primary-returns
-named_primary-returns t c = follows_some _ c.in_ok-name.ensures (ended c.name_after.ensures)
-
-pub named_unary-returns-in_err-name : goal.named_unary-returns-in_err-name
-named_unary-returns-in_err-name t c = stops_some _ c.from_residual.result c.from_residual.ensures.1 (only c.in_err-name.ensures)
-
-pub named_unary-returns : goal.named_unary-returns
-named_unary-returns t c = follows_some _ c.in_ok-name.ensures (ended c.entry_after.ensures)
-
-pub negation-returns-in_err-operand : goal.negation-returns-in_err-operand
-negation-returns-in_err-operand t c = stops_some _ c.from_residual.result c.from_residual.ensures.1 (only c.in_err-operand.ensures)
-
-pub negation-returns-in_err-new : goal.negation-returns-in_err-new
-negation-returns-in_err-new t c = follows_some _ c.in_ok-operand.ensures (memory _ _ _ c.from_residual-in_err-new.result c.from_residual-in_err-new.ensures.1 (omega arith))
-
-pub random-returns-in_err-expect_word : goal.random-returns-in_err-expect_word
-random-returns-in_err-expect_word t c = stops_some _ c.from_residual.result c.from_residual.ensures.1 (only c.in_err-expect_word.ensures)
-
-pub random-returns-in_err-limit : goal.random-returns-in_err-limit
-random-returns-in_err-limit t c = follows_some _ c.in_ok-expect_word.ensures (stops _ c.from_residual-in_err-limit.result c.from_residual-in_err-limit.ensures.1 (only c.in_err-limit.ensures))
-
-pub random-returns-in_err-new : goal.random-returns-in_err-new
-random-returns-in_err-new t c = follows_some _ c.in_ok-expect_word.ensures (follows _ (only c.in_ok-limit.ensures) (memory _ _ _ c.from_residual-in_err-new.result c.from_residual-in_err-new.ensures.1 (omega arith)))
-
 pub primary-returns-then-at_number : goal.primary-returns-then-at_number
 primary-returns-then-at_number t c = same_some _ (primary_as _) (passed _ _ (sym c.at_number.ensures ∙ c.if-at_number.true) c.pass_number.ensures (made _ (expression_of_number _)))
 
 pub primary-returns-then-at_character : goal.primary-returns-then-at_character
 primary-returns-then-at_character t c = same_some _ (primary_as _) (other_some _ _ (sym c.at_number.ensures ∙ c.if-at_number.false) (passed _ _ (sym c.at_character.ensures ∙ c.if-at_character.true) c.pass_character.ensures (made _ (expression_of_char _))))
 
+pub primary-returns-in_err-name : goal.primary-returns-in_err-name
+primary-returns-in_err-name t c = same_some _ (primary_as _) (other_some _ _ (sym c.at_number.ensures ∙ c.if-at_number.false) (other_some _ _ (sym c.at_character.ensures ∙ c.if-at_character.false) (there _ _ (sym c.at_name.ensures ∙ c.if-at_name.true) (stops_some _ c.from_residual.result c.from_residual.ensures.1 (only c.in_err-name.ensures)))))
+
 pub primary-returns-then-at_name : goal.primary-returns-then-at_name
-primary-returns-then-at_name t c = same_some _ (primary_as _) (other_some _ _ (sym c.at_number.ensures ∙ c.if-at_number.false) (other_some _ _ (sym c.at_character.ensures ∙ c.if-at_character.false) (there _ _ (sym c.at_name.ensures ∙ c.if-at_name.true) c.named_primary.ensures)))
+primary-returns-then-at_name t c = same_some _ (primary_as _) (other_some _ _ (sym c.at_number.ensures ∙ c.if-at_number.false) (other_some _ _ (sym c.at_character.ensures ∙ c.if-at_character.false) (there _ _ (sym c.at_name.ensures ∙ c.if-at_name.true) (follows_some _ c.in_ok-name.ensures (ended c.name_after.ensures)))))
+
+pub primary-returns-in_err-limit : goal.primary-returns-in_err-limit
+primary-returns-in_err-limit t c = same_some _ (primary_as _) (other_some _ _ (sym c.at_number.ensures ∙ c.if-at_number.false) (other_some _ _ (sym c.at_character.ensures ∙ c.if-at_character.false) (other_some _ _ (sym c.at_name.ensures ∙ c.if-at_name.false) (passed _ _ (sym c.at_word.ensures ∙ c.if-at_word.true) c.pass_word.ensures (stops _ c.from_residual-in_err-limit.result c.from_residual-in_err-limit.ensures.1 (only c.in_err-limit.ensures))))))
+
+pub primary-returns-in_err-new : goal.primary-returns-in_err-new
+primary-returns-in_err-new t c = same_some _ (primary_as _) (other_some _ _ (sym c.at_number.ensures ∙ c.if-at_number.false) (other_some _ _ (sym c.at_character.ensures ∙ c.if-at_character.false) (other_some _ _ (sym c.at_name.ensures ∙ c.if-at_name.false) (passed _ _ (sym c.at_word.ensures ∙ c.if-at_word.true) c.pass_word.ensures (follows _ (only c.in_ok-limit.ensures) (memory _ _ _ c.from_residual-in_err-new.result c.from_residual-in_err-new.ensures.1 (omega arith)))))))
 
 pub primary-returns-then-at_word : goal.primary-returns-then-at_word
-primary-returns-then-at_word t c = same_some _ (primary_as _) (other_some _ _ (sym c.at_number.ensures ∙ c.if-at_number.false) (other_some _ _ (sym c.at_character.ensures ∙ c.if-at_character.false) (other_some _ _ (sym c.at_name.ensures ∙ c.if-at_name.false) (there _ _ (sym c.at_word.ensures ∙ c.if-at_word.true) c.random.ensures))))
+primary-returns-then-at_word t c = same_some _ (primary_as _) (other_some _ _ (sym c.at_number.ensures ∙ c.if-at_number.false) (other_some _ _ (sym c.at_character.ensures ∙ c.if-at_character.false) (other_some _ _ (sym c.at_name.ensures ∙ c.if-at_name.false) (passed _ _ (sym c.at_word.ensures ∙ c.if-at_word.true) c.pass_word.ensures (follows _ (only c.in_ok-limit.ensures) (made _ (grind (arith, expression_of_random))))))))
 
 pub primary-returns : goal.primary-returns
-primary-returns t c = same_some _ (primary_as _) (other_some _ _ (sym c.at_number.ensures ∙ c.if-at_number.false) (other_some _ _ (sym c.at_character.ensures ∙ c.if-at_character.false) (other_some _ _ (sym c.at_name.ensures ∙ c.if-at_name.false) (other_some _ _ (sym c.at_word.ensures ∙ c.if-at_word.false) (c.value_in_brackets.ensures)))))
+primary-returns t c = same_some _ (primary_as _) (other_some _ _ (sym c.at_number.ensures ∙ c.if-at_number.false) (other_some _ _ (sym c.at_character.ensures ∙ c.if-at_character.false) (other_some _ _ (sym c.at_name.ensures ∙ c.if-at_name.false) (other_some _ _ (sym c.at_word.ensures ∙ c.if-at_word.false) c.value_in_brackets-2.ensures))))
 
 pub product-returns-in_err-first : goal.product-returns-in_err-first
 product-returns-in_err-first t c = same_some _ (product_as _) (stops_some _ c.from_residual.result c.from_residual.ensures.1 (only c.in_err-first.ensures))
@@ -153,17 +135,29 @@ some_arguments-returns-in_err-first t c = stops_some _ c.from_residual.result c.
 pub some_arguments-returns-in_err-arguments : goal.some_arguments-returns-in_err-arguments
 some_arguments-returns-in_err-arguments t c = follows_some _ c.in_ok-first.ensures (stops _ c.from_residual-in_err-arguments.result c.from_residual-in_err-arguments.ensures.1 c.in_err-arguments.ensures)
 
+pub some_arguments-returns-in_err-expect : goal.some_arguments-returns-in_err-expect
+some_arguments-returns-in_err-expect t c = follows_some _ c.in_ok-first.ensures (follows _ c.in_ok-arguments.ensures (stops _ c.from_residual-in_err-expect.result c.from_residual-in_err-expect.ensures.1 (only c.in_err-expect.ensures)))
+
 pub some_arguments-returns : goal.some_arguments-returns
-some_arguments-returns t c = follows_some _ c.in_ok-first.ensures (follows _ c.in_ok-arguments.ensures (only c.expressions_to.ensures))
+some_arguments-returns t c = follows_some _ c.in_ok-first.ensures (follows _ c.in_ok-arguments.ensures (follows _ (only c.in_ok-expect.ensures) (made _ (refl))))
+
+pub unary-returns-in_err-name : goal.unary-returns-in_err-name
+unary-returns-in_err-name t c = same_some _ (unary_as _) (there _ _ (sym c.at_name.ensures ∙ c.if-at_name.true) (stops_some _ c.from_residual.result c.from_residual.ensures.1 (only c.in_err-name.ensures)))
 
 pub unary-returns-then-at_name : goal.unary-returns-then-at_name
-unary-returns-then-at_name t c = same_some _ (unary_as _) (there _ _ (sym c.at_name.ensures ∙ c.if-at_name.true) c.named_unary.ensures)
+unary-returns-then-at_name t c = same_some _ (unary_as _) (there _ _ (sym c.at_name.ensures ∙ c.if-at_name.true) (follows_some _ c.in_ok-name.ensures (ended c.entry_after.ensures)))
+
+pub unary-returns-in_err-operand : goal.unary-returns-in_err-operand
+unary-returns-in_err-operand t c = same_some _ (unary_as _) (other_some _ _ (sym c.at_name.ensures ∙ c.if-at_name.false) (passed _ _ (sym c.at.ensures ∙ c.if-at.true) c.pass.ensures (stops _ c.from_residual-in_err-operand.result c.from_residual-in_err-operand.ensures.1 (only c.in_err-operand.ensures))))
+
+pub unary-returns-in_err-new : goal.unary-returns-in_err-new
+unary-returns-in_err-new t c = same_some _ (unary_as _) (other_some _ _ (sym c.at_name.ensures ∙ c.if-at_name.false) (passed _ _ (sym c.at.ensures ∙ c.if-at.true) c.pass.ensures (follows _ (only c.in_ok-operand.ensures) (memory _ _ _ c.from_residual-in_err-new.result c.from_residual-in_err-new.ensures.1 (omega arith)))))
 
 pub unary-returns-then-at : goal.unary-returns-then-at
-unary-returns-then-at t c = same_some _ (unary_as _) (other_some _ _ (sym c.at_name.ensures ∙ c.if-at_name.false) (passed _ _ (sym c.at.ensures ∙ c.if-at.true) c.pass.ensures (only c.negation.ensures)))
+unary-returns-then-at t c = same_some _ (unary_as _) (other_some _ _ (sym c.at_name.ensures ∙ c.if-at_name.false) (passed _ _ (sym c.at.ensures ∙ c.if-at.true) c.pass.ensures (follows _ (only c.in_ok-operand.ensures) (made _ (grind (arith, expression_of_neg))))))
 
 pub unary-returns : goal.unary-returns
-unary-returns t c = same_some _ (unary_as _) (other_some _ _ (sym c.at_name.ensures ∙ c.if-at_name.false) (other_some _ _ (sym c.at.ensures ∙ c.if-at.false) (c.primary.ensures)))
+unary-returns t c = same_some _ (unary_as _) (other_some _ _ (sym c.at_name.ensures ∙ c.if-at_name.false) (other_some _ _ (sym c.at.ensures ∙ c.if-at.false) c.primary-2.ensures))
 
 pub value_in_brackets-returns-in_err-expect : goal.value_in_brackets-returns-in_err-expect
 unfolding value_in_brackets

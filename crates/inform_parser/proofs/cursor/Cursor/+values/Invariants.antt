@@ -6,9 +6,6 @@ use Rattle.inform_parser.specs.Reading.{read}
 use Rattle.inform_parser.specs.Views.{factor_of, term_of}
 use Rattle.inform_parser.proofs.cursor.Cursor.«+values».Given as goal
 
-abbrev pub decreases-random : goal.decreases-random
-decreases-random l = 8 * length l.self.now.rest + 1
-
 abbrev pub decreases-argument : goal.decreases-argument
 decreases-argument l = 8 * length l.self.now.rest + 1
 
@@ -18,17 +15,8 @@ decreases-factor l = 8 * length l.self.now.rest + 1
 abbrev pub decreases-term : goal.decreases-term
 decreases-term l = 8 * length l.self.now.rest + 1
 
-abbrev pub decreases-named_primary : goal.decreases-named_primary
-decreases-named_primary l = 8 * length l.self.now.rest + 1
-
 abbrev pub decreases-value_in_brackets : goal.decreases-value_in_brackets
 decreases-value_in_brackets l = 8 * length l.self.now.rest
-
-abbrev pub decreases-named_unary : goal.decreases-named_unary
-decreases-named_unary l = 8 * length l.self.now.rest + 1
-
-abbrev pub decreases-negation : goal.decreases-negation
-decreases-negation l = 8 * length l.self.now.rest + 3
 
 abbrev pub decreases-some_arguments : goal.decreases-some_arguments
 decreases-some_arguments l = 8 * length l.self.now.rest + 6

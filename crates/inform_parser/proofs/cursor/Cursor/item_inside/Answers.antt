@@ -1,10 +1,25 @@
-use Rattle.std.proofs.Common.{◌∙◌, sym}
+use Rattle.std.proofs.Common.{◌∙◌, sym, refl}
 use Rattle.inform_parser.proofs.StatementSteps.{item_inside_as}
-use Rattle.inform_parser.proofs.InTurn.{only, same_some, passed, other_some}
+use Rattle.inform_parser.proofs.InTurn.{only, made, same_some, stops, stops_some, follows, follows_some, passed, other_some}
 use Rattle.inform_parser.proofs.cursor.Cursor.item_inside.Goals as goal
 
+pub returns-in_err-expect : goal.returns-in_err-expect
+returns-in_err-expect c = same_some _ (item_inside_as _) (passed _ _ (sym c.at_word.ensures ∙ c.if-at_word.true) c.pass_word.ensures (stops _ c.from_residual.result c.from_residual.ensures.1 (only c.in_err-expect.ensures)))
+
+pub returns-in_err-value : goal.returns-in_err-value
+returns-in_err-value c = same_some _ (item_inside_as _) (passed _ _ (sym c.at_word.ensures ∙ c.if-at_word.true) c.pass_word.ensures (follows _ (only c.in_ok-expect.ensures) (stops _ c.from_residual-in_err-value.result c.from_residual-in_err-value.ensures.1 (only c.in_err-value.ensures))))
+
 pub returns-then-at_word : goal.returns-then-at_word
-returns-then-at_word c = same_some _ (item_inside_as _) (passed _ _ (sym c.at_word.ensures ∙ c.if-at_word.true) c.pass_word.ensures (only c.char_after.ensures))
+returns-then-at_word c = same_some _ (item_inside_as _) (passed _ _ (sym c.at_word.ensures ∙ c.if-at_word.true) c.pass_word.ensures (follows _ (only c.in_ok-expect.ensures) (follows _ (only c.in_ok-value.ensures) (made _ refl))))
+
+pub returns-in_err-first : goal.returns-in_err-first
+returns-in_err-first c = same_some _ (item_inside_as _) (other_some _ _ (sym c.at_word.ensures ∙ c.if-at_word.false) (stops_some _ c.from_residual-in_err-first.result c.from_residual-in_err-first.ensures.1 (only c.in_err-first.ensures)))
+
+pub returns-in_err-expect-2 : goal.returns-in_err-expect-2
+returns-in_err-expect-2 c = same_some _ (item_inside_as _) (other_some _ _ (sym c.at_word.ensures ∙ c.if-at_word.false) (follows_some _ c.in_ok-first.ensures (stops _ c.from_residual-in_err-expect-2.result c.from_residual-in_err-expect-2.ensures.1 (only c.in_err-expect-2.ensures))))
+
+pub returns-in_err-value-2 : goal.returns-in_err-value-2
+returns-in_err-value-2 c = same_some _ (item_inside_as _) (other_some _ _ (sym c.at_word.ensures ∙ c.if-at_word.false) (follows_some _ c.in_ok-first.ensures (follows _ (only c.in_ok-expect-2.ensures) (stops _ c.from_residual-in_err-value-2.result c.from_residual-in_err-value-2.ensures.1 c.in_err-value-2.ensures))))
 
 pub returns : goal.returns
-returns c = same_some _ (item_inside_as _) (other_some _ _ (sym c.at_word.ensures ∙ c.if-at_word.false) (c.value_inside.ensures))
+returns c = same_some _ (item_inside_as _) (other_some _ _ (sym c.at_word.ensures ∙ c.if-at_word.false) (follows_some _ c.in_ok-first.ensures (follows _ (only c.in_ok-expect-2.ensures) (follows _ c.in_ok-value-2.ensures (made _ refl)))))

@@ -1,21 +1,10 @@
-use Rattle.std.proofs.Common.{◌∙◌, sym, refl}
-use Rattle.std.proofs.lemmas.Result.{err_from_is_err_and}
+use Rattle.std.proofs.Common.{refl}
 use Rattle.inform_lexemes.specs.Lexemes.{Number, is_number}
-use Rattle.inform_parser.proofs.Taking.{first_taken, first_stops}
+use Rattle.inform_parser.proofs.Passing.{stands_there, stands_read}
 use Rattle.inform_parser.proofs.cursor.Cursor.number.Goals as goal
 
-pub returns-in_err-advance : goal.returns-in_err-advance
-returns-in_err-advance c =
-    let p = err_from_is_err_and c.from_residual.result c.from_residual.ensures.1 in
-    rw (p.1, p.2) (record {
-      gives = first_stops c.args.self.now is_number (Number c.in-Some.number) c.in-Some.ensures refl c.advance.new.self c.in_err-advance.field-0.0 c.in_err-advance.ensures.gives;
-      ahead = c.advance.ensures.ahead;
-      taken = tt;
-    })
+pub skip-requires : goal.skip-requires
+skip-requires c = stands_there Number c.args.self.now c.args.self.now c.in-Some.number c.in-Some.ensures
 
 pub returns : goal.returns
-returns c = record {
-  gives = first_taken c.args.self.now is_number (Number c.in-Some.number) c.in-Some.ensures refl c.advance.new.self c.in_ok-advance.ensures.gives;
-  ahead = c.advance.ensures.ahead;
-  taken = c.in_ok-advance.ensures.taken;
-}
+returns c = stands_read Number c.args.self.now c.skip.new.self c.in-Some.number c.in-Some.ensures is_number refl refl refl c.skip.ensures

@@ -1,20 +1,10 @@
-use Rattle.std.proofs.Common.{◌∙◌, sym}
-use Rattle.std.proofs.lemmas.Result.{err_from_is_err_and}
-use Rattle.inform_parser.proofs.SeenKinds.{relation_taken, relation_stops}
+use Rattle.inform_parser.specs.Nexts.{relation_lexeme}
+use Rattle.inform_parser.proofs.Passing.{stands_there}
+use Rattle.inform_parser.proofs.SeenKinds.{relation_read}
 use Rattle.inform_parser.proofs.cursor.Cursor.relation.Goals as goal
 
-pub returns-in_err-advance : goal.returns-in_err-advance
-returns-in_err-advance c =
-    let p = err_from_is_err_and c.from_residual.result c.from_residual.ensures.1 in
-    rw (p.1, p.2) (record {
-      gives = relation_stops c.args.self.now c.in-Some.relation c.in-Some.ensures c.advance.new.self c.in_err-advance.field-0.0 c.in_err-advance.ensures.gives;
-      ahead = c.advance.ensures.ahead;
-      taken = tt;
-    })
+pub skip-requires : goal.skip-requires
+skip-requires c = stands_there relation_lexeme c.args.self.now c.args.self.now c.in-Some.relation c.in-Some.ensures
 
 pub returns : goal.returns
-returns c = record {
-  gives = relation_taken c.args.self.now c.in-Some.relation c.in-Some.ensures c.advance.new.self c.in_ok-advance.ensures.gives;
-  ahead = c.advance.ensures.ahead;
-  taken = c.in_ok-advance.ensures.taken;
-}
+returns c = relation_read c.args.self.now c.skip.new.self c.in-Some.relation c.in-Some.ensures c.skip.ensures
