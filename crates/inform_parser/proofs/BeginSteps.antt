@@ -1,5 +1,5 @@
 -- With what the rules begin.
-use Rattle.std.proofs.Common.{◌≡◌, ℕ, Bool, false, ◌||◌, List, [], ◌∷◌, Some, None, refl, ap, ◌∙◌}
+use Rattle.std.proofs.Common.{◌≡◌, false, ◌||◌, List, [], ◌∷◌, Some, None, refl, ap, ◌∙◌}
 use Rattle.inform_lexemes.specs.declared.symbols.Symbol.TheVariants.{Semicolon, Colon, Comma, LeftRound, LeftSquare, Minus}
 use Rattle.inform_lexemes.specs.declared.keywords.Keyword.TheVariants as w
 use Rattle.inform_lexemes.specs.Lexemes.{Lexeme, Word, Sign, is_sign, is_word, is_name, is_number, is_character}

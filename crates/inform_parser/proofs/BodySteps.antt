@@ -1,5 +1,5 @@
 -- The rules of statements with bodies, by what stands next.
-use Rattle.std.proofs.Common.{◌≡◌, ℕ, Bool, true, false, ◌||◌, List, [], ◌∷◌, ◌++◌, Option, Some, None, Ok, refl, ◌∙◌}
+use Rattle.std.proofs.Common.{◌≡◌, ℕ, true, false, ◌||◌, List, [], ◌∷◌, ◌++◌, Option, Some, None, Ok, refl, ◌∙◌}
 use Rattle.inform_tree.specs.Values.{Expression}
 use Rattle.inform_tree.specs.declared.values.Const.TheVariants as k
 use Rattle.inform_tree.specs.Statements as s
@@ -47,8 +47,6 @@ part_after_head name s e = look-yes within_limit s.rest continues_choice e (head
 pub part_after_said : (name : List ℕ) (s : Input) → heads continues_choice s.rest ≡ false → read (part_after name) s ≡ read (statement_after name >>= λ x. done (Said x)) s
 unfolding read part_after
 part_after_said name s e = look-no within_limit s.rest continues_choice e (head_after (k.Name name)) (statement_after name >>= λ x. done (Said x)) s.opened
-
-pub ruleset parts_after = (part_after_head, part_after_said)
 
 -- ---- statements
 
@@ -211,8 +209,6 @@ part_bare s e = part_bare_by s.rest s.opened e
 
 pub part_said : (s : Input) → heads is_name s.rest ≡ false → heads begins_bare s.rest ≡ false → read (one r.Part done) s ≡ read (one r.Statement (λ x. done (Said x))) s
 part_said s e f = part_said_by s.rest s.opened e f
-
-pub ruleset part_steps = (part_name, part_bare, part_said)
 
 part_starts : (xs : List Lexeme) → (heads begins_bare xs || heads begins_statement xs) ≡ heads (starts r.Part) xs
 unfolding rule part part_of constant statement

@@ -10,7 +10,6 @@ use Rattle.inform_grammar.specs.Rules.{SwitchPart, Head, Said}
 use Rattle.inform_grammar.specs.Trees.{cases_tree}
 use Rattle.inform_grammar.specs.StatementRules.{split_parts, cases_of}
 use Rattle.inform_parser.specs.declared.parts.Part.{Part}
-use Rattle.inform_parser.specs.declared.parts.Part.TheVariants as part
 use Rattle.inform_parser.specs.Parts.{part_of}
 use Rattle.inform_parser.proofs.Loops.{map_push}
 

@@ -23,8 +23,6 @@ pub range_as : (x : Const) (s : Input) → read (range_after x) s ≡ read (rang
 unfolding range_after
 range_as x s = refl
 
-pub ruleset ranges = (range_as)
-
 pub choice_as : (s : Input) → read (one r.Choice done) s ≡ read (one r.Constant (λ x. range_after x >>= done)) s
 unfolding read rule choice
 choice_as s = one-as within_limit s.rest r.Choice r.Constant range_after done s.opened (λ t. refl)

@@ -1,5 +1,5 @@
 -- The rules of conditions, by what stands next.
-use Rattle.std.proofs.Common.{◌≡◌, ℕ, true, false, List, [], ◌∷◌, ◌++◌, map, Ok, Err, refl, ◌∙◌}
+use Rattle.std.proofs.Common.{◌≡◌, ℕ, true, false, List, [], ◌∷◌, ◌++◌, map, Ok, Err, refl}
 use Rattle.inform_tree.specs.Values.{Expression}
 use Rattle.inform_tree.specs.Conditions as c
 use Rattle.inform_tree.specs.Conditions.{Condition, condition_of}
@@ -55,8 +55,6 @@ compared x s e = compared_by x s.rest s.opened e
 
 pub plain : (x : Expression) (s : Input) → heads is_relation s.rest ≡ false → read (relation_after x) s ≡ Ok (Plain x, s)
 plain x s e = plain_by x s.rest s.opened e
-
-pub ruleset relations = (compared, plain)
 
 abbrev pub test_plan : Plan Guard
 test_plan =
@@ -184,5 +182,3 @@ connective_all j s e = rw e refl
 pub connective_any : (j : Joint) (s : Input) → j ≡ joint.Any → read (connective_next (join_of j)) s ≡ read (take (is_sign Or) (done tt)) s
 unfolding connective_next
 connective_any j s e = rw e refl
-
-pub ruleset connectives = (connective_all, connective_any)

@@ -1,5 +1,5 @@
 -- What is read by one call after another.
-use Rattle.std.proofs.Common.{◌≡◌, ◌≤◌, ◌<◌, Bool, true, false, length, Ok, Err, refl, sym, ap, subst, ◌∙◌, arith}
+use Rattle.std.proofs.Common.{◌≡◌, ◌≤◌, Bool, true, false, length, Ok, Err, sym, ap, subst, ◌∙◌, arith}
 use Rattle.std.specs.Prelude.{Result, OnOk}
 use Rattle.std.specs.Result.{IsErrAnd}
 use Rattle.std.proofs.lemmas.Result.{on_ok_weaker}
@@ -70,18 +70,10 @@ module _ {U W : Type 0} {out : U → W} where
   pub told : {test : Lexeme → Bool} {s after : Input} {r : Result U Stop} {x y : W} → x ≡ y → Reads out (take test (done x)) s r after → Reads out (take test (done y)) s r after
   told {test = test} {s = s} {x = x} {y = y} e h = same (take test (done y)) (ap (λ (x : W). read (take test (done x)) s) (sym e)) h
 
-  pub told_some : {test : Lexeme → Bool} {s after : Input} {r : Result U Stop} {x y : W} → x ≡ y → ReadsSome out (take test (done x)) s r after
-      → ReadsSome out (take test (done y)) s r after
-  told_some {test = test} {s = s} {x = x} {y = y} e h = same_some (take test (done y)) (ap (λ (x : W). read (take test (done x)) s) (sym e)) h
-
   -- memory runs out
   pub memory : (p : Plan W) (s after : Input) (r : Result U Stop) → IsErrAnd r (λ e. e ≡ stop.Memory) → length after.rest ≤ length s.rest → Reads out p s r after
   memory p s after (Ok x) e h = absurd e
   memory p s after (Err x) e h = record { gives = subst (λ (x : Stop). StopsAt after x (read p s)) (sym e) tt; ahead = h }
-
-  pub memory_some : (p : Plan W) (s after : Input) (r : Result U Stop) → IsErrAnd r (λ e. e ≡ stop.Memory) → length after.rest ≤ length s.rest → ReadsSome out p s r after
-  memory_some p s after (Ok x) e h = absurd e
-  memory_some p s after (Err x) e h = record { gives = subst (λ (x : Stop). StopsAt after x (read p s)) (sym e) tt; ahead = h; taken = tt }
 
   module _ {T V : Type 0} {view : T → V} (f : V → Plan W) {p : Plan V} {s mid : Input} where
     -- a fault of what is read first

@@ -5,7 +5,6 @@ use Rattle.inform_lexemes.specs.declared.keywords.Keyword.{Keyword}
 use Rattle.inform_lexemes.specs.Lexemes.{Lexeme, Word, Number, Character, Sign, is_sign, is_word, is_number, is_character}
 use Rattle.inform_lexemes.proofs.Told.{symbols_told, keywords_told}
 use Rattle.inform_grammar.specs.Lexemes.{heads, is_opener, is_closer}
-use Rattle.inform_grammar.specs.Plan.{done}
 use Rattle.inform_grammar.specs.Reading.{Input, input, step, reads, within_limit}
 use Rattle.inform_grammar.proofs.Steps.{done-here}
 use Rattle.inform_lexer.specs.declared.glances.Glance.TheVariants as g

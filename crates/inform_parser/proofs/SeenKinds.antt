@@ -1,5 +1,5 @@
 -- What is seen to be of a kind.
-use Rattle.std.proofs.Common.{◌≡◌, ℕ, Bool, true, false, List, [], ◌∷◌, drop, Some, Ok, Err, refl, sym, ap, subst, ◌∙◌, ◌||◌}
+use Rattle.std.proofs.Common.{◌≡◌, ℕ, true, false, List, [], ◌∷◌, drop, Some, Ok, Err, refl, ap, ◌∙◌, ◌||◌}
 use Rattle.inform_tree.specs.declared.conditions.Relation.{Relation}
 use Rattle.inform_tree.specs.declared.conditions.Relation.TheVariants.{Eq}
 use Rattle.inform_lexemes.specs.declared.symbols.Symbol.TheVariants.{ByteArrow, WordArrow, Plus, Minus, Times, Divide, Remainder}

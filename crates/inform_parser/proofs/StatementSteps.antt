@@ -83,8 +83,6 @@ some_change_by _ n e = absurd (cc)
 pub some_change : (s : Input) → heads is_name s.rest ≡ true → read change_if_any s ≡ read (one r.Change (λ x. done (Some x))) s
 some_change s e = some_change_by s.rest s.opened e
 
-pub ruleset change_if = (no_change, some_change)
-
 -- ---- `print`
 
 abbrev pub item_inside_plan : Plan PrintItem

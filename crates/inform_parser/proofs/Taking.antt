@@ -4,7 +4,6 @@ use Rattle.inform_lexemes.specs.declared.symbols.Symbol.{Symbol}
 use Rattle.inform_lexemes.specs.declared.keywords.Keyword.{Keyword}
 use Rattle.inform_lexemes.specs.Lexemes.{Lexeme, Word, Sign, is_sign, is_word}
 use Rattle.inform_lexemes.proofs.Told.{symbols_told, keywords_told}
-use Rattle.inform_lexer.specs.declared.glances.Glance.TheVariants as g
 use Rattle.inform_grammar.specs.Faults.{Unexpected, fault}
 use Rattle.inform_grammar.specs.Lexemes.{heads, any_lexeme, one_less}
 use Rattle.inform_grammar.specs.Plan.{Plan, done, refuse, next, take}

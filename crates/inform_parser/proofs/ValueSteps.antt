@@ -8,7 +8,7 @@ use Rattle.inform_tree.specs.Values.{Expression, expression_of}
 use Rattle.inform_tree.specs.declared.values.Const.{Const}
 use Rattle.inform_tree.specs.declared.values.Const.TheVariants as k
 use Rattle.inform_lexemes.specs.declared.symbols.Symbol.TheVariants.{Comma, LeftRound, RightRound, Plus, Minus, Times, ByteArrow, WordArrow}
-use Rattle.inform_lexemes.specs.Lexemes.{Lexeme, Word, Name, Number, Sign, is_sign, is_name, is_word, is_number, is_character}
+use Rattle.inform_lexemes.specs.Lexemes.{Lexeme, Word, Sign, is_sign, is_name, is_word, is_number, is_character}
 use Rattle.inform_lexemes.specs.declared.keywords.Keyword.TheVariants as w
 use Rattle.inform_grammar.specs.Rules as r
 use Rattle.inform_grammar.specs.Lexemes.{heads, name_in, is_arrow, is_factor_sign, is_term_sign}

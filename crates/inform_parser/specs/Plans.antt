@@ -11,16 +11,16 @@ use Rattle.inform_tree.specs.Values.{Expression}
 use Rattle.inform_lexemes.specs.declared.symbols.Symbol.TheVariants.{Semicolon, Colon, LeftRound, RightRound, LeftBrace, RightBrace, Assign, Minus}
 use Rattle.inform_lexemes.specs.declared.keywords.Keyword.{Keyword}
 use Rattle.inform_lexemes.specs.declared.keywords.Keyword.TheVariants as w
-use Rattle.inform_lexemes.specs.Lexemes.{Lexeme, is_sign, is_word, is_name, is_quoted}
+use Rattle.inform_lexemes.specs.Lexemes.{Lexeme, is_sign, is_word, is_name}
 use Rattle.inform_grammar.specs.Rules as r
 use Rattle.inform_grammar.specs.Lexemes.{heads, name_in, connective, other_connective}
 use Rattle.inform_grammar.specs.Trees.{Guard, Tested, Join, condition}
-use Rattle.inform_grammar.specs.ValueRules.{minus_number, arguments, name_after, entry_after}
+use Rattle.inform_grammar.specs.ValueRules.{minus_number}
 use Rattle.inform_grammar.specs.ConditionRules.{value_after, relation_after, bracket_after}
 use Rattle.inform_grammar.specs.Rules.{SwitchPart}
-use Rattle.inform_grammar.specs.StatementRules.{change_after, if_after, while_after, do_after, for_after, statement_after, choices_after, head_after, part_after, statements_to_brace, in_brackets, return_after, print_after, read_after}
+use Rattle.inform_grammar.specs.StatementRules.{if_after, while_after, do_after, for_after, statement_after, choices_after, head_after, part_after, statements_to_brace, in_brackets, return_after, print_after, read_after}
 use Rattle.inform_grammar.specs.Plan.{Plan, done, refuse, next, maybe, chain, many, ◌>>=◌, take, one, optional}
-use Rattle.inform_parser.specs.Nexts.{arrow_next, text_in}
+use Rattle.inform_parser.specs.Nexts.{arrow_next}
 
 -- ---- constants
 
@@ -44,18 +44,6 @@ some_arguments =
 unfoldable pub value_in_brackets : Plan Expression
 value_in_brackets =
     take (is_sign LeftRound) (one r.Value (λ x. take (is_sign RightRound) (done x)))
-
--- a draw, with its word
-abbrev pub random_plan : Plan Expression
-random_plan = take (is_word w.Random) (value_in_brackets >>= λ x. done (v.Random x))
-
--- a name, and what follows it
-abbrev pub named_primary : Plan Expression
-named_primary = next is_name (λ x. name_after (name_in x) >>= done) refuse
-
--- the same where an entry of an array may stand
-abbrev pub named_unary : Plan Expression
-named_unary = next is_name (λ x. entry_after (name_in x) >>= done) refuse
 
 -- what follows a minus sign
 abbrev pub negation : Plan Expression
@@ -113,15 +101,6 @@ entry_change name =
     arrow_next >>= λ words. one r.Primary
     (λ i. take (is_sign Assign) (one r.Value (λ x. done (s.SetEntry name words i x))))
 
--- what follows the name in a call, and in a change, with its semicolon
-abbrev pub call_after : List ℕ → Plan Statement
-call_after name =
-    take (is_sign LeftRound)
-    (arguments >>= λ xs. take (is_sign Semicolon) (done (s.Call name (v.arguments xs))))
-
-abbrev pub changed_after : List ℕ → Plan Statement
-changed_after name = change_after name >>= λ x. take (is_sign Semicolon) (done (s.Assign x))
-
 -- what follows `char` in an item
 abbrev pub char_after : Plan PrintItem
 char_after = take (is_sign RightRound) (one r.Value (λ x. done (s.Char x)))
@@ -137,13 +116,7 @@ item_inside =
     maybe r.Value (λ x. take (is_sign RightRound) (value_after x >>= λ y. done (s.Value y)))
     (take (is_word w.Char) (take (is_sign RightRound) (one r.Value (λ x. done (s.Char x)))))
 
--- a string, an item that begins with a bracket, and a value
-abbrev pub text_item : Plan PrintItem
-text_item = next is_quoted (λ x. done (s.Text (text_in x))) refuse
-
-abbrev pub bracketed_item : Plan PrintItem
-bracketed_item = take (is_sign LeftRound) (item_inside >>= done)
-
+-- a value
 abbrev pub value_item : Plan PrintItem
 value_item = one r.Value (λ x. done (s.Value x))
 

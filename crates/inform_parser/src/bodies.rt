@@ -5,7 +5,7 @@ ghost use Rattle.inform_tree.specs.Conditions.{condition_of};
 ghost use Rattle.inform_tree.specs.Statements.{statement_of, assignment_if_any, cases_of};
 ghost use Rattle.inform_grammar.specs.Rules as r;
 ghost use Rattle.inform_grammar.specs.Trees.{condition};
-ghost use Rattle.inform_grammar.specs.StatementRules.{else_after, for_body, for_last, for_test, switch, cases_after};
+ghost use Rattle.inform_grammar.specs.StatementRules.{else_after, for_body, switch, cases_after};
 ghost use Rattle.inform_grammar.specs.Plan.{done, one, many};
 ghost use Rattle.inform_parser.specs.Reading.{Reads, ReadsSome};
 ghost use Rattle.inform_parser.specs.Guards.{guard_of, guard_if_any};
@@ -38,7 +38,6 @@ fn condition_if_any(guard: Option<Guard>) -> Option<Cond>
 impl<'a> Cursor<'a> {
     // A statement.
     #[cycle(statements)]
-    #[tactic(auto, using(crate::proofs::Steps::steps, crate::proofs::TreesMade::statements, crate::proofs::BodySteps::statement_as))]
     fn statement(&mut self, alloc: Global) -> Result<Stmt, Stop>
         ensures { ReadsSome statement_of (one r.Statement done) self.old result self.new }
     {
@@ -89,7 +88,6 @@ impl<'a> Cursor<'a> {
 
     // Statements between braces.
     #[cycle(statements)]
-    #[tactic(auto, using(crate::proofs::Steps::steps), unfolding(crate::specs::Plans::statements_in_braces))]
     fn statements_in_braces(&mut self, alloc: Global) -> Result<Vec<Stmt>, Stop>
         ensures { ReadsSome statements_in statements_in_braces self.old result self.new }
     {
@@ -101,7 +99,6 @@ impl<'a> Cursor<'a> {
 
     // A block.
     #[cycle(statements)]
-    #[tactic(auto, using(crate::proofs::Steps::steps, crate::proofs::TreesMade::statements, crate::proofs::BodySteps::block_as))]
     #[inline(always)]
     fn block(&mut self, alloc: Global) -> Result<Stmt, Stop>
         ensures { ReadsSome statement_of block self.old result self.new }
@@ -125,7 +122,6 @@ impl<'a> Cursor<'a> {
 
     // A body: statements in braces, or one other statement.
     #[cycle(statements)]
-    #[tactic(auto, using(crate::proofs::Steps::steps, crate::proofs::BodySteps::body_as), unfolding(crate::specs::Plans::statements_in_braces))]
     fn body(&mut self, alloc: Global) -> Result<Vec<Stmt>, Stop>
         ensures { ReadsSome statements_in (one r.Body done) self.old result self.new }
     {
@@ -155,7 +151,6 @@ impl<'a> Cursor<'a> {
 
     // An `if`.
     #[cycle(statements)]
-    #[tactic(auto, using(crate::proofs::Steps::steps, crate::proofs::BodySteps::if_statement_as))]
     #[inline(always)]
     fn if_statement(&mut self, alloc: Global) -> Result<Stmt, Stop>
         ensures { ReadsSome statement_of if_statement self.old result self.new }
@@ -167,7 +162,6 @@ impl<'a> Cursor<'a> {
 
     // A `while`.
     #[cycle(statements)]
-    #[tactic(auto, using(crate::proofs::Steps::steps, crate::proofs::TreesMade::bodies, crate::proofs::BodySteps::while_statement_as))]
     #[inline(always)]
     fn while_statement(&mut self, alloc: Global) -> Result<Stmt, Stop>
         ensures { ReadsSome statement_of while_statement self.old result self.new }
@@ -180,7 +174,6 @@ impl<'a> Cursor<'a> {
 
     // A `do`.
     #[cycle(statements)]
-    #[tactic(auto, using(crate::proofs::Steps::steps, crate::proofs::TreesMade::bodies, crate::proofs::BodySteps::do_statement_as))]
     #[inline(always)]
     fn do_statement(&mut self, alloc: Global) -> Result<Stmt, Stop>
         ensures { ReadsSome statement_of do_statement self.old result self.new }
@@ -220,7 +213,6 @@ impl<'a> Cursor<'a> {
 
     // A `for`.
     #[cycle(statements)]
-    #[tactic(auto, using(crate::proofs::Steps::steps, crate::proofs::BodySteps::for_statement_as))]
     #[inline(always)]
     fn for_statement(&mut self, alloc: Global) -> Result<Stmt, Stop>
         ensures { ReadsSome statement_of for_statement self.old result self.new }
@@ -233,7 +225,6 @@ impl<'a> Cursor<'a> {
 
     // What follows `switch`.
     #[cycle(statements)]
-    #[tactic(auto, using(crate::proofs::Steps::steps, crate::proofs::BodySteps::switch_as))]
     #[inline(always)]
     fn switch_after(&mut self, alloc: Global) -> Result<Stmt, Stop>
         ensures { Reads statement_of switch self.old result self.new }
@@ -260,7 +251,6 @@ impl<'a> Cursor<'a> {
 
     // What ends a `switch`.
     #[cycle(statements)]
-    #[tactic(auto, using(crate::proofs::Steps::steps, crate::proofs::TreesMade::bodies), unfolding(crate::specs::Plans::default_read))]
     #[inline(always)]
     fn default_after(&mut self, alloc: Global, value: Expr, cases: Vec<Case>) -> Result<Stmt, Stop>
         ensures { Reads statement_of (default_read (expression_of value) (cases_of cases.items))
@@ -278,7 +268,6 @@ impl<'a> Cursor<'a> {
 
     // What stands in the braces of a `switch`: the choices of a case, or a statement.
     #[cycle(statements)]
-    #[tactic(auto, using(crate::proofs::Steps::steps, crate::proofs::BodySteps::part_steps))]
     fn part(&mut self, alloc: Global) -> Result<Part, Stop>
         ensures { ReadsSome part_of (one r.Part done) self.old result self.new }
     {

@@ -4,7 +4,7 @@ ghost use Rattle.inform_grammar.specs.Rules as r;
 ghost use Rattle.inform_grammar.specs.StatementRules.{change_after, statement_after};
 ghost use Rattle.inform_grammar.specs.Plan.{done, one};
 ghost use Rattle.inform_parser.specs.Reading.{Reads, ReadsSome};
-ghost use Rattle.inform_parser.specs.Plans.{set_after, entry_change, change_if_any, call_after, changed_after, named_statement};
+ghost use Rattle.inform_parser.specs.Plans.{entry_change, change_if_any, named_statement};
 
 use crate::cursor::Cursor;
 use crate::stops::Stop;
@@ -14,7 +14,6 @@ use std::alloc::Global;
 
 impl<'a> Cursor<'a> {
     // What follows the name of an array that is changed.
-    #[tactic(auto, using(crate::proofs::Steps::steps))]
     fn entry_change(&mut self, alloc: Global, name: Name) -> Result<Change, Stop>
         ensures { ReadsSome assignment_of (entry_change name) self.old result self.new }
     {
@@ -26,7 +25,6 @@ impl<'a> Cursor<'a> {
     }
 
     // What follows a name that is changed.
-    #[tactic(auto, using(crate::proofs::Steps::steps, crate::proofs::StatementSteps::changes))]
     #[inline(always)]
     fn change_after(&mut self, alloc: Global, name: Name) -> Result<Change, Stop>
         ensures { ReadsSome assignment_of (change_after name) self.old result self.new }
@@ -48,7 +46,6 @@ impl<'a> Cursor<'a> {
     }
 
     // A change.
-    #[tactic(auto, using(crate::proofs::Steps::steps, crate::proofs::StatementSteps::change_as))]
     fn change(&mut self, alloc: Global) -> Result<Change, Stop>
         ensures { ReadsSome assignment_of (one r.Change done) self.old result self.new }
     {
@@ -57,7 +54,6 @@ impl<'a> Cursor<'a> {
     }
 
     /// A change, if one stands next.
-    #[tactic(auto, using(crate::proofs::Steps::steps, crate::proofs::StatementSteps::change_if))]
     pub fn change_if_any(&mut self, alloc: Global) -> Result<Option<Change>, Stop>
         ensures { Reads assignment_if_any change_if_any self.old result self.new }
     {
@@ -69,7 +65,6 @@ impl<'a> Cursor<'a> {
     }
 
     /// A call or a change with its semicolon, after its name.
-    #[tactic(auto, using(crate::proofs::Steps::steps), unfolding(inform_grammar::specs::StatementRules::statement_after))]
     #[inline(always)]
     pub fn statement_after(&mut self, alloc: Global, name: Name) -> Result<Stmt, Stop>
         ensures { ReadsSome statement_of (statement_after name) self.old result self.new }
@@ -84,7 +79,6 @@ impl<'a> Cursor<'a> {
     }
 
     /// A statement that begins with a name.
-    #[tactic(auto, using(crate::proofs::Steps::steps))]
     #[inline(always)]
     pub fn named_statement(&mut self, alloc: Global) -> Result<Stmt, Stop>
         ensures { ReadsSome statement_of named_statement self.old result self.new }

@@ -16,7 +16,6 @@ use std::alloc::Global;
 
 impl<'a> Cursor<'a> {
     // What follows a constant that begins a choice: the last one of a range, or nothing.
-    #[tactic(auto, using(crate::proofs::Steps::steps, crate::proofs::ChoiceSteps::ranges))]
     fn range_after(&mut self, alloc: Global, first: Const) -> Result<(Const, Option<Const>), Stop>
         ensures { Reads choice_of (range_after first) self.old result self.new }
     {
@@ -29,7 +28,6 @@ impl<'a> Cursor<'a> {
     }
 
     /// A choice of a case.
-    #[tactic(auto, using(crate::proofs::Steps::steps, crate::proofs::ChoiceSteps::choice_as))]
     pub fn choice(&mut self, alloc: Global) -> Result<(Const, Option<Const>), Stop>
         ensures { ReadsSome choice_of (one r.Choice done) self.old result self.new }
     {
@@ -66,7 +64,6 @@ impl<'a> Cursor<'a> {
     }
 
     /// The choices of a case, of which one is read, and its colon.
-    #[tactic(auto, using(crate::proofs::Steps::steps, crate::proofs::ChoiceSteps::choices_after_as))]
     pub fn choices_after(
         &mut self,
         alloc: Global,
@@ -90,7 +87,6 @@ impl<'a> Cursor<'a> {
     }
 
     /// The head of a case, with its first constant read.
-    #[tactic(auto, using(crate::proofs::Steps::steps, crate::proofs::ChoiceSteps::head_after_as))]
     pub fn head_after(&mut self, alloc: Global, first: Const) -> Result<Part, Stop>
         ensures { ReadsSome part_of (head_after first) self.old result self.new }
     {

@@ -40,7 +40,6 @@ impl<'a> Cursor<'a> {
     }
 
     // Takes the symbol of such a chain, which must stand next.
-    #[tactic(auto, using(crate::proofs::Steps::steps, crate::proofs::ConditionSteps::connectives))]
     fn take_connective(&mut self, join: Join) -> Result<(), Stop>
         ensures { ReadsSome (λ x. x) (connective_next (join_of join)) self.old result self.new }
     {
@@ -51,7 +50,6 @@ impl<'a> Cursor<'a> {
     }
 
     // What follows a value: a symbol that compares it with another one, and that, or nothing.
-    #[tactic(auto, using(crate::proofs::Steps::steps, crate::proofs::TreesMade::conditions, crate::proofs::ConditionSteps::relations))]
     #[inline(always)]
     fn relation_after(&mut self, alloc: Global, first: Expr) -> Result<Guard, Stop>
         ensures { Reads guard_of (relation_after (expression_of first)) self.old result self.new }
@@ -99,7 +97,6 @@ impl<'a> Cursor<'a> {
 
     // A test.
     #[cycle(conditions)]
-    #[tactic(auto, using(crate::proofs::Steps::steps, crate::proofs::ConditionSteps::test_as), unfolding(crate::specs::Plans::guard_in_brackets))]
     fn test(&mut self, alloc: Global) -> Result<Guard, Stop>
         ensures { ReadsSome guard_of (one r.Test done) self.old result self.new }
     {
@@ -126,7 +123,6 @@ impl<'a> Cursor<'a> {
 
     // A test that begins with a bracket.
     #[cycle(conditions)]
-    #[tactic(auto, using(crate::proofs::Steps::steps))]
     fn bracketed_test(&mut self, alloc: Global) -> Result<Guard, Stop>
         ensures { ReadsSome guard_of bracketed_test self.old result self.new }
     {
@@ -136,7 +132,6 @@ impl<'a> Cursor<'a> {
 
     /// A condition between brackets.
     #[cycle(conditions)]
-    #[tactic(auto, using(crate::proofs::Steps::steps), unfolding(crate::specs::Plans::guard_in_brackets))]
     pub fn guard_in_brackets(&mut self, alloc: Global) -> Result<Guard, Stop>
         ensures { ReadsSome guard_of guard_in_brackets self.old result self.new }
     {
@@ -147,7 +142,6 @@ impl<'a> Cursor<'a> {
 
     // A further member of a chain, after its symbol.
     #[cycle(conditions)]
-    #[tactic(auto, using(crate::proofs::Steps::steps, crate::proofs::ConditionSteps::member_as))]
     fn member(&mut self, alloc: Global, join: Join) -> Result<Cond, Stop>
         ensures { ReadsSome condition_of (one (r.Member (join_of join)) done)
             self.old result self.new }
@@ -186,7 +180,6 @@ impl<'a> Cursor<'a> {
 
     // A chain of which two members are read.
     #[cycle(conditions)]
-    #[tactic(auto, using(crate::proofs::Steps::steps, crate::proofs::ConditionSteps::members_after_as))]
     fn members_after(
         &mut self,
         alloc: Global,
@@ -221,7 +214,6 @@ impl<'a> Cursor<'a> {
 
     /// What stands where a condition is expected.
     #[cycle(conditions)]
-    #[tactic(auto, using(crate::proofs::Steps::steps, crate::proofs::ConditionSteps::condition_as))]
     pub fn guard(&mut self, alloc: Global) -> Result<Guard, Stop>
         ensures { ReadsSome guard_of (one r.Condition done) self.old result self.new }
     {

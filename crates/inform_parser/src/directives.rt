@@ -53,7 +53,6 @@ impl<'a> Cursor<'a> {
     }
 
     // What follows `constant`.
-    #[tactic(auto, using(crate::proofs::Steps::steps), unfolding(inform_grammar::specs::Rule::constant_after))]
     fn constant_after(&mut self, alloc: Global) -> Result<Directive, Stop>
         ensures { ReadsSome directive_of constant_after self.old result self.new }
     {
@@ -64,7 +63,6 @@ impl<'a> Cursor<'a> {
     }
 
     // What follows `global`.
-    #[tactic(auto, using(crate::proofs::Steps::steps), unfolding(inform_grammar::specs::Rule::global_after))]
     fn global_after(&mut self, alloc: Global) -> Result<Directive, Stop>
         ensures { ReadsSome directive_of global_after self.old result self.new }
     {
@@ -78,7 +76,6 @@ impl<'a> Cursor<'a> {
     }
 
     // What follows `array`.
-    #[tactic(auto, using(crate::proofs::Steps::steps, crate::proofs::DirectiveSteps::array_after_as))]
     fn array_after(&mut self, alloc: Global) -> Result<Directive, Stop>
         ensures { ReadsSome directive_of array_after self.old result self.new }
     {
@@ -90,7 +87,6 @@ impl<'a> Cursor<'a> {
     }
 
     // What follows the opening bracket of a routine.
-    #[tactic(auto, using(crate::proofs::Steps::steps), unfolding(inform_grammar::specs::Rule::routine_after))]
     fn routine_after(&mut self, alloc: Global) -> Result<Directive, Stop>
         ensures { ReadsSome directive_of routine_after self.old result self.new }
     {
@@ -104,7 +100,6 @@ impl<'a> Cursor<'a> {
     }
 
     // A directive.
-    #[tactic(auto, using(crate::proofs::Steps::steps, crate::proofs::DirectiveSteps::directive_as))]
     fn directive(&mut self, alloc: Global) -> Result<Directive, Stop>
         ensures { ReadsSome directive_of (one r.Directive done) self.old result self.new }
     {

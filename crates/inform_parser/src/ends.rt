@@ -7,7 +7,6 @@ ghost use Rattle.inform_lexemes.specs.Lexemes.{is_sign, is_word};
 ghost use Rattle.inform_grammar.specs.Plan.{done, take};
 ghost use Rattle.inform_parser.specs.Reading.{ReadsSome};
 ghost use Rattle.inform_parser.specs.Guards.{guard_of};
-ghost use Rattle.inform_parser.specs.Views.{expressions_of, statements_in};
 
 use crate::cursor::Cursor;
 use crate::guards::Guard;

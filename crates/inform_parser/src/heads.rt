@@ -17,7 +17,6 @@ use std::alloc::Global;
 
 impl<'a> Cursor<'a> {
     /// This word, and a condition between brackets.
-    #[tactic(auto, using(crate::proofs::Steps::steps), unfolding(crate::specs::Plans::guard_after))]
     #[inline(always)]
     pub fn guard_after(&mut self, alloc: Global, keyword: Keyword) -> Result<Guard, Stop>
         ensures { ReadsSome guard_of (guard_after keyword) self.old result self.new }
@@ -37,7 +36,6 @@ impl<'a> Cursor<'a> {
     }
 
     /// `for`, and the first change in its head, if there is one, between its bracket and its colon.
-    #[tactic(auto, using(crate::proofs::Steps::steps), unfolding(crate::specs::Plans::first_change))]
     #[inline(always)]
     pub fn first_change(&mut self, alloc: Global) -> Result<Option<Change>, Stop>
         ensures { ReadsSome assignment_if_any first_change self.old result self.new }
@@ -50,7 +48,6 @@ impl<'a> Cursor<'a> {
     }
 
     /// The last change, if there is one, and the closing bracket.
-    #[tactic(auto, using(crate::proofs::Steps::steps), unfolding(crate::specs::Plans::last_change))]
     #[inline(always)]
     pub fn last_change(&mut self, alloc: Global) -> Result<Option<Change>, Stop>
         ensures { ReadsSome assignment_if_any last_change self.old result self.new }
@@ -71,7 +68,6 @@ impl<'a> Cursor<'a> {
     }
 
     /// The test in the head of a `for`, if there is one, and its colon.
-    #[tactic(auto, using(crate::proofs::Steps::steps, crate::proofs::BodySteps::test_to_colon_as))]
     pub fn test_to_colon(&mut self, alloc: Global) -> Result<Option<Guard>, Stop>
         ensures { ReadsSome guard_if_any test_to_colon self.old result self.new }
     {
@@ -85,7 +81,6 @@ impl<'a> Cursor<'a> {
     }
 
     /// What follows a name in the braces of a `switch`.
-    #[tactic(auto, using(crate::proofs::Steps::steps, crate::proofs::BodySteps::parts_after))]
     pub fn part_after(&mut self, alloc: Global, name: Name) -> Result<Part, Stop>
         ensures { ReadsSome part_of (part_after name) self.old result self.new }
     {
@@ -97,7 +92,6 @@ impl<'a> Cursor<'a> {
     }
 
     /// What a name begins in the braces of a `switch`.
-    #[tactic(auto, using(crate::proofs::Steps::steps))]
     #[inline(always)]
     pub fn named_part(&mut self, alloc: Global) -> Result<Part, Stop>
         ensures { ReadsSome part_of named_part self.old result self.new }
@@ -107,7 +101,6 @@ impl<'a> Cursor<'a> {
     }
 
     /// What a constant that is no name begins there.
-    #[tactic(auto, using(crate::proofs::Steps::steps))]
     #[inline(always)]
     pub fn bare_part(&mut self, alloc: Global) -> Result<Part, Stop>
         ensures { ReadsSome part_of bare_part self.old result self.new }

@@ -5,7 +5,7 @@ ghost use Rattle.inform_grammar.specs.Rules as r;
 ghost use Rattle.inform_grammar.specs.StatementRules.{print_after};
 ghost use Rattle.inform_grammar.specs.Plan.{done, one, many};
 ghost use Rattle.inform_parser.specs.Reading.{Reads, ReadsSome};
-ghost use Rattle.inform_parser.specs.Plans.{char_after, value_inside, item_inside, text_item, bracketed_item, value_item};
+ghost use Rattle.inform_parser.specs.Plans.{item_inside};
 ghost use Rattle.inform_parser.specs.Views.{items_in};
 
 use crate::cursor::Cursor;
@@ -17,7 +17,6 @@ use std::alloc::Global;
 impl<'a> Cursor<'a> {
     // What follows the opening bracket of an item: `char`, its closing bracket and a value, or a
     // value that goes on.
-    #[tactic(auto, using(crate::proofs::Steps::steps, crate::proofs::StatementSteps::item_inside_as))]
     fn item_inside(&mut self, alloc: Global) -> Result<Item, Stop>
         ensures { ReadsSome print_item_of item_inside self.old result self.new }
     {
@@ -34,7 +33,6 @@ impl<'a> Cursor<'a> {
     }
 
     // An item of `print`.
-    #[tactic(auto, using(crate::proofs::Steps::steps, crate::proofs::StatementSteps::item_as))]
     fn item(&mut self, alloc: Global) -> Result<Item, Stop>
         ensures { ReadsSome print_item_of (one r.Item done) self.old result self.new }
     {
@@ -75,7 +73,6 @@ impl<'a> Cursor<'a> {
     }
 
     /// What follows `print`.
-    #[tactic(auto, using(crate::proofs::Steps::steps, crate::proofs::TreesMade::statements), unfolding(inform_grammar::specs::StatementRules::print_after))]
     #[inline(always)]
     pub fn print_after(&mut self, alloc: Global) -> Result<Stmt, Stop>
         ensures { ReadsSome statement_of print_after self.old result self.new }

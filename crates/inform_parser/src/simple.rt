@@ -12,7 +12,6 @@ use std::alloc::Global;
 
 impl<'a> Cursor<'a> {
     // What follows `return`.
-    #[tactic(auto, using(crate::proofs::Steps::steps, crate::proofs::TreesMade::statements, crate::proofs::StatementSteps::return_after_as))]
     #[inline(always)]
     fn return_after(&mut self, alloc: Global) -> Result<Stmt, Stop>
         ensures { ReadsSome statement_of return_after self.old result self.new }
@@ -26,7 +25,6 @@ impl<'a> Cursor<'a> {
     }
 
     // What follows `read`.
-    #[tactic(auto, using(crate::proofs::Steps::steps, crate::proofs::TreesMade::statements), unfolding(inform_grammar::specs::StatementRules::read_after))]
     #[inline(always)]
     fn read_after(&mut self, alloc: Global) -> Result<Stmt, Stop>
         ensures { ReadsSome statement_of read_after self.old result self.new }
@@ -61,7 +59,6 @@ impl<'a> Cursor<'a> {
     }
 
     /// A statement that has no body and begins with a word.
-    #[tactic(auto, using(crate::proofs::Steps::steps, crate::proofs::StatementSteps::simple_as))]
     #[inline(always)]
     pub fn simple_statement(&mut self, alloc: Global) -> Result<Stmt, Stop>
         ensures { ReadsSome statement_of simple_statement self.old result self.new }

@@ -2,14 +2,13 @@
 ghost use Rattle.std.specs.Prelude.{◌≡◌, [], ◌∷◌, IfOk, IfErr};
 ghost use Rattle.inform_tree.specs.Values.{expression_of};
 ghost use Rattle.inform_lexemes.specs.declared.symbols.Symbol.TheVariants.{Minus};
-ghost use Rattle.inform_lexemes.specs.Lexemes.{is_sign};
 ghost use Rattle.inform_grammar.specs.Rules as r;
 ghost use Rattle.inform_grammar.specs.Trees.{product_of, sum_of};
-ghost use Rattle.inform_grammar.specs.ValueRules.{minus_number, arguments, name_after, entry_after, factors_after, terms_after};
-ghost use Rattle.inform_grammar.specs.Plan.{done, take, one, many};
+ghost use Rattle.inform_grammar.specs.ValueRules.{arguments, name_after, entry_after, factors_after, terms_after};
+ghost use Rattle.inform_grammar.specs.Plan.{done, one, many};
 ghost use Rattle.inform_parser.specs.declared.stops.Stop.TheVariants.{Memory};
 ghost use Rattle.inform_parser.specs.Reading.{Reads, ReadsSome};
-ghost use Rattle.inform_parser.specs.Plans.{named_constant, negative_entry, some_arguments, named_primary, value_in_brackets, random_plan, named_unary, negation};
+ghost use Rattle.inform_parser.specs.Plans.{named_constant, some_arguments, value_in_brackets};
 ghost use Rattle.inform_parser.specs.Views.{same_tree, expressions_of, factor_of, factors_of, term_of, terms_of};
 
 use crate::cursor::Cursor;
@@ -58,7 +57,6 @@ impl<'a> Cursor<'a> {
     }
 
     /// A constant.
-    #[tactic(auto, using(crate::proofs::Steps::steps, crate::proofs::ValueSteps::constant_as))]
     pub fn constant(&mut self, alloc: Global) -> Result<Const, Stop>
         ensures { ReadsSome same_tree (one r.Constant done) self.old result self.new }
     {
@@ -77,7 +75,6 @@ impl<'a> Cursor<'a> {
     }
 
     /// An entry of an array.
-    #[tactic(auto, using(crate::proofs::Steps::steps, crate::proofs::ValueSteps::entry_as))]
     pub fn entry(&mut self, alloc: Global) -> Result<Const, Stop>
         ensures { ReadsSome same_tree (one r.Entry done) self.old result self.new }
     {
@@ -112,7 +109,6 @@ impl<'a> Cursor<'a> {
 
     // Arguments, of which there is one at least, and a closing bracket.
     #[cycle(values)]
-    #[tactic(auto, using(crate::proofs::Steps::steps))]
     fn some_arguments(&mut self, alloc: Global) -> Result<Vec<Expr>, Stop>
         ensures { ReadsSome expressions_of some_arguments self.old result self.new }
     {
@@ -141,7 +137,6 @@ impl<'a> Cursor<'a> {
 
     // A further argument, after its comma.
     #[cycle(values)]
-    #[tactic(auto, using(crate::proofs::Steps::steps, crate::proofs::TreesMade::expressions, crate::proofs::ValueSteps::argument_as))]
     fn argument(&mut self, alloc: Global) -> Result<Expr, Stop>
         ensures { ReadsSome expression_of (one r.Argument done) self.old result self.new }
     {
@@ -151,7 +146,6 @@ impl<'a> Cursor<'a> {
 
     // What follows a name that is no array.
     #[cycle(values)]
-    #[tactic(auto, using(crate::proofs::Steps::steps, crate::proofs::TreesMade::expressions), unfolding(inform_grammar::specs::ValueRules::name_after))]
     #[inline(always)]
     fn name_after(&mut self, alloc: Global, name: Name) -> Result<Expr, Stop>
         ensures { Reads expression_of (name_after name) self.old result self.new }
@@ -181,7 +175,6 @@ impl<'a> Cursor<'a> {
 
     /// An operand without a sign.
     #[cycle(values)]
-    #[tactic(auto, using(crate::proofs::Steps::steps, crate::proofs::TreesMade::expressions, crate::proofs::ValueSteps::primary_as))]
     pub fn primary(&mut self, alloc: Global) -> Result<Expr, Stop>
         ensures { ReadsSome expression_of (one r.Primary done) self.old result self.new }
     {
@@ -205,7 +198,6 @@ impl<'a> Cursor<'a> {
 
     /// A value between brackets.
     #[cycle(values)]
-    #[tactic(auto, using(crate::proofs::Steps::steps), unfolding(crate::specs::Plans::value_in_brackets))]
     pub fn value_in_brackets(&mut self, alloc: Global) -> Result<Expr, Stop>
         ensures { ReadsSome expression_of value_in_brackets self.old result self.new }
     {
@@ -216,7 +208,6 @@ impl<'a> Cursor<'a> {
 
     // An operand.
     #[cycle(values)]
-    #[tactic(auto, using(crate::proofs::Steps::steps, crate::proofs::TreesMade::expressions, crate::proofs::ValueSteps::unary_as))]
     #[inline(always)]
     fn unary(&mut self, alloc: Global) -> Result<Expr, Stop>
         ensures { ReadsSome expression_of (one r.Unary done) self.old result self.new }
@@ -235,7 +226,6 @@ impl<'a> Cursor<'a> {
 
     // A further factor, after its sign.
     #[cycle(values)]
-    #[tactic(auto, using(crate::proofs::Steps::steps, crate::proofs::TreesMade::expressions, crate::proofs::ValueSteps::factor_as))]
     fn factor(&mut self, alloc: Global) -> Result<(ProdOp, Expr), Stop>
         ensures { ReadsSome factor_of (one r.Factor done) self.old result self.new }
     {
@@ -274,7 +264,6 @@ impl<'a> Cursor<'a> {
 
     // A product.
     #[cycle(values)]
-    #[tactic(auto, using(crate::proofs::Steps::steps, crate::proofs::TreesMade::expressions, crate::proofs::ValueSteps::product_as))]
     #[inline(always)]
     fn product(&mut self, alloc: Global) -> Result<Expr, Stop>
         ensures { ReadsSome expression_of (one r.Product done) self.old result self.new }
@@ -285,7 +274,6 @@ impl<'a> Cursor<'a> {
 
     // A further term, after its sign.
     #[cycle(values)]
-    #[tactic(auto, using(crate::proofs::Steps::steps, crate::proofs::TreesMade::expressions, crate::proofs::ValueSteps::term_as))]
     fn term(&mut self, alloc: Global) -> Result<(SumOp, Expr), Stop>
         ensures { ReadsSome term_of (one r.Term done) self.old result self.new }
     {
@@ -323,7 +311,6 @@ impl<'a> Cursor<'a> {
 
     /// A value.
     #[cycle(values)]
-    #[tactic(auto, using(crate::proofs::Steps::steps, crate::proofs::TreesMade::expressions, crate::proofs::ValueSteps::value_as))]
     pub fn value(&mut self, alloc: Global) -> Result<Expr, Stop>
         ensures { ReadsSome expression_of (one r.Value done) self.old result self.new }
     {

@@ -1,4 +1,4 @@
-use Rattle.std.proofs.Common.{◌≡◌, [], length, map, arith}
+use Rattle.std.proofs.Common.{◌≡◌, length, map, arith}
 use Rattle.inform_parser.specs.Parts.{part_of}
 use Rattle.inform_parser.proofs.CaseSteps.{finished, no_more, case_made}
 use Rattle.inform_parser.proofs.parts.cases.Goals as goal

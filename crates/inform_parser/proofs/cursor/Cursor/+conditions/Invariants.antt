@@ -1,4 +1,4 @@
-use Rattle.std.proofs.Common.{◌≡◌, ℕ, ◌+◌, ◌*◌, ◌≤◌, [], ◌∷◌, map, length}
+use Rattle.std.proofs.Common.{◌≡◌, ◌+◌, ◌*◌, ◌≤◌, [], ◌∷◌, map, length}
 use Rattle.inform_tree.specs.Conditions.{condition_of}
 use Rattle.inform_parser.specs.Reading.{read}
 use Rattle.inform_parser.specs.Guards.{join_of}

@@ -1,4 +1,4 @@
-use Rattle.std.proofs.Common.{◌≡◌, ◌∙◌, [], ◌∷◌, ◌++◌, sym, map, arith, refl}
+use Rattle.std.proofs.Common.{◌∙◌, sym, map, arith, refl}
 use Rattle.inform_tree.specs.Statements.{statement_of}
 use Rattle.inform_parser.specs.Parts.{part_of}
 use Rattle.inform_parser.proofs.Loops.{goes_on}
@@ -9,7 +9,6 @@ use Rattle.inform_parser.specs.Plans.{statements_in_braces, default_read}
 use Rattle.inform_parser.proofs.TreesMade.{statement_of_empty, statement_of_block}
 use Rattle.inform_parser.proofs.InTurn.{only, made, same, same_some, known, ended, ended_some, shuts, told, memory, stops, stops_some, follows, follows_some, resumed, passed, there, other, other_some}
 use Rattle.inform_grammar.specs.Rules as r
-use Rattle.inform_tree.specs.Statements as s
 use Rattle.inform_parser.proofs.cursor.Cursor.«+statements».Goals as goal
 
 pub statements-loop-alloc-preserved : goal.statements-loop-alloc-preserved

@@ -1,4 +1,4 @@
-use Rattle.std.proofs.Common.{◌≡◌, ◌≤◌, [], ◌∷◌, map, length}
+use Rattle.std.proofs.Common.{◌≡◌, ◌≤◌, [], map, length}
 use Rattle.inform_tree.specs.Programs.{directive_of}
 use Rattle.inform_grammar.specs.Rules as r
 use Rattle.inform_grammar.specs.Plan.{done, many}

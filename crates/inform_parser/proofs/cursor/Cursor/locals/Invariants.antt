@@ -1,4 +1,4 @@
-use Rattle.std.proofs.Common.{◌≡◌, ◌≤◌, [], ◌∷◌, length}
+use Rattle.std.proofs.Common.{◌≡◌, ◌≤◌, [], length}
 use Rattle.inform_grammar.specs.Rules as r
 use Rattle.inform_grammar.specs.Plan.{done, many}
 use Rattle.inform_parser.specs.Reading.{read}

@@ -1,4 +1,4 @@
-use Rattle.std.proofs.Common.{sym, ◌∙◌, ap}
+use Rattle.std.proofs.Common.{ap}
 use Rattle.inform_parser.specs.Reading.{shut_spot}
 use Rattle.inform_parser.proofs.Taking.{less_by_one}
 use Rattle.inform_parser.proofs.cursor.Cursor.shut.Goals as goal
