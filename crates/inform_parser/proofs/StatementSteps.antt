@@ -55,8 +55,6 @@ set_entry_as name s e = set_entry_by name s.rest s.opened e
 pub by_one_as : (name : List ℕ) (s : Input) → heads (is_sign Assign) s.rest ≡ false → heads is_arrow s.rest ≡ false → read (change_after name) s ≡ read (by_one_plan name) s
 by_one_as name s e f = by_one_by name s.rest s.opened e f
 
-pub ruleset changes = (set_as, set_entry_as, by_one_as)
-
 change_by : (xs : List Lexeme) (n : ℕ) → read (one r.Change done) (input n xs) ≡ read (next is_name (λ x. change_after (name_in x) >>= done) refuse) (input n xs)
 unfolding read reads step rule change
 change_by [] n = refl

@@ -1,7 +1,6 @@
 //! Constants and expressions.
 ghost use Rattle.std.specs.Prelude.{◌≡◌, [], ◌∷◌, IfOk, IfErr};
 ghost use Rattle.inform_tree.specs.Values.{expression_of};
-ghost use Rattle.inform_lexemes.specs.declared.symbols.Symbol.TheVariants.{Minus};
 ghost use Rattle.inform_grammar.specs.Rules as r;
 ghost use Rattle.inform_grammar.specs.Trees.{product_of, sum_of};
 ghost use Rattle.inform_grammar.specs.ValueRules.{arguments, name_after, entry_after, factors_after, terms_after};
