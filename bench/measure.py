@@ -24,13 +24,18 @@ def tool():
 
 def instructions(words, folder, stdin=b"", expected=(0,)):
     """The instructions of one run, in `folder`."""
-    command = ["valgrind", "--tool=callgrind", "--callgrind-out-file=/dev/null", tool()] + words
+    return counted([tool()] + words, folder, stdin, expected)
+
+
+def counted(command, folder, stdin=b"", expected=None):
+    """The instructions of a command, which may end with one of these statuses, or with any."""
+    watched = ["valgrind", "--tool=callgrind", "--callgrind-out-file=/dev/null"] + command
     try:
-        done = subprocess.run(command, cwd=folder, input=stdin, stdout=subprocess.DEVNULL, stderr=subprocess.PIPE)
+        done = subprocess.run(watched, cwd=folder, input=stdin, stdout=subprocess.DEVNULL, stderr=subprocess.PIPE)
     except FileNotFoundError:
         sys.exit("bench: valgrind isn't there")
-    if done.returncode not in expected:
-        sys.exit("bench: %s ended with %d" % (" ".join(words), done.returncode))
+    if expected is not None and done.returncode not in expected:
+        sys.exit("bench: %s ended with %d" % (" ".join(command), done.returncode))
     found = re.search(rb"Collected : (\d+)", done.stderr)
     if not found:
         sys.exit("bench: no count from valgrind:\n" + done.stderr.decode(errors="replace"))

@@ -1,4 +1,2 @@
 pub mod Frames
 pub mod Stacks
-pub mod Needs
-pub mod Nexts

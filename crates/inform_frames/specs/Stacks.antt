@@ -1,17 +1,21 @@
 -- The frames of a stack, as the meaning has them.
-use Rattle.std.specs.Prelude.{◌+◌, ◌≤◌, List, length}
+use Rattle.std.specs.Prelude.{List, ⊤}
 use Rattle.inform_meaning.specs.Frames as f
-use Rattle.inform_frames.specs.Frames.{frames_of, rest_of}
+use Rattle.inform_worlds.specs.Scopes.{scope_of}
+use Rattle.inform_frames.specs.Frames.{frames_of, frame_of, IsPlain}
 use Rattle.inform_frames.specs.declared.stacks.Stack.{Stack}
-use Rattle.inform_frames.specs.declared.stacks.TheConstants.{ROOM}
+use Rattle.inform_frames.specs.declared.stacks.Top.{Top}
+use Rattle.inform_frames.specs.declared.stacks.Top.TheVariants as t
 
 abbrev pub stack_of : Stack → List f.Frame
 stack_of s = frames_of s.frames.items s.callers.items
 
--- there is room for the frames of a move
-abbrev pub HasRoom : Stack → Type 0
-HasRoom s = length (stack_of s) + 3 ≤ ROOM
+-- a frame that was taken off
+abbrev pub top_seen : Top → f.Frame
+top_seen (t.Caller scope) = f.Calling (scope_of scope)
+top_seen (t.Plain frame) = frame_of frame
 
--- there is room for them in the place of the innermost frame
-abbrev pub HasPlace : Stack → Type 0
-HasPlace s = length (rest_of (stack_of s)) + 3 ≤ ROOM
+-- no caller waits in the one that is given as it is
+abbrev pub IsPlainTop : Top → Type 0
+IsPlainTop (t.Caller scope) = ⊤
+IsPlainTop (t.Plain frame) = IsPlain frame

@@ -1,25 +1,28 @@
 //! The stack: what has begun and isn't finished.
-ghost use Rattle.std.specs.Prelude.{◌≡◌, ◌≤◌, ◌∷◌, [], true, length, vec_capacity, IfSome};
-ghost use Rattle.inform_tree.specs.Statements as s;
-ghost use Rattle.inform_tree.specs.Statements.{statement_of, statements_of};
+ghost use Rattle.std.specs.Prelude.{◌≡◌, ◌≤◌, ◌∷◌, [], length, vec_capacity, IfSome};
 ghost use Rattle.inform_meaning.specs.Frames as f;
 ghost use Rattle.inform_moves.specs.Heights.{calls_open};
 ghost use Rattle.inform_worlds.specs.Scopes.{scope_of};
 ghost use Rattle.inform_frames.specs.Frames.{IsPlain, IsCaller, frame_of, frame_in, callers_in, caller_of, top_of, rest_of};
 ghost use Rattle.inform_frames.specs.declared.stacks.TheConstants.{ROOM, CALLS};
 
-use crate::frames::{Begin, Frame};
+use crate::frames::Frame;
 use adv_io::Memory;
-use inform_tree::Stmt;
 use inform_worlds::Scope;
 use std::alloc::Global;
 
 /// How many calls may be open.
 pub const CALLS: usize = 200;
 
-/// How many frames there is room for: 130 of `Main` and of each of 200 calls, and two more, since a
-/// move may put three in the place of one.
-pub const ROOM: usize = 26_132;
+/// How many frames there is room for: 130 of `Main` and of each of 200 calls.
+pub const ROOM: usize = 26_130;
+
+/// A frame that was taken off: a caller's, with its scope, or any other one.
+#[derive(Clone, Copy)]
+pub enum Top<'a> {
+    Caller(Scope<'a>),
+    Plain(Frame<'a>),
+}
 
 /// The frames, and the scopes of the callers that wait in them: both from the outermost one on. It
 /// has all its memory.
@@ -33,20 +36,9 @@ pub struct Stack<'a> {
     pub ghost caller_room: { CALLS ≤ vec_capacity callers },
 }
 
-// The first of these statements, and the others, if there is one.
-fn first_of<'a>(xs: &'a [Stmt]) -> Option<(&'a Stmt, &'a [Stmt])>
-    ensures { IfSome result (λ x. statements_of xs.now
-        ≡ s.MoreStatements (statement_of x.0.now) (statements_of x.1.now)) }
-{
-    match xs {
-        [] => None,
-        [x, others @ ..] => Some((x, others)),
-    }
-}
-
 impl<'a> Stack<'a> {
-    ghost use Rattle.std.specs.Prelude.{◌<◌, IfOk, IfNone};
-    ghost use Rattle.inform_frames.specs.Stacks.{stack_of};
+    ghost use Rattle.std.specs.Prelude.{◌<◌, ◌+◌, ◌++◌, reverse, IfOk, IfNone};
+    ghost use Rattle.inform_frames.specs.Stacks.{stack_of, top_seen, IsPlainTop};
 
     /// No frame, and all the memory that is ever taken.
     pub fn with_room(alloc: Global) -> Result<Stack<'a>, Memory>
@@ -80,41 +72,13 @@ impl<'a> Stack<'a> {
         Some(&self.frames[size - 1])
     }
 
-    /// The scope of the caller that waits in the innermost frame.
+    // The scope of the caller that waits in the innermost frame.
     #[inline(always)]
-    pub fn caller(&self) -> &Scope<'a>
+    fn caller(&self) -> &Scope<'a>
         requires { IsCaller (top_of (stack_of self.now)) }
         ensures { top_of (stack_of self.now) ≡ f.Calling (scope_of result.now) }
     {
         &self.callers[self.callers.len() - 1]
-    }
-
-    /// The next statement of the block that is the innermost frame, and the others, if it is a
-    /// block that has one.
-    #[inline(always)]
-    pub fn statement(&self) -> Option<(&'a Stmt, &'a [Stmt])>
-        ensures { IfSome result (λ x. stack_of self.now ≡ f.Begins (f.Blocks (s.MoreStatements
-            (statement_of x.0.now) (statements_of x.1.now))) ∷ rest_of (stack_of self.now)) }
-    {
-        match self.top() {
-            None => None,
-            Some(frame) => match frame {
-                Frame::Begins(Begin::Blocks(xs)) => first_of(xs),
-                _ => None,
-            },
-        }
-    }
-
-    /// Whether the innermost frame is a block of which no statement is left.
-    #[inline(always)]
-    pub fn is_done(&self) -> bool
-        ensures { result ≡ true → stack_of self.now
-            ≡ f.Begins (f.Blocks s.NoStatements) ∷ rest_of (stack_of self.now) }
-    {
-        match self.top() {
-            Some(Frame::Begins(Begin::Blocks([]))) => true,
-            _ => false,
-        }
     }
 
     /// One more frame, which is the innermost one. No caller waits in it.
@@ -138,9 +102,9 @@ impl<'a> Stack<'a> {
         self.frames.push_reserved(Frame::Calling);
     }
 
-    /// The innermost frame is taken away, if there is one.
+    // The innermost frame goes, if there is one.
     #[inline(always)]
-    pub fn pop(&mut self)
+    fn pop(&mut self)
         ensures rest { stack_of self.new ≡ rest_of (stack_of self.old) }
     {
         match self.top() {
@@ -154,6 +118,46 @@ impl<'a> Stack<'a> {
                     let _ = self.frames.pop();
                 }
             },
+        }
+    }
+
+    /// The innermost frame is taken off, if there is one.
+    pub fn take(&mut self) -> Option<Top<'a>>
+        ensures none { IfNone result (stack_of self.old ≡ []) }
+        ensures still { IfNone result (stack_of self.new ≡ []) }
+        ensures top { IfSome result (λ top. stack_of self.old ≡ top_seen top ∷ stack_of self.new) }
+        ensures plain { IfSome result IsPlainTop }
+    {
+        match self.top() {
+            None => None,
+            Some(frame) => match frame {
+                Frame::Calling => {
+                    let scope = *self.caller();
+                    self.pop();
+                    Some(Top::Caller(scope))
+                }
+                _ => {
+                    let frame = *frame;
+                    self.pop();
+                    Some(Top::Plain(frame))
+                }
+            },
+        }
+    }
+
+    /// All frames go onto another stack, the innermost first.
+    pub fn move_onto(&mut self, other: &mut Stack<'a>)
+        requires room { length (stack_of self.old) + length (stack_of other.old) ≤ ROOM }
+        requires few { calls_open (stack_of self.old) + calls_open (stack_of other.old) ≤ CALLS }
+        ensures none { stack_of self.new ≡ [] }
+        ensures all { stack_of other.new ≡ reverse (stack_of self.old) ++ stack_of other.old }
+    {
+        'moving: loop {
+            match self.take() {
+                None => return,
+                Some(Top::Caller(scope)) => other.push_caller(scope),
+                Some(Top::Plain(frame)) => other.push(frame),
+            }
         }
     }
 }

@@ -1,5 +1,5 @@
 -- The frames of each move keep within the height of the frame whose place they take.
-use Rattle.std.proofs.Common.{◌≡◌, ◌∙◌, arith, ℕ, zero, suc, pred, ◌+◌, ◌-◌, ◌*◌, ◌≤◌, max, ℤ, pos, Bool, true, false, List, [], ◌∷◌, ◌++◌, length, Option, Some, None, refl, ap}
+use Rattle.std.proofs.Common.{◌≡◌, ◌∙◌, arith, ℕ, zero, suc, pred, ◌+◌, ◌-◌, ◌*◌, ◌≤◌, max, ℤ, pos, Bool, true, false, List, [], ◌∷◌, length, Option, Some, None, refl, ap}
 use Rattle.std.specs.Prelude.{⊤, int_lt, if◌then◌else◌}
 use Rattle.inform_tree.specs.Depths.{expression_depth, arguments_depth, terms_depth, factors_depth, condition_depth, conditions_depth, assignment_depth, items_depth, statement_depth, statements_depth, cases_depth, default_depth, optional_depth}
 use Rattle.inform_tree.specs.Values as v
@@ -16,7 +16,7 @@ use Rattle.inform_meaning.specs.Statements.{for_loop, loop_goes_on, fits_any}
 use Rattle.inform_moves.specs.Immediate.{immediate_value, immediate_sum, immediate_product, immediate_arguments, immediate_truth}
 use Rattle.inform_moves.specs.Moves.{Move, Goes, Ticks, Reads, Draws, at_once, goes_to, argument_parts, arguments_move, sum_parts, sum_move, product_parts, product_move, factor_move, value_parts, eval_move, all_move, any_move, truth_parts, test_move, alter_move, prints_move, enter_move, call_move, ticked, turn_test, turn_move, picked_move, change_frames, call_parts, call_alone, tested_move, branch_move, switch_move, return_move, read_move, statement_move, block_move, default_move, cases_move, begin_move, entry_move, store_by, place_move, range_move, value_move, truth_move, next}
 use Rattle.inform_moves.specs.Heights.{ROUTINE_FRAMES, loop_height, begin_height, want_height, decide_height, height, Within, standing, Fits, calls_open}
-use Rattle.inform_moves.specs.Laws.{IsShallow, FitsAfter, MovesFit, OpensAtMost, MovesOpen, FramesAreFew, RoomIsLeft}
+use Rattle.inform_moves.specs.Laws.{OpensAtMost, MovesOpen, FramesAreFew, RoomIsLeft}
 use Rattle.inform_moves.proofs.AtOnce.{at_once-all}
 
 -- the frames of a move keep within so many
@@ -310,25 +310,7 @@ next-keeps p n w (Calling scope) e h = tt
 next-keeps p n w Main e h = tt
 next-keeps p n w (Over halt) e h = tt
 
--- ---- whole stacks
-
-standing-append : (most : ℕ) (gs fs : List Frame) → Within most gs
-    → standing (gs ++ fs) ≡ length gs + standing fs
-standing-append most [] fs h = omega arith
-standing-append most (Begins x ∷ gs) fs h = omega (arith, standing-append most gs fs h.2)
-standing-append most (Wants x ∷ gs) fs h = omega (arith, standing-append most gs fs h.2)
-standing-append most (Decides x ∷ gs) fs h = omega (arith, standing-append most gs fs h.2)
-standing-append most (Looping x ∷ gs) fs h = omega (arith, standing-append most gs fs h.2)
-standing-append most (Calling x ∷ gs) fs h = absurd h.1
-standing-append most (Main ∷ gs) fs h = omega (arith, standing-append most gs fs h.2)
-standing-append most (Over x ∷ gs) fs h = omega (arith, standing-append most gs fs h.2)
-
--- frames that keep within the height of the one whose place they take
-pub within-fits : (most : ℕ) (gs fs : List Frame) → Within most gs
-    → most + standing fs ≤ ROUTINE_FRAMES → Fits fs → Fits (gs ++ fs)
-within-fits most [] fs h room fits = fits
-within-fits most (g ∷ gs) fs h room fits =
-    (omega (arith, h.0, room, standing-append most gs fs h.2), within-fits most gs fs h.2 room fits)
+-- ---- calls
 
 no-calls : (most : ℕ) (gs : List Frame) → Within most gs → calls_open gs ≡ 0
 no-calls most [] h = refl
@@ -341,27 +323,6 @@ no-calls most (Main ∷ gs) h = no-calls most gs h.2
 no-calls most (Over x ∷ gs) h = no-calls most gs h.2
 
 -- ---- moves
-
-keeping-fits : (most : ℕ) (m : Move) (fs : List Frame) → Keeping most m
-    → most + standing fs ≤ ROUTINE_FRAMES → Fits fs → FitsAfter fs m
-keeping-fits most (Goes gs e effect) fs h room fits = within-fits most gs fs h room fits
-keeping-fits most (Ticks gs e effect) fs h room fits = within-fits most gs fs h room fits
-keeping-fits most (Reads name) fs h room fits = fits
-keeping-fits most (Draws m) fs h room fits = fits
-
-entering-fits : (p : Program) (w : World) (name : List ℕ) (o : Option Routine) (values : List ℤ) (fs : List Frame)
-    → IsShallow p → p.routines name ≡ o → 1 + standing fs ≤ ROUTINE_FRAMES → Fits fs
-    → FitsAfter fs (enter_move p w name o values)
-entering-fits p w name None values fs shallow is room fits = fits
-entering-fits p w name (Some r) values fs shallow is room fits =
-    (omega (arith, shallow name r is), (room, fits))
-
-calling-fits : (p : Program) (n : ℕ) (w : World) (name : List ℕ) (values : List ℤ) (fs : List Frame)
-    → IsShallow p → 1 + standing fs ≤ ROUTINE_FRAMES → Fits fs
-    → FitsAfter fs (call_move p n w name values)
-calling-fits p zero w name values fs shallow room fits = fits
-calling-fits p (suc n) w name values fs shallow room fits =
-    entering-fits p w name (p.routines name) values fs shallow refl room fits
 
 entering-opens : (p : Program) (n : ℕ) (w : World) (name : List ℕ) (o : Option Routine) (values : List ℤ)
     → OpensAtMost (suc n) (enter_move p w name o values)
@@ -411,13 +372,6 @@ kind (Calling scope) e = other (λ p n w. next-keeps p n w (Calling scope) e tt)
 kind Main e = other (λ p n w. next-keeps p n w Main e tt)
 kind (Over halt) e = other (λ p n w. next-keeps p n w (Over halt) e tt)
 
-pub moves_fit : MovesFit
-moves_fit p n w x e fs shallow fits = by x e (kind x e) fits where
-  by : (x : Frame) (e : Outcome) → Kind x e → Fits (x ∷ fs) → FitsAfter fs (next p n w x e)
-  by _ _ (call {name} {values}) fits = calling-fits p n w name values fs shallow fits.0 fits.1
-  by x e (other keeps) fits =
-      keeping-fits (height x) (next p n w x e) fs (keeps p n w) fits.0 fits.1
-
 pub moves_open : MovesOpen
 moves_open p n w x e = by x e (kind x e) where
   by : (x : Frame) (e : Outcome) → Kind x e → OpensAtMost n (next p n w x e)
@@ -425,96 +379,6 @@ moves_open p n w x e = by x e (kind x e) where
   by x e (other keeps) = keeping-opens (height x) n (next p n w x e) (keeps p n w)
 
 -- ---- how many frames there are
-
-expression-high : (x : Expression) → 1 ≤ expression_depth x
-expression-high (v.Number n) = omega arith
-expression-high (v.Char byte) = omega arith
-expression-high (v.Name name) = omega arith
-expression-high (v.Entry name words index) = omega arith
-expression-high (v.Call name xs) = omega arith
-expression-high (v.Random x) = omega arith
-expression-high (v.Neg x) = omega arith
-expression-high (v.Sum x xs) = omega arith
-expression-high (v.Product x xs) = omega arith
-
-condition-high : (x : Condition) → 1 ≤ condition_depth x
-condition-high (d.Compare relation x y) = omega arith
-condition-high (d.Nonzero x) = omega arith
-condition-high (d.All xs) = omega arith
-condition-high (d.Any xs) = omega arith
-condition-high (d.Not x) = omega arith
-
--- each statement has a depth of 1 at least
-statement-high : (x : Statement) → 1 ≤ statement_depth x
-statement-high s.Empty = omega arith
-statement-high (s.Block body) = omega arith
-statement-high (s.Assign x) = omega arith
-statement-high (s.Call name xs) = omega arith
-statement-high (s.If x body rest) = omega arith
-statement-high (s.While x body) = omega arith
-statement-high (s.Do body x) = omega arith
-statement-high (s.For first x change body) = omega arith
-statement-high (s.Switch x xs rest) = omega arith
-statement-high s.Break = omega arith
-statement-high s.Continue = omega arith
-statement-high s.Quit = omega arith
-statement-high s.Rtrue = omega arith
-statement-high s.Rfalse = omega arith
-statement-high (s.Return x) = omega arith
-statement-high s.NewLine = omega arith
-statement-high (s.Print xs) = omega arith
-statement-high (s.Read line words) = omega arith
-
--- whatever begins has a height of 1 at least
-begin-high : (x : Begin) → 1 ≤ begin_height x
-begin-high (f.Evals x) = expression-high x
-begin-high (f.CallDue name values) = omega arith
-begin-high (f.DrawDue n) = omega arith
-begin-high (f.Tests x) = condition-high x
-begin-high (f.Alters x) = omega arith
-begin-high (f.Due x) = omega (arith, statement-high x)
-begin-high (f.Blocks xs) = omega arith
-begin-high (f.Prints xs) = omega arith
-begin-high (f.LineDue name) = omega arith
-begin-high (f.TurnDue l) = omega arith
-
--- whatever wants a value has a height of 1 at least
-want-high : (w : Want) → 1 ≤ want_height w
-want-high (f.IndexOf name) = omega arith
-want-high (f.Args name values xs) = omega arith
-want-high f.RangeOf = omega arith
-want-high f.Negates = omega arith
-want-high (f.SumFrom xs) = omega arith
-want-high (f.SumOnto op a xs) = omega arith
-want-high (f.ProductFrom xs) = omega arith
-want-high (f.ProductOnto op a xs) = omega arith
-want-high (f.LeftOf relation y) = omega arith
-want-high (f.RightOf relation a) = omega arith
-want-high f.IsNonzero = omega arith
-want-high (f.Sets name) = omega arith
-want-high (f.PlaceOf name words y) = omega arith
-want-high (f.Stores name words i) = omega arith
-want-high f.Forgets = omega arith
-want-high (f.Picks xs rest) = omega arith
-want-high f.Gives = omega arith
-want-high (f.SaysNumber xs) = omega arith
-want-high (f.SaysChar xs) = omega arith
-
-decide-high : (x : Decide) → 1 ≤ decide_height x
-decide-high (f.AllOf xs) = omega arith
-decide-high (f.AnyOf xs) = omega arith
-decide-high f.Flips = omega arith
-decide-high (f.Branches body rest) = omega arith
-decide-high (f.Testing l) = omega arith
-
-high : (x : Frame) → 1 ≤ height x
-high (Begins x) = begin-high x
-high (Wants x) = want-high x
-high (Decides x) = decide-high x
-high (Looping l) = omega arith
-high (Calling scope) = omega arith
-high Main = omega arith
-high (Over halt) = omega arith
 
 -- the frames of the routines that wait are full at most
 spread : (fs : List Frame) → Fits fs
@@ -528,18 +392,8 @@ spread (Calling x ∷ fs) fits = omega (arith, spread fs fits.1, fits.0)
 spread (Main ∷ fs) fits = omega (arith, spread fs fits.1)
 spread (Over x ∷ fs) fits = omega (arith, spread fs fits.1)
 
-one-less : (x : Frame) (fs : List Frame) → standing (x ∷ fs) ≤ standing fs + 1
-one-less (Begins x) fs = omega arith
-one-less (Wants x) fs = omega arith
-one-less (Decides x) fs = omega arith
-one-less (Looping x) fs = omega arith
-one-less (Calling x) fs = omega arith
-one-less Main fs = omega arith
-one-less (Over x) fs = omega arith
-
 pub frames_are_few : FramesAreFew
-frames_are_few [] fits = omega arith
-frames_are_few (x ∷ fs) fits = omega (arith, spread (x ∷ fs) fits, fits.0, high x, one-less x fs)
+frames_are_few x fs fits = omega (arith, spread fs fits.1, fits.0)
 
 -- ---- the room for calls
 

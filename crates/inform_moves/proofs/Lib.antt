@@ -4,5 +4,4 @@ pub mod Needing
 pub mod MovesMean
 pub mod Falling
 pub mod Fitting
-pub mod Readying
 pub mod Running

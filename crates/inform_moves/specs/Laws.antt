@@ -1,7 +1,6 @@
 -- The laws of moves.
-use Rattle.std.specs.Prelude.{ℕ, ◌≡◌, ◌+◌, ◌-◌, ◌*◌, ◌<◌, ◌≤◌, List, ◌∷◌, ◌++◌, length, Some, ⊤}
-use Rattle.inform_tree.specs.Depths.{statements_depth}
-use Rattle.inform_meaning.specs.Worlds.{Routine, Program, World, Config}
+use Rattle.std.specs.Prelude.{ℕ, ◌≡◌, ◌+◌, ◌-◌, ◌*◌, ◌<◌, ◌≤◌, List, ◌∷◌, length, ⊤}
+use Rattle.inform_meaning.specs.Worlds.{Program, World, Config}
 use Rattle.inform_meaning.specs.Frames.{Frame, Outcome, Waits}
 use Rattle.inform_meaning.specs.Runs.{CALL_LIMIT, room_in, resume_at}
 use Rattle.inform_meaning.specs.Laws as l
@@ -9,8 +8,7 @@ use Rattle.inform_moves.specs.Moves.{Move, Goes, Ticks, Reads, Draws, next}
 use Rattle.inform_moves.specs.Needs.{need, need_in}
 use Rattle.inform_moves.specs.Done.{move_run}
 use Rattle.inform_moves.specs.Works.{work, works}
-use Rattle.inform_moves.specs.Readiness.{ReadyAfter}
-use Rattle.inform_moves.specs.Heights.{ROUTINE_FRAMES, Fits, calls_open}
+use Rattle.inform_moves.specs.Heights.{ROUTINE_FRAMES, height, Fits, calls_open}
 
 -- Whatever is handed to the innermost frame, a run only adds to what happened, and takes lines and
 -- draws from the front.
@@ -47,29 +45,6 @@ abbrev pub MovesNeed : Type 0
 MovesNeed = (p : Program) (n : ℕ) (w : World) (x : Frame) (e : Outcome)
     → need_in (next p n w x e) ≡ need x e
 
--- A line is due only where its buffer has room.
-abbrev pub MovesReady : Type 0
-MovesReady =
-    (p : Program) (n : ℕ) (w : World) (x : Frame) (e : Outcome) → ReadyAfter w (next p n w x e)
-
--- no routine is deeper than 64
-abbrev pub IsShallow : Program → Type 0
-IsShallow p =
-    (name : List ℕ) (r : Routine) → p.routines name ≡ Some r → statements_depth r.body ≤ 64
-
--- the frames that stand after a move
-abbrev pub FitsAfter : List Frame → Move → Type 0
-FitsAfter rest (Goes frames e effect) = Fits (frames ++ rest)
-FitsAfter rest (Ticks frames e effect) = Fits (frames ++ rest)
-FitsAfter rest (Reads name) = Fits rest
-FitsAfter rest (Draws n) = Fits rest
-
--- After a move each routine keeps within its frames.
-abbrev pub MovesFit : Type 0
-MovesFit =
-    (p : Program) (n : ℕ) (w : World) (x : Frame) (e : Outcome) (rest : List Frame) → IsShallow p
-    → Fits (x ∷ rest) → FitsAfter rest (next p n w x e)
-
 -- how many calls a move opens
 abbrev pub OpensAtMost : ℕ → Move → Type 0
 OpensAtMost n (Goes frames e effect) = calls_open frames ≤ n
@@ -82,10 +57,11 @@ abbrev pub MovesOpen : Type 0
 MovesOpen =
     (p : Program) (n : ℕ) (w : World) (x : Frame) (e : Outcome) → OpensAtMost n (next p n w x e)
 
--- Frames that keep within their routines are few.
+-- The frames that may stand in the place of one, and those after it, are few, if each routine keeps
+-- within its frames.
 abbrev pub FramesAreFew : Type 0
-FramesAreFew =
-    (frames : List Frame) → Fits frames → length frames ≤ ROUTINE_FRAMES * (calls_open frames + 1)
+FramesAreFew = (x : Frame) (frames : List Frame) → Fits (x ∷ frames)
+    → height x + length frames ≤ ROUTINE_FRAMES * (calls_open frames + 1)
 
 -- The room for calls is what is left of the limit.
 abbrev pub RoomIsLeft : Type 0

@@ -3,7 +3,6 @@ use Rattle.std.specs.Prelude.{◌≡◌, true, List, [], ◌∷◌, ⊤}
 use Rattle.inform_meaning.specs.Worlds.{World, entries_of, has_room}
 use Rattle.inform_meaning.specs.Frames as f
 use Rattle.inform_meaning.specs.Frames.{Frame, Begins}
-use Rattle.inform_moves.specs.Moves.{Effect, Keeps, Becomes, Says, Enters, Move, Goes, Ticks, Reads, Draws}
 
 -- a frame that isn't due for a line
 abbrev pub IsDry : Frame → Type 0
@@ -23,18 +22,3 @@ HasRoom w x = ⊤
 abbrev pub IsReady : World → List Frame → Type 0
 IsReady w [] = ⊤
 IsReady w (x ∷ xs) = HasRoom w x × AreDry xs
-
--- the world after an effect
-abbrev pub effected_world : Effect → World → World
-effected_world Keeps w = w
-effected_world (Becomes after) w = after
-effected_world (Says bytes) w = w
-effected_world (Enters after _) w = after
-
--- the frames of a move are ready in the world after it; where it takes no step, none is due for a
--- line
-abbrev pub ReadyAfter : World → Move → Type 0
-ReadyAfter w (Goes frames e effect) = AreDry frames
-ReadyAfter w (Ticks frames e effect) = IsReady (effected_world effect w) frames
-ReadyAfter w (Reads name) = ⊤
-ReadyAfter w (Draws n) = ⊤

@@ -1,5 +1,5 @@
 //! The laws of moves. Each is the contract of a function that does nothing.
-ghost use Rattle.inform_moves.specs.Laws.{RunsAdd, MovesMean, MovesFall, MovesNeed, MovesReady, MovesFit, MovesOpen, FramesAreFew, RoomIsLeft};
+ghost use Rattle.inform_moves.specs.Laws.{RunsAdd, MovesMean, MovesFall, MovesNeed, MovesOpen, FramesAreFew, RoomIsLeft};
 
 /// Whatever is handed to its innermost frame, a run only adds to what happened, and takes lines and
 /// draws from the front.
@@ -26,25 +26,13 @@ pub fn moves_need()
     ensures { MovesNeed }
 {}
 
-/// A line is due only where its buffer has room.
-#[tactic(auto, using(crate::proofs::Readying::moves_ready))]
-pub fn moves_ready()
-    ensures { MovesReady }
-{}
-
-/// After a move each routine keeps within its frames.
-#[tactic(auto, using(crate::proofs::Fitting::moves_fit))]
-pub fn moves_fit()
-    ensures { MovesFit }
-{}
-
 /// No move opens more calls than may be open.
 #[tactic(auto, using(crate::proofs::Fitting::moves_open))]
 pub fn moves_open()
     ensures { MovesOpen }
 {}
 
-/// Frames that keep within their routines are few.
+/// The frames that may stand in the place of one, and those after it, are few.
 #[tactic(auto, using(crate::proofs::Fitting::frames_are_few))]
 pub fn frames_are_few()
     ensures { FramesAreFew }

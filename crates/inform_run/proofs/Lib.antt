@@ -1,8 +1,4 @@
-pub mod Moving
-pub mod Advances
-pub mod Stopping
-pub mod Beginning
+pub mod Running
 pub mod Found
-pub mod Quiet
-pub mod Entering
-mod Opened
+pub mod Opened
+pub mod Beginning

@@ -1,5 +1,5 @@
 -- That a machine is fit can be shown in one way alone.
-use Rattle.std.specs.Prelude.{List, [], ◌∷◌}
+use Rattle.std.specs.Prelude.{Bool, true, false, List, [], ◌∷◌}
 use Rattle.std.specs.Coded.{×_prop, Unit-prop, le_prop, coded_bool, Coded-set}
 use Rattle.inform_meaning.specs.Worlds.{World}
 use Rattle.inform_meaning.specs.Frames as f
@@ -8,7 +8,7 @@ use Rattle.inform_moves.specs.Readiness.{IsDry, AreDry, HasRoom, IsReady}
 use Rattle.inform_worlds.specs.Views.{world_of}
 use Rattle.inform_run.specs.declared.machines.Machine.{Machine}
 use Rattle.inform_frames.specs.Stacks.{stack_of}
-use Rattle.inform_run.specs.Machines.{IsFit}
+use Rattle.inform_run.specs.Machines.{IsFit, IsFitUnless}
 
 fits-prop : (frames : List f.Frame) → IsProp (Fits frames)
 fits-prop [] = Unit-prop
@@ -58,7 +58,11 @@ ready-prop : (w : World) (frames : List f.Frame) → IsProp (IsReady w frames)
 ready-prop w [] = Unit-prop
 ready-prop w (x ∷ xs) = ×_prop (room-prop w x) (all_dry-prop xs)
 
-pub IsFit-prop : (m : Machine) → IsProp (IsFit m)
-IsFit-prop m =
+fit-prop : (m : Machine) → IsProp (IsFit m)
+fit-prop m =
     ×_prop (fits-prop (stack_of m.stack))
-    (×_prop le_prop (ready-prop (world_of m.world) (stack_of m.stack)))
+    (×_prop le_prop (×_prop (ready-prop (world_of m.interpreter.world) (stack_of m.stack)) le_prop))
+
+pub IsFitUnless-prop : (broken : Bool) (m : Machine) → IsProp (IsFitUnless broken m)
+IsFitUnless-prop true m = Unit-prop
+IsFitUnless-prop false m = fit-prop m

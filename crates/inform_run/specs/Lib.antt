@@ -1,6 +1,4 @@
-pub mod Points
-pub mod Machines
 pub mod Stops
-pub mod Stepping
-pub mod Runners
+pub mod Machines
 pub mod Fitness
+pub mod Runners

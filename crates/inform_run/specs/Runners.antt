@@ -19,14 +19,14 @@ use Rattle.inform_frames.specs.Stacks.{stack_of}
 use Rattle.inform_run.specs.Stops.{stop_seen}
 
 abbrev pub program_run : Runner → Program
-program_run r = program_seen r.machine.world
+program_run r = program_seen r.machine.interpreter.world
 
 -- what has begun and isn't finished, innermost first
 abbrev pub begun_in : Runner → List f.Frame
 begun_in r = stack_of r.machine.stack
 
 abbrev pub world_in : Runner → World
-world_in r = v.world_of r.machine.world
+world_in r = v.world_of r.machine.interpreter.world
 
 -- what is left to a runner that goes on
 abbrev pub left_to : Runner → ℕ → List (List ℕ) → List ℕ → Config

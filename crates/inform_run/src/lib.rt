@@ -2,16 +2,9 @@
 //! console.
 #![tactic(auto)]
 
-// What has begun and isn't finished, and where a run stands between two moves.
+// What has begun and isn't finished, and how it goes on until it stops.
 mod machines;
 mod stops;
-
-// A move; moves up to the next step; the next turn of a loop at once; a step; a run.
-mod advancing;
-mod loops;
-mod running;
-mod settling;
-mod stepping;
 
 // A run from its beginning, and on from where it stopped.
 mod runners;

@@ -1,8 +1,8 @@
 //! A runner: a program that runs, from its beginning, and on from where it stopped.
 ghost use Rattle.std.specs.Prelude.{◌≡◌, ◌≤◌, ◌<◌, ◌+◌, ◌^◌, ◌↔◌, true, false, IfOk, IfSome, OnOk, IsOk, IsFalse, IfNone};
 ghost use Rattle.adv_io.specs.Faults.{HasCause};
-ghost use Rattle.inform_run.specs.Machines.{IsFit};
-ghost use Rattle.inform_run.specs.Fitness.{IsFit-prop};
+ghost use Rattle.inform_run.specs.Machines.{IsFitUnless};
+ghost use Rattle.inform_run.specs.Fitness.{IsFitUnless-prop};
 
 mod to_calls;
 
@@ -10,7 +10,8 @@ use crate::machines::Machine;
 use crate::stops::Stop;
 use adv_draws::Draws;
 use adv_io::{Console, ConsoleFault, Memory};
-use inform_frames::{Begin, Frame, Signal, Stack};
+use inform_frames::{Begin, Frame, Stack};
+use inform_interpreter::Interpreter;
 use inform_meaning::laws::{runs_go, runs_split};
 use inform_names::Accepted;
 use inform_names::laws::routines_are_shallow;
@@ -26,7 +27,7 @@ pub struct Runner<'a> {
     machine: Machine<'a>,
     used: u64,
     broken: bool,
-    pub ghost fit: { IsFit machine } by { IsFit-prop machine },
+    pub ghost fit: { IsFitUnless broken machine } by { IsFitUnless-prop broken machine },
 }
 
 impl<'a> Runner<'a> {
@@ -57,13 +58,9 @@ impl<'a> Runner<'a> {
         let mut stack = Stack::with_room(alloc)?;
         stack.push(Frame::Main);
         stack.push(Frame::Begins(Begin::Blocks(&main.body)));
-        let machine = Machine {
-            world,
-            stack,
-            signal: Signal::Normal,
-        };
+        let interpreter = Interpreter::open(alloc, world)?;
         Ok(Runner {
-            machine,
+            machine: Machine { interpreter, stack },
             used: 0,
             broken: false,
         })
@@ -95,11 +92,12 @@ impl<'a> Runner<'a> {
     {
         runs_go();
         runs_split();
-        self.machine.signal = Signal::Normal;
-        match self.machine.run(steps, false, draws, console) {
-            Ok(ran) => {
-                self.used += steps - ran.left;
-                Ok(ran.stop)
+        self.machine.interpreter.left = steps;
+        self.machine.interpreter.to_call = false;
+        match self.machine.run(draws, console) {
+            Ok(stop) => {
+                self.used += steps - self.machine.interpreter.left;
+                Ok(stop)
             }
             Err(fault) => {
                 self.broken = true;
@@ -112,14 +110,14 @@ impl<'a> Runner<'a> {
     pub fn global(&self, name: &[u8]) -> Option<i32>
         ensures { result ≡ (world_in self.now).globals name.now }
     {
-        self.machine.world.global(name)
+        self.machine.interpreter.world.global(name)
     }
 
     /// An entry of the array of this name, if there are such an array and such an entry.
     pub fn entry(&self, name: &[u8], index: u32) -> Option<i32>
         ensures { result ≡ slice_get (entries_of name.now (world_in self.now)) index }
     {
-        self.machine.world.entry_at(name, index)
+        self.machine.interpreter.world.entry_at(name, index)
     }
 
     /// The number of the directive that is the innermost open routine; `None` exactly where the run
@@ -132,7 +130,7 @@ impl<'a> Runner<'a> {
         match self.machine.stack.top() {
             None => None,
             Some(Frame::Over(_)) => None,
-            Some(_) => Some(self.machine.world.scope().directive),
+            Some(_) => Some(self.machine.interpreter.world.scope().directive),
         }
     }
 

@@ -8,8 +8,8 @@ use super::Runner;
 use crate::stops::Stop;
 use adv_draws::Draws;
 use adv_io::{Console, ConsoleFault};
-use inform_frames::Signal;
 use inform_meaning::laws::runs_go;
+use inform_steps::laws::only_calls_enter;
 
 impl<'a> Runner<'a> {
     /// Goes on as `run` does, but no further than to where a call is due: so no routine is entered.
@@ -35,11 +35,13 @@ impl<'a> Runner<'a> {
         ensures few_used { self.new.used ≤ self.old.used + steps }
     {
         runs_go();
-        self.machine.signal = Signal::Normal;
-        match self.machine.run(steps, true, draws, console) {
-            Ok(ran) => {
-                self.used += steps - ran.left;
-                Ok(ran.stop)
+        only_calls_enter();
+        self.machine.interpreter.left = steps;
+        self.machine.interpreter.to_call = true;
+        match self.machine.run(draws, console) {
+            Ok(stop) => {
+                self.used += steps - self.machine.interpreter.left;
+                Ok(stop)
             }
             Err(fault) => {
                 self.broken = true;

@@ -1,24 +1,29 @@
-use Rattle.std.proofs.Common.{◌≡◌, ◌≤◌, ◌-◌, true}
-use Rattle.adv_draws.specs.Supply.{supplied}
-use Rattle.inform_worlds.specs.Views.{program_seen}
-use Rattle.inform_run.specs.Machines.{point_of, IsFit, LeadsOn, EntersNoneOn}
+use Rattle.std.proofs.Common.{◌≤◌, length}
+use Rattle.inform_meaning.specs.Frames.{Normal}
+use Rattle.inform_meaning.specs.Runs.{CALL_LIMIT}
+use Rattle.inform_moves.specs.Heights.{Fits, calls_open}
+use Rattle.inform_moves.specs.Readiness.{IsReady}
+use Rattle.inform_worlds.specs.Views.{world_of}
+use Rattle.inform_frames.specs.Frames.{signal_of}
+use Rattle.inform_frames.specs.Stacks.{stack_of}
+use Rattle.inform_interpreter.specs.Doing.{Comes}
+use Rattle.inform_run.specs.Machines.{with_room, resumed}
 use Rattle.inform_run.proofs.machines.Machine.run.Given as goal
 
--- the steps so far lead here, and those of a run that pauses at calls enter no routine
+-- the frames that are left go on with what was handed on
 abbrev pub invariant-running : goal.invariant-running
 invariant-running g l =
+    let before = l.initial.self in
     let seen = g.C.Console.seen in
     record {
-      names : l.self.world.names ≡ l.initial.self.world.names;
-      sound : IsFit l.self;
-      bounded : (seen l.console).bound ≤ (seen l.initial.console).bound;
-      steady : (seen l.console).faults ≡ (seen l.initial.console).faults;
-      supply : supplied l.draws ≡ supplied l.initial.draws;
-      fewer : l.left ≤ l.steps;
-      leads : LeadsOn (program_seen l.initial.self.world) (seen l.initial.console) (seen l.console) (point_of l.initial.self) (point_of l.self) l.initial.draws.left l.draws.left (l.steps - l.left);
-      enters : l.to_call ≡ true → EntersNoneOn (program_seen l.initial.self.world) (seen l.initial.console) (point_of l.initial.self) (l.steps - l.left) l.initial.draws.left;
+      fits : Fits (stack_of l.self.stack);
+      few : calls_open (stack_of l.self.stack) ≤ CALL_LIMIT;
+      ready : IsReady (world_of l.self.interpreter.world) (stack_of l.self.stack);
+      comes : Comes (resumed (stack_of before.stack) Normal) (resumed (stack_of l.self.stack) (signal_of l.signal))
+          before.interpreter (with_room before.interpreter.room l.self.interpreter)
+          (seen l.initial.console) (seen l.console) l.initial.draws l.draws;
     }
 
--- each takes a step
+-- each frame is taken off
 abbrev pub decreases-running : goal.decreases-running
-decreases-running g l = l.left
+decreases-running g l = length (stack_of l.self.stack)

@@ -1,0 +1,11 @@
+pub mod Leading
+pub mod Frames
+pub mod Fitting
+pub mod Doing
+pub mod Arms
+pub mod Trees
+pub mod Entering
+pub mod Taking
+pub mod Printing
+pub mod Cases
+pub mod Signals

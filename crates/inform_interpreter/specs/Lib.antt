@@ -1,0 +1,4 @@
+pub mod Leading
+pub mod Interpreters
+pub mod Doing
+pub mod Parts
