@@ -35,7 +35,7 @@ fn routine<'a>(world: &World<'a>, name: &Name) -> Option<(usize, &'a Routine)>
     ensures none { IfNone result ((program_seen world.now).routines name.now ≡ None) }
 {
     meanings_are_of_directives();
-    match world.find(name.bytes()) {
+    match world.find(name) {
         None => None,
         Some(meaning) => match world.names().directive(meaning.at) {
             Directive::Routine(routine) => Some((meaning.at, routine)),

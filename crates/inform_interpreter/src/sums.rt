@@ -44,6 +44,7 @@ impl<'a> Interpreter<'a> {
 
     /// A sum of which this much is known.
     #[cycle(parts)]
+    #[inline(always)]
     pub fn sum_from<C: Console>(
         &mut self,
         first: i32,
@@ -102,6 +103,7 @@ impl<'a> Interpreter<'a> {
 
     /// A product of which this much is known.
     #[cycle(parts)]
+    #[inline(always)]
     pub fn product_from<C: Console>(
         &mut self,
         first: i32,

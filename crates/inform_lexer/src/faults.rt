@@ -23,7 +23,7 @@ pub enum LexFault {
     /// The quote of a string that is never closed.
     #[error("string not closed at {0}")]
     OpenString(usize),
-    /// There is no memory for the tokens.
+    /// There is no memory for the tokens, or no room in them for the places of a longer text.
     #[error("out of memory")]
     Memory,
 }

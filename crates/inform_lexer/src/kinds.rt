@@ -15,13 +15,16 @@ pub enum Kind {
     Symbol,
 }
 
-/// A token: what it is, and where it stands.
+/// The most bytes of a text whose places fit into a token. A source has far fewer.
+pub const PLACE_LIMIT: usize = 4_294_967_295;
+
+/// A token: what it is, and where it stands. A text has many, so its places are short.
 #[derive(Clone, Copy)]
 pub struct Token {
     /// What it is.
     pub kind: Kind,
     /// The place of its first byte, counted from the beginning of the text.
-    pub start: usize,
+    pub start: u32,
     /// The place after its last byte.
-    pub end: usize,
+    pub end: u32,
 }

@@ -7,7 +7,7 @@ ghost use Rattle.inform_lexer.specs.Answers.{fault_of, IsTokens};
 
 use crate::exact_laws::exact_laws;
 use crate::faults::LexFault;
-use crate::kinds::Token;
+use crate::kinds::{PLACE_LIMIT, Token};
 use crate::pieces::read_piece;
 use std::alloc::Global;
 
@@ -16,6 +16,7 @@ const ROOM: usize = 16_384;
 
 // Reads the pieces from left to right.
 fn read(alloc: Global, bytes: &[u8]) -> Result<Vec<Token>, LexFault>
+    requires { length bytes.now < 2 ^ 32 }
     ensures same { Answers (λ tokens. tokens.items) fault_of result (lexed bytes.now) }
     ensures order { IfOk result (λ tokens. InOrder (length bytes.now) 0 tokens.items) }
 {
@@ -30,7 +31,9 @@ fn read(alloc: Global, bytes: &[u8]) -> Result<Vec<Token>, LexFault>
 
 /// The tokens of a text, in order. Their spans are in order too, and within the bytes.
 ///
-/// The faults are those of `LexFault`; the first one in the order of the text is answered.
+/// The faults are those of `LexFault`; the first one in the order of the text is answered. A token
+/// has no room for the places of a text of more than 4,294,967,295 bytes, so that `Memory` is the
+/// answer there.
 /// docs/INFORM.md has the rules ("Tokens").
 pub fn tokens(alloc: Global, bytes: &[u8]) -> Result<Vec<Token>, LexFault>
     // What is given is spelled, and what is spelled is given, unless memory runs out.
@@ -44,5 +47,8 @@ pub fn tokens(alloc: Global, bytes: &[u8]) -> Result<Vec<Token>, LexFault>
     ensures expected { (fault : LexFault) → Faulty bytes.now fault → IsErrOr Memory result fault }
 {
     exact_laws();
+    if bytes.len() > PLACE_LIMIT {
+        return Err(LexFault::Memory);
+    }
     read(alloc, bytes)
 }

@@ -27,6 +27,6 @@ pub mod worked;
 
 pub use faults::LexFault;
 pub use glances::Glance;
-pub use kinds::{Kind, Token};
+pub use kinds::{Kind, PLACE_LIMIT, Token};
 pub use lexing::tokens;
 pub use meanings::{glance, name, text};

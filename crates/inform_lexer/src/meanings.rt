@@ -18,8 +18,8 @@ use std::alloc::Global;
 fn span(bytes: &[u8], token: Token) -> &[u8]
     ensures { result.now ≡ span bytes.now token }
 {
-    let end = token.end.min(bytes.len());
-    let start = token.start.min(end);
+    let end = (token.end as usize).min(bytes.len());
+    let start = (token.start as usize).min(end);
     &bytes[start..end]
 }
 

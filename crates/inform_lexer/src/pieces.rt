@@ -152,7 +152,7 @@ fn symbol_here(at: usize, bytes: &[u8]) -> Result<Found, LexFault>
 // after its first one.
 #[inline(always)]
 fn keep(tokens: &mut Vec<Token>, at: usize, found: Found) -> Result<usize, LexFault>
-    requires { at + 1 + found.more < 2 ^ 64 }
+    requires { at + 1 + found.more < 2 ^ 32 }
     ensures reads { Reads (Ok (piece_at at found)) tokens.old.items tokens.new.items result }
     ensures order { InOrder at 0 tokens.old.items
         → IfOk result (λ more. InOrder (at + 1 + more) 0 tokens.new.items) }
@@ -160,8 +160,8 @@ fn keep(tokens: &mut Vec<Token>, at: usize, found: Found) -> Result<usize, LexFa
     if let Some(kind) = found.kind {
         tokens.push(Token {
             kind,
-            start: at,
-            end: at + 1 + found.more,
+            start: at as u32,
+            end: (at + 1 + found.more) as u32,
         })?;
     }
     Ok(found.more)
@@ -172,7 +172,7 @@ fn keep(tokens: &mut Vec<Token>, at: usize, found: Found) -> Result<usize, LexFa
 #[tactic(auto, unfolding(crate::specs::Tokens::token_step))]
 #[inline(always)]
 pub fn read_piece(tokens: &mut Vec<Token>, at: usize, bytes: &[u8]) -> Result<usize, LexFault>
-    requires { at + length bytes.now < 2 ^ 63 }
+    requires { at + length bytes.now < 2 ^ 32 }
     ensures reads { Reads (token_step tt at bytes.now) tokens.old.items tokens.new.items result }
     ensures order { InOrder at 0 tokens.old.items
         → IfOk result (λ more. InOrder (at + 1 + more) 0 tokens.new.items) }

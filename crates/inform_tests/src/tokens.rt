@@ -82,7 +82,7 @@ fn faults_are_said(rt: HostRuntime) {
 }
 
 // The tokens of a text, each by its kind and its span.
-const TEXTS: &[(&[u8], &[(Kind, usize, usize)])] = &[
+const TEXTS: &[(&[u8], &[(Kind, u32, u32)])] = &[
     (b"", &[]),
     (b" \t\r\n! nothing", &[]),
     (
@@ -130,7 +130,7 @@ const TEXTS: &[(&[u8], &[(Kind, usize, usize)])] = &[
     (b"\"\"\"^\"", &[(Kind::Quoted, 0, 2), (Kind::Quoted, 2, 5)]),
 ];
 
-fn has_tokens(alloc: Global, bytes: &[u8], expected: &[(Kind, usize, usize)]) -> bool {
+fn has_tokens(alloc: Global, bytes: &[u8], expected: &[(Kind, u32, u32)]) -> bool {
     let Ok(found) = tokens(alloc, bytes) else {
         return false;
     };

@@ -1,3 +1,5 @@
+pub mod Names
+pub mod Kept
 pub mod Values
 pub mod Conditions
 pub mod Statements

@@ -1,3 +1,4 @@
 pub mod Tables
+pub mod Slotted
 pub mod ByNumber
 pub mod Opening

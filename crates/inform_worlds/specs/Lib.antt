@@ -1,3 +1,4 @@
 pub mod Scopes
+pub mod Slots
 pub mod Worlds
 pub mod Views

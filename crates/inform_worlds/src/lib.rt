@@ -4,7 +4,6 @@
 
 mod arguments;
 mod entries;
-mod names;
 mod openings;
 mod scopes;
 mod slots;

@@ -37,7 +37,7 @@ impl Drop for World<'_> {
 }
 
 impl<'a> World<'a> {
-    ghost use Rattle.std.specs.Prelude.{◌≡◌, ◌<◌, ◌≤◌, Bool, true, false, pos, length, map, slice_get, unwrap_or, Some, None, IfOk, IfSome, IfNone};
+    ghost use Rattle.std.specs.Prelude.{◌≡◌, ◌<◌, ◌≤◌, Bool, true, false, pos, [], length, map, slice_get, unwrap_or, Some, None, IfOk, IfSome, IfNone};
     ghost use Rattle.adv_io.specs.declared.lines.TheConstants.{LINE_LIMIT};
     ghost use Rattle.inform_names.specs.declared.meanings.Kind.TheVariants as k;
     ghost use Rattle.inform_meaning.specs.Tables.{renewed};
@@ -45,7 +45,8 @@ impl<'a> World<'a> {
     ghost use Rattle.inform_names.specs.Acceptance.{main};
     ghost use Rattle.inform_meaning.specs.Worlds.{value_of, assigned, entries_of, entry_at, stored, has_room, with_line};
     ghost use Rattle.inform_meaning.specs.Programs.{opening_world, routine_named};
-    ghost use Rattle.inform_worlds.specs.Worlds.{meant_value, outer_value, globals_of, arrays_of};
+    ghost use Rattle.inform_names.specs.Places.{is_global};
+    ghost use Rattle.inform_worlds.specs.Worlds.{kept_by, is_any_array, meant_value, globals_of, arrays_of};
     ghost use Rattle.inform_worlds.specs.Scopes.{scope_of};
     ghost use Rattle.inform_worlds.specs.Views.{world_of, program_seen};
 
@@ -79,14 +80,22 @@ impl<'a> World<'a> {
         &self.names
     }
 
-    /// What the name with these bytes means, if anything.
+    // What a name means that is in no slot of its number.
+    #[inline(never)]
+    fn find_elsewhere(&self, name: &Name) -> Option<Meaning>
+        ensures { result ≡ names_of self.now.names.accepted.now name.now }
+    {
+        self.names.find(name.bytes())
+    }
+
+    /// What a name means, if anything.
     #[inline(always)]
-    pub fn find(&self, name: &[u8]) -> Option<Meaning>
+    pub fn find(&self, name: &Name) -> Option<Meaning>
         ensures { result ≡ names_of self.now.names.accepted.now name.now }
     {
         match self.slots.find(name) {
             Some(meaning) => Some(meaning),
-            None => self.names.find(name),
+            None => self.find_elsewhere(name),
         }
     }
 
@@ -118,24 +127,14 @@ impl<'a> World<'a> {
         }
     }
 
-    // The value of a name that is no local and not in its slot.
+    // The value of a name, whether or not it has a number and a slot.
     #[inline(never)]
-    fn outer_elsewhere(&self, name: &[u8]) -> i32
-        ensures { result ≡ outer_value (names_of self.now.names.accepted.now)
-            self.now.globals.items name.now }
+    fn value_elsewhere(&self, name: &Name) -> i32
+        ensures { result ≡ value_of (program_seen self.now) name.now (world_of self.now) }
     {
-        self.meant(self.names.find(name))
-    }
-
-    // The value of a name that is no local.
-    #[inline(always)]
-    fn outer(&self, name: &[u8]) -> i32
-        ensures { result ≡ outer_value (names_of self.now.names.accepted.now)
-            self.now.globals.items name.now }
-    {
-        match self.slots.find(name) {
-            Some(meaning) => self.meant(Some(meaning)),
-            None => self.outer_elsewhere(name),
+        match self.scope.get(name) {
+            Some(value) => value,
+            None => self.meant(self.find_elsewhere(name)),
         }
     }
 
@@ -143,22 +142,27 @@ impl<'a> World<'a> {
     pub fn value(&self, name: &Name) -> i32
         ensures { result ≡ value_of (program_seen self.now) name.now (world_of self.now) }
     {
-        let name = name.bytes();
-        match self.scope.get(name) {
+        if name.number() == 0 {
+            return self.value_elsewhere(name);
+        }
+        match self.scope.get_short(name) {
             Some(value) => value,
-            None => self.outer(name),
+            None => match self.slots.find(name) {
+                Some(meaning) => self.meant(Some(meaning)),
+                None => self.value_elsewhere(name),
+            },
         }
     }
 
-    // The number of the global of this name, if there is one.
-    fn global_at(&self, name: &[u8]) -> Option<usize>
-        ensures means { IfSome result (λ at. names_of self.now.names.accepted.now name.now
+    // The number of the global that a name means, if it means one.
+    #[inline(always)]
+    fn global_meant(&self, meaning: Option<Meaning>) -> Option<usize>
+        ensures means { IfSome result (λ at. meaning
             ≡ Some (record { at = at; kind = k.Global })) }
         ensures within { IfSome result (λ at. at < length self.now.globals.items) }
-        ensures none { IfNone result (globals_of (names_of self.now.names.accepted.now)
-            self.now.globals.items name.now ≡ None) }
+        ensures none { IfNone result (kept_by is_global self.now.globals.items meaning ≡ None) }
     {
-        match self.find(name) {
+        match meaning {
             None => None,
             Some(meaning) => match meaning.kind {
                 Kind::Constant(_) => None,
@@ -174,9 +178,11 @@ impl<'a> World<'a> {
         }
     }
 
-    // Another value of a global, if there is one of this name.
+    // Another value of the global that a name means, if it means one.
+    #[inline(always)]
     #[tactic(auto, using(crate::proofs::ByNumber::put_global, crate::proofs::ByNumber::keep_globals))]
-    fn assign_global(&mut self, name: &[u8], value: i32)
+    fn put_global(&mut self, name: &Name, meaning: Option<Meaning>, value: i32)
+        requires { names_of self.old.names.accepted.now name.now ≡ meaning }
         ensures names { self.new.names ≡ self.old.names }
         ensures arrays { self.new.arrays ≡ self.old.arrays }
         ensures scope { self.new.scope ≡ self.old.scope }
@@ -185,10 +191,23 @@ impl<'a> World<'a> {
             name.now value }
     {
         meanings_are_of_directives();
-        match self.global_at(name) {
+        match self.global_meant(meaning) {
             Some(at) => self.globals[at] = value,
             None => {}
         }
+    }
+
+    // Another value of a local or a global, whether or not its name has a number and a slot.
+    #[inline(never)]
+    fn assign_elsewhere(&mut self, name: &Name, value: i32)
+        ensures names { self.new.names ≡ self.old.names }
+        ensures world { world_of self.new ≡ assigned name.now value (world_of self.old) }
+    {
+        if self.scope.set(name, value) {
+            return;
+        }
+        let meaning = self.find_elsewhere(name);
+        self.put_global(name, meaning, value);
     }
 
     /// Another value of a local of this name, else of a global, if there is one.
@@ -196,22 +215,28 @@ impl<'a> World<'a> {
         ensures names { self.new.names ≡ self.old.names }
         ensures world { world_of self.new ≡ assigned name.now value (world_of self.old) }
     {
-        let name = name.bytes();
-        if !self.scope.set(name, value) {
-            self.assign_global(name, value);
+        if name.number() == 0 {
+            return self.assign_elsewhere(name, value);
+        }
+        if self.scope.set_short(name, value) {
+            return;
+        }
+        match self.slots.find(name) {
+            Some(meaning) => self.put_global(name, Some(meaning), value),
+            None => self.assign_elsewhere(name, value),
         }
     }
 
-    // The number of the array of this name, if there is one.
-    fn array_at(&self, name: &[u8]) -> Option<usize>
+    // The number of the array that a name means, if it means one.
+    #[inline(always)]
+    fn array_meant(&self, meaning: Option<Meaning>) -> Option<usize>
         ensures means { IfSome result (λ at. (words : Bool)
-            × (names_of self.now.names.accepted.now name.now
-            ≡ Some (record { at = at; kind = k.Array words }))) }
+            × (meaning ≡ Some (record { at = at; kind = k.Array words }))) }
         ensures within { IfSome result (λ at. at < length self.now.arrays.items) }
-        ensures none { IfNone result (arrays_of (names_of self.now.names.accepted.now)
-            (map (λ entries. entries.items) self.now.arrays.items) name.now ≡ None) }
+        ensures none { IfNone result (kept_by is_any_array
+            (map (λ entries. entries.items) self.now.arrays.items) meaning ≡ None) }
     {
-        match self.find(name) {
+        match meaning {
             None => None,
             Some(meaning) => match meaning.kind {
                 Kind::Constant(_) => None,
@@ -227,21 +252,31 @@ impl<'a> World<'a> {
         }
     }
 
-    /// The entries of an array; none where there is no array of this name.
-    fn entries(&self, name: &[u8]) -> &[i32]
-        ensures { result.now ≡ entries_of name.now (world_of self.now) }
+    // The entries of the array that a name means; none where it means none.
+    #[inline(always)]
+    fn entries_meant(&self, meaning: Option<Meaning>) -> &[i32]
+        ensures { result.now ≡ unwrap_or (kept_by is_any_array
+            (map (λ entries. entries.items) self.now.arrays.items) meaning) [] }
     {
-        match self.array_at(name) {
+        match self.array_meant(meaning) {
             Some(at) => self.arrays[at].as_slice(),
             None => &[],
         }
+    }
+
+    // The entries of an array; none where there is no array of this name.
+    #[inline(always)]
+    fn entries(&self, name: &Name) -> &[i32]
+        ensures { result.now ≡ entries_of name.now (world_of self.now) }
+    {
+        self.entries_meant(self.find(name))
     }
 
     /// An entry of an array, if there are such an array and such an entry.
     pub fn entry(&self, name: &Name, index: i32) -> Option<i32>
         ensures { result ≡ entry_at (entries_of name.now (world_of self.now)) index }
     {
-        entry(self.entries(name.bytes()), index)
+        entry(self.entries(name), index)
     }
 
     /// Another value of an entry of an array, if there are such an array and such an entry.
@@ -251,7 +286,7 @@ impl<'a> World<'a> {
         ensures world { world_of self.new ≡ stored name.now words index value (world_of self.old) }
     {
         meanings_are_of_directives();
-        match self.array_at(name.bytes()) {
+        match self.array_meant(self.find(name)) {
             Some(at) => put(&mut self.arrays[at], index, kept(words, value)),
             None => {}
         }
@@ -261,14 +296,14 @@ impl<'a> World<'a> {
     pub fn has_room(&self, name: &Name) -> bool
         ensures { result ≡ has_room (entries_of name.now (world_of self.now)) }
     {
-        has_room(self.entries(name.bytes()))
+        has_room(self.entries(name))
     }
 
     /// The value of the global of this name, if there is one.
     pub fn global(&self, name: &[u8]) -> Option<i32>
         ensures { result ≡ (world_of self.now).globals name.now }
     {
-        match self.global_at(name) {
+        match self.global_meant(self.names.find(name)) {
             Some(at) => Some(self.globals[at]),
             None => None,
         }
@@ -278,7 +313,9 @@ impl<'a> World<'a> {
     pub fn entry_at(&self, name: &[u8], index: u32) -> Option<i32>
         ensures { result ≡ slice_get (entries_of name.now (world_of self.now)) index }
     {
-        self.entries(name).get(index as usize).copied()
+        self.entries_meant(self.names.find(name))
+            .get(index as usize)
+            .copied()
     }
 
     /// A line in its buffer, if there is one of this name and it has room.
@@ -292,7 +329,7 @@ impl<'a> World<'a> {
             → world_of self.new ≡ world_of self.old }
     {
         meanings_are_of_directives();
-        match self.array_at(name.bytes()) {
+        match self.array_meant(self.find(name)) {
             Some(at) => fill(&mut self.arrays[at], line),
             None => {}
         }

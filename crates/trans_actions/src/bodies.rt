@@ -87,15 +87,15 @@ fn got(
         ≡ get_statements params.now (map statement_of taken.items)
         (map statement_of refused.items)) }
 {
-    let mut body = Vec::with_capacity(alloc, 1)?;
     let took = name(alloc, b"op_", GET)?;
     let item = next(alloc, 1, params)?;
+    let mut body = Vec::with_capacity(alloc, 1)?;
     if taken.is_empty() && refused.is_empty() {
         body.push(Stmt::Call(took, item))?;
-    } else {
-        let test = Cond::Nonzero(Expr::Call(took, item));
-        body.push(Stmt::If(test, taken, refused))?;
+        return Ok(body);
     }
+    let test = Cond::Nonzero(Expr::Call(took, item));
+    body.push(Stmt::If(test, taken, refused))?;
     Ok(body)
 }
 
