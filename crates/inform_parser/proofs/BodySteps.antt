@@ -20,8 +20,8 @@ use Rattle.inform_grammar.specs.Reading.{Input, input, step, reads, within_limit
 use Rattle.inform_grammar.proofs.Steps.{starts, one-as-here, many-no, many-yes, look-yes, look-no, done-here}
 use Rattle.inform_parser.specs.Reading.{read}
 use Rattle.inform_parser.specs.Begins.{begins_statement, begins_bare}
-use Rattle.inform_parser.specs.Plans.{change_if_any, plain_statement, simple_statement, value_in_brackets, guard_in_brackets, guard_after, statements_in_braces, block, if_statement, while_statement, do_statement, for_statement, until_test, first_change, last_change, test_to_colon, switched_value, first_choices, default_read}
 use Rattle.inform_parser.proofs.TreesMade.{no_cases}
+use Rattle.inform_parser.specs.Plans.{change_if_any, plain_statement, simple_statement, value_in_brackets, guard_in_brackets, guard_after, statements_in_braces, if_statement, while_statement, do_statement, for_statement, until_test, first_change, last_change, test_to_colon, first_choices, default_read}
 
 -- ---- heads
 
@@ -73,7 +73,8 @@ statement_by (x ∷ xs) n = refl
 pub statement_as : (s : Input) → read (one r.Statement done) s ≡ read statement_plan s
 statement_as s = statement_by s.rest s.opened
 
-pub block_as : (z : Input) → read block z ≡ read (statements_in_braces >>= λ xs. done (s.Block (s.statements xs))) z
+pub block_as : (z : Input) → read (take (is_sign LeftBrace) (statements_to_brace (λ xs. done (s.Block (s.statements xs))))) z
+    ≡ read (statements_in_braces >>= λ xs. done (s.Block (s.statements xs))) z
 unfolding statements_in_braces
 block_as z = refl
 
@@ -107,8 +108,6 @@ pub statement_last : (front : List Statement) (s : Input) → heads begins_state
 unfolding read
 statement_last front s e = many-no within_limit s.rest r.Statement (rw (statement_starts s.rest) at e) front done s.opened ∙ done-here within_limit s.rest front s.opened
 
-pub ruleset statement_loop = (statement_more, statement_last)
-
 pub if_statement_as : (s : Input) → read if_statement s ≡ read (guard_after w.If >>= λ x. one r.Body (λ xs. else_after x xs >>= done)) s
 unfolding if_after guard_after guard_in_brackets
 if_statement_as s = refl
@@ -135,8 +134,8 @@ for_last_as first x s = refl
 
 -- ---- `switch`
 
-pub switch_as : (s : Input) → read switch s ≡ read (switched_value >>= λ x. cases_after x) s
-unfolding switch switched_value value_in_brackets
+pub switch_as : (s : Input) → read switch s ≡ read (value_in_brackets >>= λ x. take (is_sign LeftBrace) (cases_after x)) s
+unfolding switch value_in_brackets
 switch_as s = refl
 
 pub default_after_as : (x : Expression) (cases : List (List Choice × List Statement)) (s : Input) → read (default_after x cases) s ≡ read (default_read x (cases_tree cases)) s
@@ -225,5 +224,3 @@ part_more front s e = many-yes within_limit s.rest r.Part (rw (part_starts s.res
 pub part_last : (front : List SwitchPart) (s : Input) → (heads begins_bare s.rest || heads begins_statement s.rest) ≡ false → read (many r.Part front done) s ≡ Ok (front, s)
 unfolding read
 part_last front s e = many-no within_limit s.rest r.Part (rw (part_starts s.rest) at e) front done s.opened ∙ done-here within_limit s.rest front s.opened
-
-pub ruleset part_loop = (part_last)

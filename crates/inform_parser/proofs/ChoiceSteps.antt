@@ -1,5 +1,5 @@
 -- The rules of the heads of cases, by what stands next.
-use Rattle.std.proofs.Common.{◌≡◌, ℕ, true, false, List, [], ◌∷◌, ◌++◌, Some, None, Ok, refl, ap, ◌∙◌}
+use Rattle.std.proofs.Common.{◌≡◌, ℕ, true, false, List, [], ◌∷◌, ◌++◌, Some, None, Result, Ok, refl, ap, ◌∙◌}
 use Rattle.inform_tree.specs.declared.values.Const.{Const}
 use Rattle.inform_tree.specs.Statements.{Choice}
 use Rattle.inform_lexemes.specs.declared.symbols.Symbol.TheVariants.{Comma, Colon}
@@ -14,7 +14,10 @@ use Rattle.inform_grammar.specs.Rule.{rule}
 use Rattle.inform_grammar.specs.Reading.{Input, input, step, reads, within_limit}
 use Rattle.inform_grammar.proofs.Binding.{assoc}
 use Rattle.inform_grammar.proofs.Steps.{starts, one-as, many-no, many-yes, done-here}
-use Rattle.inform_parser.specs.Reading.{read}
+use Rattle.inform_parser.specs.declared.stops.Stop.{Stop}
+use Rattle.inform_parser.specs.Reading.{read, ReadsSome, Passes}
+use Rattle.inform_parser.specs.Parts.{choice_of}
+use Rattle.inform_parser.proofs.InTurn.{only, same_some, passed}
 
 abbrev pub range_plan : Const → Plan Choice
 range_plan x = next (is_word w.To) (λ _. one r.Constant (λ y. done (x, Some y))) (done (x, None))
@@ -37,8 +40,13 @@ further_choice_by [] n = refl
 further_choice_by (Sign Comma ∷ xs) n = refl
 further_choice_by (x ∷ xs) n = refl
 
-pub further_choice_as : (s : Input) → read (one r.FurtherChoice done) s ≡ read further_choice_plan s
+further_choice_as : (s : Input) → read (one r.FurtherChoice done) s ≡ read further_choice_plan s
 further_choice_as s = further_choice_by s.rest s.opened
+
+-- a comma, and then a choice
+pub further_choice_read : {s mid after : Input} {x : Result Choice Stop} → heads (is_sign Comma) s.rest ≡ true → Passes (is_sign Comma) (Sign Comma) s mid
+    → ReadsSome choice_of (one r.Choice done) mid x after → ReadsSome choice_of (one r.FurtherChoice done) s x after
+further_choice_read e h g = same_some _ (further_choice_as _) (passed _ _ e h (only g))
 
 choice_starts : (xs : List Lexeme) → heads (is_sign Comma) xs ≡ heads (starts r.FurtherChoice) xs
 unfolding rule further_choice
@@ -54,8 +62,6 @@ choice_more front s e = many-yes within_limit s.rest r.FurtherChoice (rw (choice
 pub choice_last : (front : List Choice) (s : Input) → heads (is_sign Comma) s.rest ≡ false → read (many r.FurtherChoice front done) s ≡ Ok (front, s)
 unfolding read
 choice_last front s e = many-no within_limit s.rest r.FurtherChoice (rw (choice_starts s.rest) at e) front done s.opened ∙ done-here within_limit s.rest front s.opened
-
-pub ruleset choice_loop = (choice_more, choice_last)
 
 pub choices_after_as : (x : Choice) (s : Input) → read (choices_after x) s ≡ read (many r.FurtherChoice (x ∷ []) (λ xs. take (is_sign Colon) (done xs))) s
 unfolding choices_after

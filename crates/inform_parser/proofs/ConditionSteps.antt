@@ -1,26 +1,26 @@
 -- The rules of conditions, by what stands next.
-use Rattle.std.proofs.Common.{◌≡◌, ℕ, true, false, List, [], ◌∷◌, ◌++◌, map, Ok, Err, refl}
+use Rattle.std.proofs.Common.{◌≡◌, ℕ, true, false, List, [], ◌∷◌, ◌++◌, map, Ok, Err, refl, sym, ap, ◌∙◌}
 use Rattle.inform_tree.specs.Values.{Expression}
 use Rattle.inform_tree.specs.Conditions as c
 use Rattle.inform_tree.specs.Conditions.{Condition, condition_of}
 use Rattle.inform_tree.specs.declared.conditions.Cond.{Cond}
+use Rattle.inform_lexemes.specs.declared.symbols.Symbol.{Symbol}
 use Rattle.inform_lexemes.specs.declared.symbols.Symbol.TheVariants.{LeftRound, RightRound, And, Or, Not, Equal, NotEqual, Less, Greater, LessEqual, GreaterEqual}
 use Rattle.inform_lexemes.specs.Lexemes.{Lexeme, Sign, is_sign}
 use Rattle.inform_grammar.specs.Faults.{Mixed, fault}
 use Rattle.inform_grammar.specs.Rules as r
-use Rattle.inform_grammar.specs.Lexemes.{heads, is_relation}
+use Rattle.inform_grammar.specs.Lexemes.{heads, is_relation, connective, other_connective}
 use Rattle.inform_grammar.specs.Trees.{Guard, Plain, Tested, AllOf, AnyOf, Join, condition, joined}
 use Rattle.inform_grammar.specs.ConditionRules.{relation_after, bracket_after, test, member, members_after, tests_after, guarded}
 use Rattle.inform_grammar.specs.Plan.{Plan, done, next, ◌>>=◌, take, one}
 use Rattle.inform_grammar.specs.Rule.{rule}
-use Rattle.inform_grammar.specs.Reading.{Input, input, step, reads, within_limit}
+use Rattle.inform_grammar.specs.Reading.{Input, input, Answer, step, reads, within_limit}
+use Rattle.inform_grammar.proofs.Binding.{and_then}
 use Rattle.inform_grammar.proofs.Steps.{one-as, one-as-here}
 use Rattle.inform_parser.specs.Reading.{read}
 use Rattle.inform_parser.specs.Nexts.{relation_next}
-use Rattle.inform_parser.specs.Plans.{at_connective, at_other, connective_next, members_from, guard_in_brackets, not_after, compared_test}
-use Rattle.inform_parser.specs.declared.guards.Join.{Join as Joint}
-use Rattle.inform_parser.specs.declared.guards.Join.TheVariants as joint
-use Rattle.inform_parser.specs.Guards.{join_of}
+use Rattle.inform_parser.specs.Plans.{members_from, guard_in_brackets}
+use Rattle.inform_parser.proofs.Steps.{continued, read-one}
 use Rattle.inform_parser.proofs.Loops.{map_push}
 
 -- ---- tests
@@ -58,9 +58,9 @@ plain x s e = plain_by x s.rest s.opened e
 
 abbrev pub test_plan : Plan Guard
 test_plan =
-    next (is_sign Not) (λ _. not_after)
+    next (is_sign Not) (λ _. guard_in_brackets >>= λ x. done (Tested (c.Not (condition x))))
     (next (is_sign LeftRound) (λ _. one r.Condition (λ x. take (is_sign RightRound) (bracket_after x >>= done)))
-    compared_test)
+    (one r.Value (λ x. relation_after x >>= done)))
 
 test_by : (xs : List Lexeme) (n : ℕ) → read (one r.Test done) (input n xs) ≡ read test_plan (input n xs)
 unfolding read reads step rule test guard_in_brackets
@@ -72,11 +72,16 @@ test_by (x ∷ xs) n = one-as-here within_limit _ xs r.Test r.Value relation_aft
 pub test_as : (s : Input) → read (one r.Test done) s ≡ read test_plan s
 test_as s = test_by s.rest s.opened
 
+pub bracketed_as : (s : Input) → read (take (is_sign LeftRound) (one r.Condition (λ x. take (is_sign RightRound) (bracket_after x >>= done)))) s
+    ≡ read (guard_in_brackets >>= λ x. bracket_after x >>= done) s
+unfolding guard_in_brackets
+bracketed_as s = refl
+
 -- ---- chains
 
 member_by : (j : Join) (xs : List Lexeme) (n : ℕ)
-    → read (one (r.Member j) done) (input n xs) ≡ read (connective_next j >>= λ _. one r.Test (λ x. done (condition x))) (input n xs)
-unfolding read reads step rule member connective_next
+    → read (one (r.Member j) done) (input n xs) ≡ read (take (is_sign (connective j)) (one r.Test (λ x. done (condition x)))) (input n xs)
+unfolding read reads step rule member
 member_by AllOf [] n = refl
 member_by AllOf (Sign And ∷ xs) n = refl
 member_by AllOf (_ ∷ xs) n = refl
@@ -84,37 +89,34 @@ member_by AnyOf [] n = refl
 member_by AnyOf (Sign Or ∷ xs) n = refl
 member_by AnyOf (_ ∷ xs) n = refl
 
-pub member_as : (j : Join) (s : Input) → read (one (r.Member j) done) s ≡ read (connective_next j >>= λ _. one r.Test (λ x. done (condition x))) s
-member_as j s = member_by j s.rest s.opened
+pub member_as : (j : Join) (a : Symbol) (s : Input) → a ≡ connective j
+    → read (one (r.Member j) done) s ≡ read (take (is_sign a) (one r.Test (λ x. done (condition x)))) s
+member_as j a s e = rw e (member_by j s.rest s.opened)
 
-more_by : (j : Join) (front : List Condition) (xs : List Lexeme) (n : ℕ) → at_connective j xs ≡ true
+more_by : (j : Join) (front : List Condition) (xs : List Lexeme) (n : ℕ) → heads (is_sign (connective j)) xs ≡ true
     → read (members_from j front) (input n xs) ≡ read (one (r.Member j) (λ x. members_from j (front ++ x ∷ []))) (input n xs)
-unfolding read reads step rule member members_from at_connective at_other
+unfolding read reads step rule member members_from
 more_by AllOf front (Sign And ∷ xs) n e = refl
 more_by AllOf front _ n e = absurd (cc)
 more_by AnyOf front (Sign Or ∷ xs) n e = refl
 more_by AnyOf front _ n e = absurd (cc)
 
-pub member_more : (j : Join) (front : List Condition) (s : Input) → at_connective j s.rest ≡ true
-    → read (members_from j front) s ≡ read (one (r.Member j) (λ x. members_from j (front ++ x ∷ []))) s
-member_more j front s e = more_by j front s.rest s.opened e
+module _ (j : Join) (front : List Condition) (s : Input) (a : Symbol) (same : a ≡ connective j) where
+  pub member_more : heads (is_sign a) s.rest ≡ true → read (members_from j front) s ≡ read (one (r.Member j) (λ x. members_from j (front ++ x ∷ []))) s
+  member_more e = more_by j front s.rest s.opened (rw same at e)
 
-mixed_by : (j : Join) (front : List Condition) (xs : List Lexeme) (n : ℕ) → at_other j xs ≡ true
+mixed_by : (j : Join) (front : List Condition) (xs : List Lexeme) (n : ℕ) → heads (is_sign (other_connective j)) xs ≡ true
     → read (members_from j front) (input n xs) ≡ Err (fault Mixed xs)
-unfolding read reads step rule member members_from at_connective at_other
+unfolding read reads step rule member members_from
 mixed_by AllOf front (Sign Or ∷ xs) n e = refl
 mixed_by AllOf front _ n e = absurd (cc)
 mixed_by AnyOf front (Sign And ∷ xs) n e = refl
 mixed_by AnyOf front _ n e = absurd (cc)
 
-pub member_mixed : (j : Join) (front : List Condition) (s : Input) → at_other j s.rest ≡ true
-    → read (members_from j front) s ≡ Err (fault Mixed s.rest)
-member_mixed j front s e = mixed_by j front s.rest s.opened e
-
 -- the members of a condition end where neither their own connective nor the other one stands
-last_by : (j : Join) (front : List Condition) (xs : List Lexeme) (n : ℕ) → at_connective j xs ≡ false
-    → at_other j xs ≡ false → read (members_from j front) (input n xs) ≡ Ok (front, input n xs)
-unfolding read reads step rule member members_from at_connective at_other
+last_by : (j : Join) (front : List Condition) (xs : List Lexeme) (n : ℕ) → heads (is_sign (connective j)) xs ≡ false
+    → heads (is_sign (other_connective j)) xs ≡ false → read (members_from j front) (input n xs) ≡ Ok (front, input n xs)
+unfolding read reads step rule member members_from
 last_by AllOf front [] n e f = refl
 last_by AllOf front (Sign And ∷ xs) n e f = absurd (cc)
 last_by AllOf front (Sign Or ∷ xs) n e f = absurd (cc)
@@ -124,19 +126,29 @@ last_by AnyOf front (Sign And ∷ xs) n e f = absurd (cc)
 last_by AnyOf front (Sign Or ∷ xs) n e f = absurd (cc)
 last_by AnyOf front (_ ∷ xs) n e f = refl
 
-pub member_last : (j : Join) (front : List Condition) (s : Input) → at_connective j s.rest ≡ false
-    → at_other j s.rest ≡ false → read (members_from j front) s ≡ Ok (front, s)
-member_last j front s e f = last_by j front s.rest s.opened e f
+module _ (j : Join) (front : List Condition) (s : Input) (b : Symbol) (other : b ≡ other_connective j) where
+  pub member_mixed : heads (is_sign b) s.rest ≡ true → read (members_from j front) s ≡ Err (fault Mixed s.rest)
+  member_mixed e = mixed_by j front s.rest s.opened (rw other at e)
 
-pub conditions_push : (xs : List Cond) (x : Cond) → map condition_of (xs ++ x ∷ []) ≡ map condition_of xs ++ condition_of x ∷ []
-conditions_push xs x = map_push condition_of xs x
+  pub member_last : (a : Symbol) → a ≡ connective j → heads (is_sign a) s.rest ≡ false → heads (is_sign b) s.rest ≡ false
+      → read (members_from j front) s ≡ Ok (front, s)
+  member_last a same e f = last_by j front s.rest s.opened (rw same at e) (rw other at f)
 
-pub members_after_as : (j : Join) (x y : Condition) (s : Input)
-    → read (members_after j x y) s ≡ read (members_from j (x ∷ y ∷ []) >>= λ xs. done (Tested (joined j xs))) s
+-- where one more member is read, what is read from there on stays
+pub members_go_on : (j : Join) (found items : List Cond) (x : Cond) (s after : Input) (total : Answer (List Condition))
+    → read (members_from j (map condition_of found)) s ≡ read (one (r.Member j) (λ x. members_from j (map condition_of found ++ x ∷ []))) s
+    → items ≡ found ++ x ∷ [] → read (one (r.Member j) done) s ≡ Ok (condition_of x, after) → read (members_from j (map condition_of found)) s ≡ total
+    → read (members_from j (map condition_of items)) after ≡ total
+members_go_on j found items x s after total more push here same =
+    ap (λ items. read (members_from j (map condition_of items)) after) push
+    ∙ ap (λ front. read (members_from j front) after) (map_push condition_of found x)
+    ∙ sym (ap (λ a. and_then a (continued (λ x. members_from j (map condition_of found ++ x ∷ [])))) here)
+    ∙ sym (read-one (r.Member j) (λ x. members_from j (map condition_of found ++ x ∷ [])) s) ∙ sym more ∙ same
+
+pub members_after_as : (j : Join) (x z y : Condition) (s : Input) → x ≡ z
+    → read (members_after j z y) s ≡ read (members_from j (x ∷ y ∷ []) >>= λ xs. done (Tested (joined j xs))) s
 unfolding members_after members_from
-members_after_as j x y s = refl
-
-pub ruleset member_loop = (member_more, member_mixed, member_last, conditions_push)
+members_after_as j x z y s e = rw e refl
 
 module _ (x : Guard) where
   and_by : (xs : List Lexeme) (n : ℕ) → heads (is_sign And) xs ≡ true
@@ -169,16 +181,6 @@ tests_or x s e = or_by x s.rest s.opened e
 pub tests_alone : (x : Guard) (s : Input) → heads (is_sign And) s.rest ≡ false → heads (is_sign Or) s.rest ≡ false → read (tests_after x) s ≡ Ok (x, s)
 tests_alone x s e f = alone_by x s.rest s.opened e f
 
-pub ruleset tests_after_steps = (tests_and, tests_or, tests_alone)
-
 pub condition_as : (s : Input) → read (one r.Condition done) s ≡ read (one r.Test (λ x. tests_after x >>= done)) s
 unfolding read rule guarded
 condition_as s = one-as within_limit s.rest r.Condition r.Test tests_after done s.opened (λ t. refl)
-
-pub connective_all : (j : Joint) (s : Input) → j ≡ joint.All → read (connective_next (join_of j)) s ≡ read (take (is_sign And) (done tt)) s
-unfolding connective_next
-connective_all j s e = rw e refl
-
-pub connective_any : (j : Joint) (s : Input) → j ≡ joint.Any → read (connective_next (join_of j)) s ≡ read (take (is_sign Or) (done tt)) s
-unfolding connective_next
-connective_any j s e = rw e refl

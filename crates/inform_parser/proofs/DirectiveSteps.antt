@@ -5,7 +5,7 @@ use Rattle.inform_tree.specs.Programs as d
 use Rattle.inform_tree.specs.Programs.{DirectiveTree}
 use Rattle.inform_lexemes.specs.declared.symbols.Symbol.TheVariants.{Semicolon, LeftRound, LeftSquare}
 use Rattle.inform_lexemes.specs.declared.keywords.Keyword.TheVariants as w
-use Rattle.inform_lexemes.specs.Lexemes.{Lexeme, Word, Sign, is_sign, is_word, is_name}
+use Rattle.inform_lexemes.specs.Lexemes.{Lexeme, Word, Name, Sign, is_sign, is_word, is_name}
 use Rattle.inform_grammar.specs.Faults.{Unexpected, fault}
 use Rattle.inform_grammar.specs.Rules as r
 use Rattle.inform_grammar.specs.Lexemes.{heads, name_in, any_lexeme}
@@ -15,9 +15,12 @@ use Rattle.inform_grammar.specs.Rule.{named, constant_after, global_after, array
 use Rattle.inform_grammar.specs.Reading.{Input, input, step, reads, within_limit}
 use Rattle.inform_grammar.proofs.Steps.{starts, many-no, many-yes, done-here}
 use Rattle.inform_parser.specs.Glances.{first_glance}
-use Rattle.inform_parser.specs.Reading.{read}
+use Rattle.inform_parser.specs.declared.stops.Stop.{Stop}
+use Rattle.inform_parser.specs.Reading.{read, ReadsSome}
+use Rattle.inform_parser.specs.Views.{name_of}
 use Rattle.inform_parser.specs.Begins.{begins_entry, begins_directive}
-use Rattle.inform_parser.specs.Nexts.{arrow_next}
+use Rattle.inform_parser.specs.Nexts.{next_of, arrow_next}
+use Rattle.inform_parser.proofs.InTurn.{only, made, same_some, stops_some, follows_some}
 
 pub array_after_as : (s : Input) → read array_after s ≡ read (named (λ name. arrow_next >>= λ words. one r.Entry (λ x. many r.Entry (x ∷ []) (λ xs. take (is_sign Semicolon) (done (d.Array name words xs)))))) s
 unfolding array_after arrow_next
@@ -33,8 +36,15 @@ local_by [] n = refl
 local_by (Sign Semicolon ∷ xs) n = refl
 local_by (x ∷ xs) n = refl
 
-pub local_as : (s : Input) → read (one r.Local done) s ≡ read local_plan s
+local_as : (s : Input) → read (one r.Local done) s ≡ read local_plan s
 local_as s = local_by s.rest s.opened
+
+-- a name is a local
+pub local_read : {s after : Input} {x : List ℕ} → ReadsSome Name (next_of is_name) s (Ok x) after → ReadsSome name_of (one r.Local done) s (Ok x) after
+local_read h = same_some _ (local_as _) (follows_some _ h (made _ refl))
+
+pub local_stops : {s after : Input} {e : Stop} → ReadsSome Name (next_of is_name) s (Err e) after → ReadsSome name_of (one r.Local done) s (Err e) after
+local_stops {e = e} h = same_some _ (local_as _) (stops_some _ (Err e) refl (only h))
 
 abbrev pub directive_plan : Plan DirectiveTree
 directive_plan =
@@ -68,8 +78,6 @@ pub entry_last : (front : List Const) (s : Input) → heads begins_entry s.rest 
 unfolding read
 entry_last front s e = many-no within_limit s.rest r.Entry (rw (entry_starts s.rest) at e) front done s.opened ∙ done-here within_limit s.rest front s.opened
 
-pub ruleset entry_loop = (entry_more, entry_last)
-
 local_starts : (xs : List Lexeme) → heads is_name xs ≡ heads (starts r.Local) xs
 unfolding rule local
 local_starts [] = refl
@@ -84,8 +92,6 @@ local_more front s e = many-yes within_limit s.rest r.Local (rw (local_starts s.
 pub local_last : (front : List (List ℕ)) (s : Input) → heads is_name s.rest ≡ false → read (many r.Local front done) s ≡ Ok (front, s)
 unfolding read
 local_last front s e = many-no within_limit s.rest r.Local (rw (local_starts s.rest) at e) front done s.opened ∙ done-here within_limit s.rest front s.opened
-
-pub ruleset local_loop = (local_more, local_last)
 
 directive_starts : (xs : List Lexeme) → heads begins_directive xs ≡ heads (starts r.Directive) xs
 unfolding rule directive
@@ -102,8 +108,6 @@ directive_more front s e = many-yes within_limit s.rest r.Directive (rw (directi
 pub directive_last : (front : List DirectiveTree) (s : Input) → heads begins_directive s.rest ≡ false → read (many r.Directive front done) s ≡ Ok (front, s)
 unfolding read
 directive_last front s e = many-no within_limit s.rest r.Directive (rw (directive_starts s.rest) at e) front done s.opened ∙ done-here within_limit s.rest front s.opened
-
-pub ruleset directive_loop = (directive_more, directive_last)
 
 -- ---- the end
 

@@ -70,6 +70,11 @@ module _ {U W : Type 0} {out : U → W} where
   pub told : {test : Lexeme → Bool} {s after : Input} {r : Result U Stop} {x y : W} → x ≡ y → Reads out (take test (done x)) s r after → Reads out (take test (done y)) s r after
   told {test = test} {s = s} {x = x} {y = y} e h = same (take test (done y)) (ap (λ (x : W). read (take test (done x)) s) (sym e)) h
 
+  pub told_word : {test also : Lexeme → Bool} {s after : Input} {r : Result U Stop} {x y : W} → x ≡ y
+      → ReadsSome out (take test (take also (done x))) s r after → ReadsSome out (take test (take also (done y))) s r after
+  told_word {test = test} {also = also} {s = s} {x = x} {y = y} e h =
+      same_some (take test (take also (done y))) (ap (λ (x : W). read (take test (take also (done x))) s) (sym e)) h
+
   -- memory runs out
   pub memory : (p : Plan W) (s after : Input) (r : Result U Stop) → IsErrAnd r (λ e. e ≡ stop.Memory) → length after.rest ≤ length s.rest → Reads out p s r after
   memory p s after (Ok x) e h = absurd e
@@ -114,18 +119,6 @@ module _ {U W : Type 0} {out : U → W} where
       ahead = omega (arith, h.ahead, g.ahead);
       taken = on_ok_weaker r (λ e. omega (arith, e, h.ahead)) g.taken;
     }
-
-  -- what was read is known by its plan
-  forgotten : {V : Type 0} (view : U → V) (p : Plan V) (s after : Input) (r : Result U Stop) (y : W) → ((x : U) → out x ≡ y)
-      → Gives view p s r after → Gives out (p >>= λ _. done y) s r after
-  forgotten view p s after (Ok x) y e h = read_on p (λ _. done y) s after (view x) h ∙ read-done y after ∙ ap (λ (y : W). Ok (y, after)) (sym (e x))
-  forgotten view p s after (Err d) y e h =
-      subst (λ (a : Answer W). StopsAt after d a) (sym (read-then (λ _. done y) p s)) (stops-then after d (continued (λ _. done y)) (read p s) h)
-
-  pub forgets : {V : Type 0} {view : U → V} {p : Plan V} {s after : Input} {r : Result U Stop} (y : W) → ((x : U) → out x ≡ y)
-      → ReadsSome view p s r after → ReadsSome out (p >>= λ _. done y) s r after
-  forgets {view = view} {p = p} {s = s} {after = after} {r = r} y e h =
-      record { gives = forgotten view p s after r y e h.gives; ahead = h.ahead; taken = h.taken }
 
   module _ (test : Lexeme → Bool) (k : Lexeme → Plan W) {q : Plan W} {s : Input} where
     -- what stands next passes the test, and is taken

@@ -1,7 +1,8 @@
 -- The rules of statements without bodies, by what stands next.
-use Rattle.std.proofs.Common.{◌≡◌, ℕ, true, false, List, [], ◌∷◌, ◌++◌, Some, None, Ok, refl, ◌∙◌}
+use Rattle.std.proofs.Common.{◌≡◌, ℕ, true, false, List, [], ◌∷◌, ◌++◌, Option, Some, None, Result, Ok, refl, ◌∙◌}
 use Rattle.inform_tree.specs.Statements as s
-use Rattle.inform_tree.specs.Statements.{Statement, Assignment, PrintItem}
+use Rattle.inform_tree.specs.Statements.{Statement, Assignment, PrintItem, print_item_of}
+use Rattle.inform_tree.specs.declared.statements.Item.{Item}
 use Rattle.inform_lexemes.specs.declared.symbols.Symbol.TheVariants.{Semicolon, Comma, LeftRound, Assign, ByteArrow, WordArrow, Increment, Decrement, Minus}
 use Rattle.inform_lexemes.specs.declared.keywords.Keyword.TheVariants as w
 use Rattle.inform_lexemes.specs.Lexemes.{Lexeme, Word, Name, Quoted, Sign, is_sign, is_word, is_name, is_quoted}
@@ -13,9 +14,11 @@ use Rattle.inform_grammar.specs.Plan.{Plan, done, refuse, next, ◌>>=◌, take,
 use Rattle.inform_grammar.specs.Rule.{rule}
 use Rattle.inform_grammar.specs.Reading.{Input, input, step, reads, within_limit}
 use Rattle.inform_grammar.proofs.Steps.{starts, one-as-here, many-no, many-yes, done-here}
-use Rattle.inform_parser.specs.Reading.{read}
+use Rattle.inform_parser.specs.declared.stops.Stop.{Stop}
+use Rattle.inform_parser.specs.Reading.{read, ReadsSome, Passes}
 use Rattle.inform_parser.specs.Nexts.{text_in, arrow_next}
 use Rattle.inform_parser.specs.Plans.{set_after, entry_change, change_if_any, char_after, value_inside, item_inside, value_item, plain_statement, simple_statement}
+use Rattle.inform_parser.proofs.InTurn.{only, same_some, passed}
 
 -- ---- changes
 
@@ -55,15 +58,6 @@ set_entry_as name s e = set_entry_by name s.rest s.opened e
 pub by_one_as : (name : List ℕ) (s : Input) → heads (is_sign Assign) s.rest ≡ false → heads is_arrow s.rest ≡ false → read (change_after name) s ≡ read (by_one_plan name) s
 by_one_as name s e f = by_one_by name s.rest s.opened e f
 
-change_by : (xs : List Lexeme) (n : ℕ) → read (one r.Change done) (input n xs) ≡ read (next is_name (λ x. change_after (name_in x) >>= done) refuse) (input n xs)
-unfolding read reads step rule change
-change_by [] n = refl
-change_by (Sign Comma ∷ xs) n = refl
-change_by (_ ∷ xs) n = refl
-
-pub change_as : (s : Input) → read (one r.Change done) s ≡ read (next is_name (λ x. change_after (name_in x) >>= done) refuse) s
-change_as s = change_by s.rest s.opened
-
 no_change_by : (xs : List Lexeme) (n : ℕ) → heads is_name xs ≡ false → read change_if_any (input n xs) ≡ Ok (None, input n xs)
 unfolding read reads step rule change change_if_any
 no_change_by [] n e = refl
@@ -73,12 +67,15 @@ no_change_by (_ ∷ xs) n e = refl
 pub no_change : (s : Input) → heads is_name s.rest ≡ false → read change_if_any s ≡ Ok (None, s)
 no_change s e = no_change_by s.rest s.opened e
 
-some_change_by : (xs : List Lexeme) (n : ℕ) → heads is_name xs ≡ true → read change_if_any (input n xs) ≡ read (one r.Change (λ x. done (Some x))) (input n xs)
+abbrev pub change_plan : Plan (Option Assignment)
+change_plan = next is_name (λ x. change_after (name_in x) >>= λ x. done (Some x)) refuse
+
+some_change_by : (xs : List Lexeme) (n : ℕ) → heads is_name xs ≡ true → read change_if_any (input n xs) ≡ read change_plan (input n xs)
 unfolding read reads step rule change change_if_any
 some_change_by (Name name ∷ xs) n e = refl
 some_change_by _ n e = absurd (cc)
 
-pub some_change : (s : Input) → heads is_name s.rest ≡ true → read change_if_any s ≡ read (one r.Change (λ x. done (Some x))) s
+pub some_change : (s : Input) → heads is_name s.rest ≡ true → read change_if_any s ≡ read change_plan s
 some_change s e = some_change_by s.rest s.opened e
 
 -- ---- `print`
@@ -124,8 +121,13 @@ further_item_by [] n = refl
 further_item_by (Sign Comma ∷ xs) n = refl
 further_item_by (x ∷ xs) n = refl
 
-pub further_item_as : (s : Input) → read (one r.FurtherItem done) s ≡ read further_item_plan s
+further_item_as : (s : Input) → read (one r.FurtherItem done) s ≡ read further_item_plan s
 further_item_as s = further_item_by s.rest s.opened
+
+-- a comma, and then an item
+pub further_item_read : {s mid after : Input} {x : Result Item Stop} → heads (is_sign Comma) s.rest ≡ true → Passes (is_sign Comma) (Sign Comma) s mid
+    → ReadsSome print_item_of (one r.Item done) mid x after → ReadsSome print_item_of (one r.FurtherItem done) s x after
+further_item_read e h g = same_some _ (further_item_as _) (passed _ _ e h (only g))
 
 item_starts : (xs : List Lexeme) → heads (is_sign Comma) xs ≡ heads (starts r.FurtherItem) xs
 unfolding rule further_item
@@ -141,8 +143,6 @@ item_more front s e = many-yes within_limit s.rest r.FurtherItem (rw (item_start
 pub item_last : (front : List PrintItem) (s : Input) → heads (is_sign Comma) s.rest ≡ false → read (many r.FurtherItem front done) s ≡ Ok (front, s)
 unfolding read
 item_last front s e = many-no within_limit s.rest r.FurtherItem (rw (item_starts s.rest) at e) front done s.opened ∙ done-here within_limit s.rest front s.opened
-
-pub ruleset item_loop = (item_more, item_last)
 
 -- ---- words
 

@@ -47,8 +47,6 @@ pub product_chain : (x : Box Expr) (xs : Vec (ProdOp × Expr)) → (length xs.it
 unfolding factor_of
 product_chain x xs e = expression_of_product x xs ∙ some_factors (expression_of x.value) xs.items e
 
-pub ruleset products = (product_alone, product_chain)
-
 no_term : (x : Expression) (xs : List (SumOp × Expr)) → length xs ≡ 0 → x ≡ sum_of x (map term_of xs)
 no_term x [] e = refl
 no_term x (y ∷ ys) e = absurd (cc)
@@ -65,8 +63,6 @@ pub sum_chain : (x : Box Expr) (xs : Vec (SumOp × Expr)) → (length xs.items �
     → expression_of (ev.Sum x xs) ≡ sum_of (expression_of x.value) (terms_of xs)
 unfolding term_of
 sum_chain x xs e = expression_of_sum x xs ∙ some_terms (expression_of x.value) xs.items e
-
-pub ruleset sums = (sum_alone, sum_chain)
 
 -- ---- each expression
 
@@ -98,8 +94,6 @@ factor_of_pair op x = refl
 pub term_of_pair : (op : SumOp) (x : Expr) → term_of (op, x) ≡ (op, expression_of x)
 unfolding term_of
 term_of_pair op x = refl
-
-pub ruleset expressions = (expression_of_number, expression_of_char, expression_of_name, expression_of_entry, expression_of_call, expression_of_random, expression_of_neg, factor_of_pair, term_of_pair)
 
 -- ---- each condition
 
@@ -163,8 +157,6 @@ statement_of_print xs = ap statement_of (sym (sv.rolls-Print xs)) ∙ fold-roll-
 
 pub statement_of_read : (x y : List ℕ) → statement_of (sv.Read x y) ≡ s.Read x y
 statement_of_read x y = ap statement_of (sym (sv.rolls-Read x y)) ∙ fold-roll-Stmt Statement (List Choice × Statements) statement_step case_step (so.Read x y)
-
-pub ruleset statements = (statement_of_empty, statement_of_break, statement_of_continue, statement_of_quit, statement_of_rtrue, statement_of_rfalse, statement_of_newline, statement_of_block, statement_of_change, statement_of_call, statement_of_no_value, statement_of_return, statement_of_print, statement_of_read)
 
 pub no_cases : (xs : List Case) → xs ≡ [] → cases_of xs ≡ s.NoCases
 no_cases xs e = rw e refl

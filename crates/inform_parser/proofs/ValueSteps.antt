@@ -1,5 +1,5 @@
 -- The rules of constants and expressions, by what stands next.
-use Rattle.std.proofs.Common.{◌≡◌, ℕ, true, false, List, [], ◌∷◌, ◌++◌, map, Ok, refl, ◌∙◌}
+use Rattle.std.proofs.Common.{◌≡◌, ℕ, true, false, List, [], ◌∷◌, ◌++◌, Result, Ok, Err, refl, ◌∙◌}
 use Rattle.inform_tree.specs.declared.values.ProdOp.{ProdOp}
 use Rattle.inform_tree.specs.declared.values.SumOp.{SumOp}
 use Rattle.inform_tree.specs.declared.values.Expr.{Expr}
@@ -13,15 +13,17 @@ use Rattle.inform_lexemes.specs.declared.keywords.Keyword.TheVariants as w
 use Rattle.inform_grammar.specs.Rules as r
 use Rattle.inform_grammar.specs.Lexemes.{heads, name_in, is_arrow, is_factor_sign, is_term_sign}
 use Rattle.inform_grammar.specs.ValueRules.{number_in, minus_number, constant, entry, arguments, name_after, entry_after, primary, unary, factor, factors_after, product, term, terms_after, value, argument}
-use Rattle.inform_grammar.specs.Trees.{product_of, sum_of}
 use Rattle.inform_grammar.specs.Plan.{Plan, done, refuse, next, ◌>>=◌, take, one, many}
 use Rattle.inform_grammar.specs.Rule.{rule}
 use Rattle.inform_grammar.specs.Reading.{Input, input, step, reads, within_limit}
 use Rattle.inform_grammar.proofs.Steps.{starts, one-as, many-no, many-yes, done-here}
-use Rattle.inform_parser.specs.Reading.{read}
+use Rattle.inform_parser.specs.declared.stops.Stop.{Stop}
+use Rattle.inform_parser.specs.Reading.{read, ReadsSome, Passes}
 use Rattle.inform_parser.specs.Nexts.{character_in, arrow_next, factor_next, term_next}
-use Rattle.inform_parser.specs.Plans.{negative_entry, some_arguments, value_in_brackets, negation}
-use Rattle.inform_parser.proofs.Loops.{map_push}
+use Rattle.inform_parser.specs.Plans.{negative_entry, value_in_brackets, negation}
+use Rattle.inform_parser.specs.Views.{factor_of, term_of}
+use Rattle.inform_parser.proofs.TreesMade.{factor_of_pair, term_of_pair}
+use Rattle.inform_parser.proofs.InTurn.{only, made, same_some, stops, stops_some, follows, follows_some, passed}
 
 -- ---- constants
 
@@ -62,7 +64,7 @@ entry_as s = entry_by s.rest s.opened
 abbrev pub arguments_plan : Plan (List Expression)
 arguments_plan =
     next (is_sign RightRound) (λ _. done [])
-    some_arguments
+    (one r.Value (λ x. many r.Argument (x ∷ []) (λ xs. take (is_sign RightRound) (done xs))))
 
 arguments_by : (xs : List Lexeme) (n : ℕ) → read arguments (input n xs) ≡ read arguments_plan (input n xs)
 unfolding read reads step rule arguments value product unary primary
@@ -84,8 +86,13 @@ argument_by [] n = refl
 argument_by (Sign Comma ∷ xs) n = refl
 argument_by (_ ∷ xs) n = refl
 
-pub argument_as : (s : Input) → read (one r.Argument done) s ≡ read argument_plan s
+argument_as : (s : Input) → read (one r.Argument done) s ≡ read argument_plan s
 argument_as s = argument_by s.rest s.opened
+
+-- a comma, and then a value
+pub argument_read : {s mid after : Input} {x : Result Expr Stop} → heads (is_sign Comma) s.rest ≡ true → Passes (is_sign Comma) (Sign Comma) s mid
+    → ReadsSome expression_of (one r.Value done) mid x after → ReadsSome expression_of (one r.Argument done) s x after
+argument_read e h g = same_some _ (argument_as _) (passed _ _ e h (only g))
 
 module _ (name : List ℕ) where
   abbrev pub entry_read : Plan Expression
@@ -155,8 +162,20 @@ factor_by [] n = refl
 factor_by (Sign Times ∷ xs) n = refl
 factor_by (_ ∷ xs) n = refl
 
-pub factor_as : (s : Input) → read (one r.Factor done) s ≡ read (factor_next >>= λ op. one r.Unary (λ x. done (op, x))) s
+factor_as : (s : Input) → read (one r.Factor done) s ≡ read (factor_next >>= λ op. one r.Unary (λ x. done (op, x))) s
 factor_as s = factor_by s.rest s.opened
+
+-- a sign, and then an operand
+pub factor_read : {s mid after : Input} {op : ProdOp} {x : Expr} → ReadsSome (λ (op : ProdOp). op) factor_next s (Ok op) mid
+    → ReadsSome expression_of (one r.Unary done) mid (Ok x) after → ReadsSome factor_of (one r.Factor done) s (Ok (op, x)) after
+factor_read h g = same_some _ (factor_as _) (follows_some _ h (follows _ (only g) (made _ (factor_of_pair _ _))))
+
+pub factor_stops : {s mid after : Input} {op : ProdOp} {e : Stop} → ReadsSome (λ (op : ProdOp). op) factor_next s (Ok op) mid
+    → ReadsSome expression_of (one r.Unary done) mid (Err e) after → ReadsSome factor_of (one r.Factor done) s (Err e) after
+factor_stops {e = e} h g = same_some _ (factor_as _) (follows_some _ h (stops _ (Err e) refl (only g)))
+
+pub factor_sign_stops : {s mid : Input} {e : Stop} → ReadsSome (λ (op : ProdOp). op) factor_next s (Err e) mid → ReadsSome factor_of (one r.Factor done) s (Err e) mid
+factor_sign_stops {e = e} h = same_some _ (factor_as _) (stops_some _ (Err e) refl (only h))
 
 pub product_as : (s : Input) → read (one r.Product done) s ≡ read (one r.Unary (λ x. factors_after x >>= done)) s
 unfolding read rule product
@@ -168,8 +187,20 @@ term_by [] n = refl
 term_by (Sign Plus ∷ xs) n = refl
 term_by (_ ∷ xs) n = refl
 
-pub term_as : (s : Input) → read (one r.Term done) s ≡ read (term_next >>= λ op. one r.Product (λ x. done (op, x))) s
+term_as : (s : Input) → read (one r.Term done) s ≡ read (term_next >>= λ op. one r.Product (λ x. done (op, x))) s
 term_as s = term_by s.rest s.opened
+
+-- a sign, and then a product
+pub term_read : {s mid after : Input} {op : SumOp} {x : Expr} → ReadsSome (λ (op : SumOp). op) term_next s (Ok op) mid
+    → ReadsSome expression_of (one r.Product done) mid (Ok x) after → ReadsSome term_of (one r.Term done) s (Ok (op, x)) after
+term_read h g = same_some _ (term_as _) (follows_some _ h (follows _ (only g) (made _ (term_of_pair _ _))))
+
+pub term_stops : {s mid after : Input} {op : SumOp} {e : Stop} → ReadsSome (λ (op : SumOp). op) term_next s (Ok op) mid
+    → ReadsSome expression_of (one r.Product done) mid (Err e) after → ReadsSome term_of (one r.Term done) s (Err e) after
+term_stops {e = e} h g = same_some _ (term_as _) (follows_some _ h (stops _ (Err e) refl (only g)))
+
+pub term_sign_stops : {s mid : Input} {e : Stop} → ReadsSome (λ (op : SumOp). op) term_next s (Err e) mid → ReadsSome term_of (one r.Term done) s (Err e) mid
+term_sign_stops {e = e} h = same_some _ (term_as _) (stops_some _ (Err e) refl (only h))
 
 pub value_as : (s : Input) → read (one r.Value done) s ≡ read (one r.Product (λ x. terms_after x >>= done)) s
 unfolding read rule value
@@ -207,10 +238,6 @@ pub factor_last : (front : List (ProdOp × Expression)) (s : Input) → heads is
 unfolding read
 factor_last front s e = many-no within_limit s.rest r.Factor (rw (factor_starts s.rest) at e) front done s.opened ∙ done-here within_limit s.rest front s.opened
 
-pub no_factors : (x : Expression) (s : Input) → heads is_factor_sign s.rest ≡ false → read (many r.Factor [] (λ ys. done (product_of x ys))) s ≡ Ok (x, s)
-unfolding read
-no_factors x s e = many-no within_limit s.rest r.Factor (rw (factor_starts s.rest) at e) [] (λ ys. done (product_of x ys)) s.opened ∙ done-here within_limit s.rest x s.opened
-
 term_starts : (xs : List Lexeme) → heads is_term_sign xs ≡ heads (starts r.Term) xs
 unfolding rule term
 term_starts [] = refl
@@ -225,16 +252,3 @@ term_more front s e = many-yes within_limit s.rest r.Term (rw (term_starts s.res
 pub term_last : (front : List (SumOp × Expression)) (s : Input) → heads is_term_sign s.rest ≡ false → read (many r.Term front done) s ≡ Ok (front, s)
 unfolding read
 term_last front s e = many-no within_limit s.rest r.Term (rw (term_starts s.rest) at e) front done s.opened ∙ done-here within_limit s.rest front s.opened
-
-pub no_terms : (x : Expression) (s : Input) → heads is_term_sign s.rest ≡ false → read (many r.Term [] (λ ys. done (sum_of x ys))) s ≡ Ok (x, s)
-unfolding read
-no_terms x s e = many-no within_limit s.rest r.Term (rw (term_starts s.rest) at e) [] (λ ys. done (sum_of x ys)) s.opened ∙ done-here within_limit s.rest x s.opened
-
-pub expressions_push : (xs : List Expr) (x : Expr) → map expression_of (xs ++ x ∷ []) ≡ map expression_of xs ++ expression_of x ∷ []
-expressions_push xs x = map_push expression_of xs x
-
-pub ruleset argument_loop = (argument_more, argument_last, expressions_push)
-
-pub ruleset factor_loop = (factor_more, factor_last)
-
-pub ruleset term_loop = (term_more, term_last)

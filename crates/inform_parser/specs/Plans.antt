@@ -1,8 +1,6 @@
 -- Plans that have a method of their own.
-use Rattle.std.specs.Prelude.{ℕ, Bool, List, [], ◌∷◌, Option, Some, None}
+use Rattle.std.specs.Prelude.{ℕ, List, Option, Some, None}
 use Rattle.inform_tree.specs.declared.values.Const.{Const}
-use Rattle.inform_tree.specs.declared.values.Const.TheVariants as k
-use Rattle.inform_tree.specs.Conditions as c
 use Rattle.inform_tree.specs.Conditions.{Condition}
 use Rattle.inform_tree.specs.Statements as s
 use Rattle.inform_tree.specs.Statements.{Statement, Assignment, PrintItem, Cases}
@@ -11,21 +9,17 @@ use Rattle.inform_tree.specs.Values.{Expression}
 use Rattle.inform_lexemes.specs.declared.symbols.Symbol.TheVariants.{Semicolon, Colon, LeftRound, RightRound, LeftBrace, RightBrace, Assign, Minus}
 use Rattle.inform_lexemes.specs.declared.keywords.Keyword.{Keyword}
 use Rattle.inform_lexemes.specs.declared.keywords.Keyword.TheVariants as w
-use Rattle.inform_lexemes.specs.Lexemes.{Lexeme, is_sign, is_word, is_name}
+use Rattle.inform_lexemes.specs.Lexemes.{is_sign, is_word}
 use Rattle.inform_grammar.specs.Rules as r
-use Rattle.inform_grammar.specs.Lexemes.{heads, name_in, connective, other_connective}
-use Rattle.inform_grammar.specs.Trees.{Guard, Tested, Join, condition}
+use Rattle.inform_grammar.specs.Lexemes.{other_connective}
+use Rattle.inform_grammar.specs.Trees.{Guard, Join}
 use Rattle.inform_grammar.specs.ValueRules.{minus_number}
-use Rattle.inform_grammar.specs.ConditionRules.{value_after, relation_after, bracket_after}
-use Rattle.inform_grammar.specs.Rules.{SwitchPart}
-use Rattle.inform_grammar.specs.StatementRules.{if_after, while_after, do_after, for_after, statement_after, choices_after, head_after, part_after, statements_to_brace, in_brackets, return_after, print_after, read_after}
-use Rattle.inform_grammar.specs.Plan.{Plan, done, refuse, next, maybe, chain, many, ◌>>=◌, take, one, optional}
+use Rattle.inform_grammar.specs.ConditionRules.{value_after}
+use Rattle.inform_grammar.specs.StatementRules.{if_after, while_after, do_after, for_after, choices_after, statements_to_brace, in_brackets, return_after, print_after, read_after}
+use Rattle.inform_grammar.specs.Plan.{Plan, done, refuse, next, maybe, chain, ◌>>=◌, take, one, optional}
 use Rattle.inform_parser.specs.Nexts.{arrow_next}
 
 -- ---- constants
-
-abbrev pub named_constant : Plan Const
-named_constant = next is_name (λ x. done (k.Name (name_in x))) refuse
 
 -- a number with its minus sign, between brackets
 abbrev pub negative_entry : Plan Const
@@ -34,11 +28,6 @@ negative_entry =
     (take (is_sign Minus) (minus_number >>= λ x. take (is_sign RightRound) (done x)))
 
 -- ---- values
-
--- arguments, of which there is one at least, and a closing bracket
-abbrev pub some_arguments : Plan (List Expression)
-some_arguments =
-    one r.Value (λ x. many r.Argument (x ∷ []) (λ xs. take (is_sign RightRound) (done xs)))
 
 -- a value between brackets
 unfoldable pub value_in_brackets : Plan Expression
@@ -55,33 +44,9 @@ negation = one r.Primary (λ x. done (v.Neg x))
 unfoldable pub guard_in_brackets : Plan Guard
 guard_in_brackets = in_brackets done
 
--- what follows `~~`
-abbrev pub not_after : Plan Guard
-not_after = guard_in_brackets >>= λ x. done (Tested (c.Not (condition x)))
-
--- a test that begins with a bracket
-abbrev pub bracketed_test : Plan Guard
-bracketed_test = guard_in_brackets >>= λ x. bracket_after x >>= done
-
--- and one that begins with a value
-abbrev pub compared_test : Plan Guard
-compared_test = one r.Value (λ x. relation_after x >>= done)
-
 -- ---- chains of conditions
 
--- the symbol of such a chain stands next
-unfoldable pub at_connective : Join → List Lexeme → Bool
-at_connective join xs = heads (is_sign (connective join)) xs
-
--- and the symbol of the other chain
-unfoldable pub at_other : Join → List Lexeme → Bool
-at_other join xs = heads (is_sign (other_connective join)) xs
-
--- the symbol of such a chain
-unfoldable pub connective_next : Join → Plan (Unit {0})
-connective_next join = take (is_sign (connective join)) (done tt)
-
--- the members of such a chain, after these
+-- the members of a chain of conditions, after these
 unfoldable pub members_from : Join → List Condition → Plan (List Condition)
 members_from join front = chain (r.Member join) (is_sign (other_connective join)) front done
 
@@ -143,10 +108,6 @@ simple_statement =
 unfoldable pub statements_in_braces : Plan (List Statement)
 statements_in_braces = take (is_sign LeftBrace) (statements_to_brace done)
 
-abbrev pub block : Plan Statement
-block =
-    take (is_sign LeftBrace) (statements_to_brace (λ xs. done (s.Block (s.statements xs))))
-
 -- this word, and a condition between brackets
 unfoldable pub guard_after : Keyword → Plan Guard
 guard_after keyword = take (is_word keyword) guard_in_brackets
@@ -181,24 +142,9 @@ last_change = change_if_any >>= λ last. take (is_sign RightRound) (done last)
 unfoldable pub test_to_colon : Plan (Option Guard)
 test_to_colon = optional r.Condition (λ x. take (is_sign Colon) (done x))
 
--- the value of a `switch` in its brackets, and the opening brace
-unfoldable pub switched_value : Plan Expression
-switched_value = value_in_brackets >>= λ x. take (is_sign LeftBrace) (done x)
-
 -- the choices of the first case, and their colon
 unfoldable pub first_choices : Plan (List s.Choice)
 first_choices = one r.Choice choices_after
-
--- a statement that begins with a name
-abbrev pub named_statement : Plan Statement
-named_statement = next is_name (λ x. statement_after (name_in x) >>= done) refuse
-
--- what a name begins in the braces of a `switch`, and what another constant does
-abbrev pub named_part : Plan SwitchPart
-named_part = next is_name (λ x. part_after (name_in x) >>= done) refuse
-
-abbrev pub bare_part : Plan SwitchPart
-bare_part = one r.Constant (λ x. head_after x >>= done)
 
 -- what ends a `switch`, after the tree of its cases
 unfoldable pub default_read : Expression → Cases → Plan Statement

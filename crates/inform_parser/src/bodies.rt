@@ -1,5 +1,5 @@
 //! Statements, with their bodies.
-ghost use Rattle.std.specs.Prelude.{◌≡◌, [], ◌∷◌, option_map};
+ghost use Rattle.std.specs.Prelude.{◌≡◌, [], option_map};
 ghost use Rattle.inform_tree.specs.Values.{expression_of};
 ghost use Rattle.inform_tree.specs.Conditions.{condition_of};
 ghost use Rattle.inform_tree.specs.Statements.{statement_of, assignment_if_any, cases_of};
@@ -11,7 +11,7 @@ ghost use Rattle.inform_parser.specs.Reading.{Reads, ReadsSome};
 ghost use Rattle.inform_parser.specs.Guards.{guard_of, guard_if_any};
 ghost use Rattle.inform_parser.specs.Parts.{part_of, parts_in};
 ghost use Rattle.inform_parser.specs.Views.{statements_in};
-ghost use Rattle.inform_parser.specs.Plans.{statements_in_braces, block, if_statement, while_statement, do_statement, for_statement, default_read};
+ghost use Rattle.inform_parser.specs.Plans.{statements_in_braces, if_statement, while_statement, do_statement, for_statement, default_read};
 
 use crate::cursor::Cursor;
 use crate::guards::Guard;
@@ -46,10 +46,12 @@ impl<'a> Cursor<'a> {
             return Ok(Stmt::Empty);
         }
         if self.at(Symbol::LeftBrace) {
-            return self.block(alloc);
+            let body = self.statements_in_braces(alloc)?;
+            return Ok(Stmt::Block(body));
         }
         if self.at_name() {
-            return self.named_statement(alloc);
+            let name = self.name(alloc)?;
+            return self.statement_after(alloc, name);
         }
         if self.at_word(Keyword::If) {
             return self.if_statement(alloc);
@@ -73,7 +75,6 @@ impl<'a> Cursor<'a> {
     /// Statements, as long as one begins with what stands next. So many are expected, and room is
     /// taken for those.
     #[cycle(statements)]
-    #[tactic(auto, using(crate::proofs::Steps::steps, crate::proofs::BodySteps::statement_loop))]
     pub fn statements(&mut self, alloc: Global, room: usize) -> Result<Vec<Stmt>, Stop>
         ensures { Reads statements_in (many r.Statement [] done) self.old result self.new }
     {
@@ -97,29 +98,6 @@ impl<'a> Cursor<'a> {
         Ok(body)
     }
 
-    // A block.
-    #[cycle(statements)]
-    #[inline(always)]
-    fn block(&mut self, alloc: Global) -> Result<Stmt, Stop>
-        ensures { ReadsSome statement_of block self.old result self.new }
-    {
-        let body = self.statements_in_braces(alloc)?;
-        Ok(Stmt::Block(body))
-    }
-
-    // A body of one statement that is no block.
-    #[cycle(statements)]
-    #[tactic(auto, using(crate::proofs::Steps::steps))]
-    fn single_body(&mut self, alloc: Global) -> Result<Vec<Stmt>, Stop>
-        ensures { ReadsSome statements_in (one r.Statement (λ x. done (x ∷ [])))
-            self.old result self.new }
-    {
-        let statement = self.statement(alloc)?;
-        let mut body = Vec::with_capacity(alloc, 1)?;
-        body.push(statement)?;
-        Ok(body)
-    }
-
     // A body: statements in braces, or one other statement.
     #[cycle(statements)]
     fn body(&mut self, alloc: Global) -> Result<Vec<Stmt>, Stop>
@@ -128,7 +106,10 @@ impl<'a> Cursor<'a> {
         if self.at(Symbol::LeftBrace) {
             return self.statements_in_braces(alloc);
         }
-        self.single_body(alloc)
+        let statement = self.statement(alloc)?;
+        let mut body = Vec::with_capacity(alloc, 1)?;
+        body.push(statement)?;
+        Ok(body)
     }
 
     // What follows the body of an `if`.
@@ -187,7 +168,6 @@ impl<'a> Cursor<'a> {
 
     // The body of a `for`, after its head.
     #[cycle(statements)]
-    #[tactic(auto, using(crate::proofs::Steps::steps, crate::proofs::TreesMade::bodies), unfolding(inform_grammar::specs::StatementRules::for_body))]
     #[inline(always)]
     fn for_body(
         &mut self,
@@ -229,7 +209,8 @@ impl<'a> Cursor<'a> {
     fn switch_after(&mut self, alloc: Global) -> Result<Stmt, Stop>
         ensures { Reads statement_of switch self.old result self.new }
     {
-        let value = self.switched_value(alloc)?;
+        let value = self.value_in_brackets(alloc)?;
+        self.expect(Symbol::LeftBrace)?;
         self.cases_after(alloc, value)
     }
 
@@ -272,10 +253,12 @@ impl<'a> Cursor<'a> {
         ensures { ReadsSome part_of (one r.Part done) self.old result self.new }
     {
         if self.at_name() {
-            return self.named_part(alloc);
+            let name = self.name(alloc)?;
+            return self.part_after(alloc, name);
         }
         if self.at_bare_constant() {
-            return self.bare_part(alloc);
+            let first = self.constant(alloc)?;
+            return self.head_after(alloc, first);
         }
         let statement = self.statement(alloc)?;
         Ok(Part::Said(statement))
@@ -283,7 +266,6 @@ impl<'a> Cursor<'a> {
 
     // What stands in the braces of a `switch` after the choices of its first case.
     #[cycle(statements)]
-    #[tactic(auto, using(crate::proofs::Steps::steps, crate::proofs::BodySteps::part_loop))]
     fn parts(&mut self, alloc: Global) -> Result<Vec<Part>, Stop>
         ensures { Reads parts_in (many r.Part [] done) self.old result self.new }
     {

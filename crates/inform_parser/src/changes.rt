@@ -1,10 +1,8 @@
 //! Changes, and the statements that begin with a name.
 ghost use Rattle.inform_tree.specs.Statements.{assignment_of, assignment_if_any, statement_of};
-ghost use Rattle.inform_grammar.specs.Rules as r;
 ghost use Rattle.inform_grammar.specs.StatementRules.{change_after, statement_after};
-ghost use Rattle.inform_grammar.specs.Plan.{done, one};
 ghost use Rattle.inform_parser.specs.Reading.{Reads, ReadsSome};
-ghost use Rattle.inform_parser.specs.Plans.{entry_change, change_if_any, named_statement};
+ghost use Rattle.inform_parser.specs.Plans.{change_if_any};
 
 use crate::cursor::Cursor;
 use crate::stops::Stop;
@@ -13,17 +11,6 @@ use inform_tree::{Change, Name, Stmt};
 use std::alloc::Global;
 
 impl<'a> Cursor<'a> {
-    // What follows the name of an array that is changed.
-    fn entry_change(&mut self, alloc: Global, name: Name) -> Result<Change, Stop>
-        ensures { ReadsSome assignment_of (entry_change name) self.old result self.new }
-    {
-        let words = self.arrow()?;
-        let index = self.primary(alloc)?;
-        self.expect(Symbol::Assign)?;
-        let value = self.value(alloc)?;
-        Ok(Change::SetEntry(name, words, index, value))
-    }
-
     // What follows a name that is changed.
     #[inline(always)]
     fn change_after(&mut self, alloc: Global, name: Name) -> Result<Change, Stop>
@@ -35,7 +22,11 @@ impl<'a> Cursor<'a> {
             return Ok(Change::Set(name, value));
         }
         if self.at_arrow() {
-            return self.entry_change(alloc, name);
+            let words = self.arrow()?;
+            let index = self.primary(alloc)?;
+            self.expect(Symbol::Assign)?;
+            let value = self.value(alloc)?;
+            return Ok(Change::SetEntry(name, words, index, value));
         }
         if self.at(Symbol::Increment) {
             self.pass(Symbol::Increment);
@@ -45,14 +36,6 @@ impl<'a> Cursor<'a> {
         Ok(Change::Dec(name))
     }
 
-    // A change.
-    fn change(&mut self, alloc: Global) -> Result<Change, Stop>
-        ensures { ReadsSome assignment_of (one r.Change done) self.old result self.new }
-    {
-        let name = self.name(alloc)?;
-        self.change_after(alloc, name)
-    }
-
     /// A change, if one stands next.
     pub fn change_if_any(&mut self, alloc: Global) -> Result<Option<Change>, Stop>
         ensures { Reads assignment_if_any change_if_any self.old result self.new }
@@ -60,7 +43,8 @@ impl<'a> Cursor<'a> {
         if !self.at_name() {
             return Ok(None);
         }
-        let change = self.change(alloc)?;
+        let name = self.name(alloc)?;
+        let change = self.change_after(alloc, name)?;
         Ok(Some(change))
     }
 
@@ -76,14 +60,5 @@ impl<'a> Cursor<'a> {
         }
         let change = self.change_after(alloc, name)?;
         self.statement_to(Symbol::Semicolon, Stmt::Change(change))
-    }
-
-    /// A statement that begins with a name.
-    #[inline(always)]
-    pub fn named_statement(&mut self, alloc: Global) -> Result<Stmt, Stop>
-        ensures { ReadsSome statement_of named_statement self.old result self.new }
-    {
-        let name = self.name(alloc)?;
-        self.statement_after(alloc, name)
     }
 }

@@ -35,17 +35,7 @@ impl<'a> Cursor<'a> {
         self.range_after(alloc, first)
     }
 
-    // A further choice, after its comma.
-    #[tactic(auto, using(crate::proofs::Steps::steps, crate::proofs::ChoiceSteps::further_choice_as))]
-    fn further_choice(&mut self, alloc: Global) -> Result<(Const, Option<Const>), Stop>
-        ensures { ReadsSome choice_of (one r.FurtherChoice done) self.old result self.new }
-    {
-        self.expect(Symbol::Comma)?;
-        self.choice(alloc)
-    }
-
     // The choices of a case, of which one is read.
-    #[tactic(auto, using(crate::proofs::Steps::steps, crate::proofs::ChoiceSteps::choice_loop))]
     fn choices(
         &mut self,
         alloc: Global,
@@ -57,7 +47,8 @@ impl<'a> Cursor<'a> {
         let mut choices = Vec::with_capacity(alloc, 1)?;
         choices.push(first)?;
         while self.at(Symbol::Comma) {
-            let choice = self.further_choice(alloc)?;
+            self.pass(Symbol::Comma);
+            let choice = self.choice(alloc)?;
             choices.push(choice)?;
         }
         Ok(choices)

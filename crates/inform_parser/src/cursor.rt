@@ -323,30 +323,16 @@ impl<'a> Cursor<'a> {
         self.advance()
     }
 
-    // The number that stands next.
-    #[tactic(auto, using(crate::proofs::SeenKinds::numbers))]
-    #[inline(always)]
-    fn next_number(&self) -> Option<u32>
-        ensures { MatchOption result (heads is_number self.now.rest ≡ false)
-            (λ x. StandsNext (Number x) self.now) }
-    {
-        match self.seen() {
-            Some(Glance::Number(number)) => Some(number),
-            _ => None,
-        }
-    }
-
     /// Takes a number, which must stand next.
     #[tactic(auto, using(crate::proofs::Taking::fails))]
     #[inline(always)]
     pub fn number(&mut self) -> Result<u32, Stop>
         ensures { ReadsSome Number (next_of is_number) self.old result self.new }
     {
-        let Some(number) = self.next_number() else {
+        if !self.at_number() {
             return Err(Stop::Unexpected);
-        };
-        self.skip();
-        Ok(number)
+        }
+        Ok(self.pass_number())
     }
 
     /// Takes the number that stands next.

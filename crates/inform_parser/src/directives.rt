@@ -5,7 +5,7 @@ ghost use Rattle.inform_grammar.specs.Rules as r;
 ghost use Rattle.inform_grammar.specs.Rule.{constant_after, global_after, array_after, routine_after, program};
 ghost use Rattle.inform_grammar.specs.Plan.{done, one, many};
 ghost use Rattle.inform_parser.specs.Reading.{Reads, ReadsSome};
-ghost use Rattle.inform_parser.specs.Views.{name_of, names_in, constants_in, directives_in};
+ghost use Rattle.inform_parser.specs.Views.{names_in, constants_in, directives_in};
 
 use crate::cursor::Cursor;
 use crate::stops::Stop;
@@ -18,7 +18,6 @@ const ROUTINE_ROOM: usize = 4;
 
 impl<'a> Cursor<'a> {
     // The further entries of an array, of which one is read.
-    #[tactic(auto, using(crate::proofs::Steps::steps, crate::proofs::DirectiveSteps::entry_loop))]
     fn entries(&mut self, alloc: Global, first: Const) -> Result<Vec<Const>, Stop>
         ensures { Reads constants_in (many r.Entry (first ∷ []) done) self.old result self.new }
     {
@@ -31,22 +30,13 @@ impl<'a> Cursor<'a> {
         Ok(entries)
     }
 
-    // A local of a routine.
-    #[tactic(auto, using(crate::proofs::Steps::steps, crate::proofs::DirectiveSteps::local_as))]
-    fn local(&mut self, alloc: Global) -> Result<Name, Stop>
-        ensures { ReadsSome name_of (one r.Local done) self.old result self.new }
-    {
-        self.name(alloc)
-    }
-
     // The locals of a routine.
-    #[tactic(auto, using(crate::proofs::Steps::steps, crate::proofs::DirectiveSteps::local_loop))]
     fn locals(&mut self, alloc: Global) -> Result<Vec<Name>, Stop>
         ensures { Reads names_in (many r.Local [] done) self.old result self.new }
     {
         let mut locals = Vec::with_capacity(alloc, usize::from(self.at_name()))?;
         while self.at_name() {
-            let local = self.local(alloc)?;
+            let local = self.name(alloc)?;
             locals.push(local)?;
         }
         Ok(locals)
@@ -120,7 +110,6 @@ impl<'a> Cursor<'a> {
     }
 
     // The directives of a program.
-    #[tactic(auto, using(crate::proofs::Steps::steps, crate::proofs::DirectiveSteps::directive_loop))]
     fn directives(&mut self, alloc: Global) -> Result<Vec<Directive>, Stop>
         ensures { Reads directives_in (many r.Directive [] done) self.old result self.new }
     {

@@ -1,5 +1,4 @@
 //! What was made, once the symbol is read that ends it.
-ghost use Rattle.inform_tree.specs.Values.{expression_of};
 ghost use Rattle.inform_tree.specs.Statements.{statement_of};
 ghost use Rattle.inform_tree.specs.Programs.{directive_of};
 ghost use Rattle.inform_lexemes.specs.declared.symbols.Symbol.TheVariants.{Semicolon};
@@ -12,11 +11,10 @@ use crate::cursor::Cursor;
 use crate::guards::Guard;
 use crate::stops::Stop;
 use inform_lexemes::{Keyword, Symbol};
-use inform_tree::{Directive, Expr, Stmt};
+use inform_tree::{Directive, Stmt};
 
 impl<'a> Cursor<'a> {
     /// A statement that is nothing but this word, and its semicolon.
-    #[tactic(auto, using(crate::proofs::Steps::steps))]
     #[inline(always)]
     pub fn alone(&mut self, keyword: Keyword, made: Stmt) -> Result<Stmt, Stop>
         ensures { ReadsSome statement_of
@@ -29,7 +27,6 @@ impl<'a> Cursor<'a> {
     }
 
     /// A statement, up to this symbol.
-    #[tactic(auto, using(crate::proofs::Steps::steps))]
     #[inline(always)]
     pub fn statement_to(&mut self, symbol: Symbol, made: Stmt) -> Result<Stmt, Stop>
         ensures { ReadsSome statement_of (take (is_sign symbol) (done (statement_of made)))
@@ -39,19 +36,7 @@ impl<'a> Cursor<'a> {
         Ok(made)
     }
 
-    /// An expression, up to this symbol.
-    #[tactic(auto, using(crate::proofs::Steps::steps))]
-    #[inline(always)]
-    pub fn expression_to(&mut self, symbol: Symbol, made: Expr) -> Result<Expr, Stop>
-        ensures { ReadsSome expression_of (take (is_sign symbol) (done (expression_of made)))
-            self.old result self.new }
-    {
-        self.expect(symbol)?;
-        Ok(made)
-    }
-
     /// What stands where a condition is expected, up to this symbol.
-    #[tactic(auto, using(crate::proofs::Steps::steps))]
     #[inline(always)]
     pub fn guard_to(&mut self, symbol: Symbol, made: Guard) -> Result<Guard, Stop>
         ensures { ReadsSome guard_of (take (is_sign symbol) (done (guard_of made)))
@@ -62,7 +47,6 @@ impl<'a> Cursor<'a> {
     }
 
     /// A directive, up to this symbol.
-    #[tactic(auto, using(crate::proofs::Steps::steps))]
     #[inline(always)]
     pub fn directive_to(&mut self, symbol: Symbol, made: Directive) -> Result<Directive, Stop>
         ensures { ReadsSome directive_of (take (is_sign symbol) (done (directive_of made)))

@@ -1,9 +1,11 @@
 //! What stands where a condition is expected.
 ghost use Rattle.std.specs.Prelude.{◌≡◌};
 ghost use Rattle.inform_tree.specs.Conditions.{condition_of};
-ghost use Rattle.inform_grammar.specs.Trees.{condition, joined};
-ghost use Rattle.inform_parser.specs.Guards.{guard_of, join_of, conditions_in};
+ghost use Rattle.inform_grammar.specs.Lexemes.{connective, other_connective};
+ghost use Rattle.inform_grammar.specs.Trees.{condition};
+ghost use Rattle.inform_parser.specs.Guards.{guard_of, join_of};
 
+use inform_lexemes::Symbol;
 use inform_tree::{Cond, Expr};
 
 /// What stands where a condition is expected.
@@ -43,19 +45,25 @@ pub enum Join {
 }
 
 impl Join {
-    ghost use Rattle.inform_tree.specs.Conditions.{condition_of};
-    ghost use Rattle.inform_grammar.specs.Trees.{joined};
-    ghost use Rattle.inform_parser.specs.Guards.{join_of, conditions_in};
-
-    /// The chain of conditions that are joined so.
-    #[tactic(auto, using(crate::proofs::TreesMade::conditions))]
+    /// The symbol by which they are.
     #[inline(always)]
-    pub fn chain(self, members: Vec<Cond>) -> Cond
-        ensures { condition_of result ≡ joined (join_of self) (conditions_in members) }
+    pub fn symbol(self) -> Symbol
+        ensures { result ≡ connective (join_of self) }
     {
         match self {
-            Join::All => Cond::All(members),
-            Join::Any => Cond::Any(members),
+            Join::All => Symbol::And,
+            Join::Any => Symbol::Or,
+        }
+    }
+
+    /// The symbol of the other way.
+    #[inline(always)]
+    pub fn other_symbol(self) -> Symbol
+        ensures { result ≡ other_connective (join_of self) }
+    {
+        match self {
+            Join::All => Symbol::Or,
+            Join::Any => Symbol::And,
         }
     }
 }

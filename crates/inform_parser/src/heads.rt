@@ -3,16 +3,15 @@ ghost use Rattle.inform_grammar.specs.StatementRules.{part_after};
 ghost use Rattle.inform_parser.specs.Reading.{ReadsSome};
 ghost use Rattle.inform_parser.specs.Guards.{guard_of, guard_if_any};
 ghost use Rattle.inform_parser.specs.Parts.{part_of};
-ghost use Rattle.inform_tree.specs.Values.{expression_of};
 ghost use Rattle.inform_tree.specs.Statements.{assignment_if_any};
-ghost use Rattle.inform_parser.specs.Plans.{guard_after, until_test, first_change, last_change, test_to_colon, switched_value, named_part, bare_part};
+ghost use Rattle.inform_parser.specs.Plans.{guard_after, until_test, first_change, last_change, test_to_colon};
 
 use crate::cursor::Cursor;
 use crate::guards::Guard;
 use crate::parts::Part;
 use crate::stops::Stop;
 use inform_lexemes::{Keyword, Symbol};
-use inform_tree::{Change, Const, Expr, Name};
+use inform_tree::{Change, Const, Name};
 use std::alloc::Global;
 
 impl<'a> Cursor<'a> {
@@ -26,7 +25,6 @@ impl<'a> Cursor<'a> {
     }
 
     /// The test of a `do`, with its word and its semicolon.
-    #[tactic(auto, using(crate::proofs::Steps::steps), unfolding(crate::specs::Plans::until_test))]
     #[inline(always)]
     pub fn until_test(&mut self, alloc: Global) -> Result<Guard, Stop>
         ensures { ReadsSome guard_of until_test self.old result self.new }
@@ -57,16 +55,6 @@ impl<'a> Cursor<'a> {
         Ok(last)
     }
 
-    /// The value of a `switch` in its brackets, and the opening brace.
-    #[tactic(auto, using(crate::proofs::Steps::steps), unfolding(crate::specs::Plans::switched_value))]
-    #[inline(always)]
-    pub fn switched_value(&mut self, alloc: Global) -> Result<Expr, Stop>
-        ensures { ReadsSome expression_of switched_value self.old result self.new }
-    {
-        let value = self.value_in_brackets(alloc)?;
-        self.expression_to(Symbol::LeftBrace, value)
-    }
-
     /// The test in the head of a `for`, if there is one, and its colon.
     pub fn test_to_colon(&mut self, alloc: Global) -> Result<Option<Guard>, Stop>
         ensures { ReadsSome guard_if_any test_to_colon self.old result self.new }
@@ -89,23 +77,5 @@ impl<'a> Cursor<'a> {
         }
         let statement = self.statement_after(alloc, name)?;
         Ok(Part::Said(statement))
-    }
-
-    /// What a name begins in the braces of a `switch`.
-    #[inline(always)]
-    pub fn named_part(&mut self, alloc: Global) -> Result<Part, Stop>
-        ensures { ReadsSome part_of named_part self.old result self.new }
-    {
-        let name = self.name(alloc)?;
-        self.part_after(alloc, name)
-    }
-
-    /// What a constant that is no name begins there.
-    #[inline(always)]
-    pub fn bare_part(&mut self, alloc: Global) -> Result<Part, Stop>
-        ensures { ReadsSome part_of bare_part self.old result self.new }
-    {
-        let first = self.constant(alloc)?;
-        self.head_after(alloc, first)
     }
 }

@@ -20,7 +20,7 @@ fn place_before(bytes: &[u8], tokens: &[Token], left: usize) -> usize
     ensures { result ≡ place_before bytes.now tokens.now left }
 {
     match &tokens[tokens.len() - left..] {
-        [token, ..] => token.start,
+        [token, ..] => token.start as usize,
         [] => bytes.len(),
     }
 }

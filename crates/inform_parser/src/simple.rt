@@ -1,6 +1,5 @@
 //! Statements without a body that begin with a word.
 ghost use Rattle.inform_tree.specs.Statements.{statement_of};
-ghost use Rattle.inform_grammar.specs.StatementRules.{return_after, read_after};
 ghost use Rattle.inform_parser.specs.Reading.{ReadsSome};
 ghost use Rattle.inform_parser.specs.Plans.{plain_statement, simple_statement};
 
@@ -11,31 +10,7 @@ use inform_tree::Stmt;
 use std::alloc::Global;
 
 impl<'a> Cursor<'a> {
-    // What follows `return`.
-    #[inline(always)]
-    fn return_after(&mut self, alloc: Global) -> Result<Stmt, Stop>
-        ensures { ReadsSome statement_of return_after self.old result self.new }
-    {
-        if self.at(Symbol::Semicolon) {
-            self.pass(Symbol::Semicolon);
-            return Ok(Stmt::Return(None));
-        }
-        let value = self.value(alloc)?;
-        self.statement_to(Symbol::Semicolon, Stmt::Return(Some(value)))
-    }
-
-    // What follows `read`.
-    #[inline(always)]
-    fn read_after(&mut self, alloc: Global) -> Result<Stmt, Stop>
-        ensures { ReadsSome statement_of read_after self.old result self.new }
-    {
-        let line = self.name(alloc)?;
-        let words = self.name(alloc)?;
-        self.statement_to(Symbol::Semicolon, Stmt::Read(line, words))
-    }
-
     // A statement that is nothing but a word.
-    #[tactic(auto, using(crate::proofs::Steps::steps, crate::proofs::TreesMade::statements), unfolding(crate::specs::Plans::plain_statement))]
     #[inline(always)]
     fn plain_statement(&mut self) -> Result<Stmt, Stop>
         ensures { ReadsSome statement_of plain_statement self.old result self.new }
@@ -69,11 +44,18 @@ impl<'a> Cursor<'a> {
         }
         if self.at_word(Keyword::Return) {
             self.pass_word(Keyword::Return);
-            return self.return_after(alloc);
+            if self.at(Symbol::Semicolon) {
+                self.pass(Symbol::Semicolon);
+                return Ok(Stmt::Return(None));
+            }
+            let value = self.value(alloc)?;
+            return self.statement_to(Symbol::Semicolon, Stmt::Return(Some(value)));
         }
         if self.at_word(Keyword::Read) {
             self.pass_word(Keyword::Read);
-            return self.read_after(alloc);
+            let line = self.name(alloc)?;
+            let words = self.name(alloc)?;
+            return self.statement_to(Symbol::Semicolon, Stmt::Read(line, words));
         }
         self.plain_statement()
     }

@@ -8,12 +8,6 @@ use Rattle.inform_parser.proofs.cursor.Cursor.«+conditions».Given as goal
 abbrev pub decreases-test : goal.decreases-test
 decreases-test l = 8 * length l.self.now.rest + 2
 
-abbrev pub decreases-not_after : goal.decreases-not_after
-decreases-not_after l = 8 * length l.self.now.rest + 1
-
-abbrev pub decreases-bracketed_test : goal.decreases-bracketed_test
-decreases-bracketed_test l = 8 * length l.self.now.rest + 1
-
 abbrev pub decreases-guard_in_brackets : goal.decreases-guard_in_brackets
 decreases-guard_in_brackets l = 8 * length l.self.now.rest
 
@@ -22,12 +16,6 @@ decreases-member l = 8 * length l.self.now.rest + 1
 
 abbrev pub decreases-members : goal.decreases-members
 decreases-members l = 8 * length l.self.now.rest + 2
-
-abbrev pub decreases-members_after : goal.decreases-members_after
-decreases-members_after l = 8 * length l.self.now.rest + 3
-
-abbrev pub decreases-tests_after : goal.decreases-tests_after
-decreases-tests_after l = 8 * length l.self.now.rest + 2
 
 abbrev pub decreases-guard : goal.decreases-guard
 decreases-guard l = 8 * length l.self.now.rest + 3

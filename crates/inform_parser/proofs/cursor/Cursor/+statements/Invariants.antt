@@ -15,12 +15,6 @@ decreases-statements l = 8 * length l.self.now.rest + 4
 abbrev pub decreases-statements_in_braces : goal.decreases-statements_in_braces
 decreases-statements_in_braces l = 8 * length l.self.now.rest
 
-abbrev pub decreases-block : goal.decreases-block
-decreases-block l = 8 * length l.self.now.rest + 1
-
-abbrev pub decreases-single_body : goal.decreases-single_body
-decreases-single_body l = 8 * length l.self.now.rest + 4
-
 abbrev pub decreases-body : goal.decreases-body
 decreases-body l = 8 * length l.self.now.rest + 5
 

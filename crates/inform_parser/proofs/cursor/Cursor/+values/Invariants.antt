@@ -6,20 +6,8 @@ use Rattle.inform_parser.specs.Reading.{read}
 use Rattle.inform_parser.specs.Views.{factor_of, term_of}
 use Rattle.inform_parser.proofs.cursor.Cursor.«+values».Given as goal
 
-abbrev pub decreases-argument : goal.decreases-argument
-decreases-argument l = 8 * length l.self.now.rest + 1
-
-abbrev pub decreases-factor : goal.decreases-factor
-decreases-factor l = 8 * length l.self.now.rest + 1
-
-abbrev pub decreases-term : goal.decreases-term
-decreases-term l = 8 * length l.self.now.rest + 1
-
 abbrev pub decreases-value_in_brackets : goal.decreases-value_in_brackets
 decreases-value_in_brackets l = 8 * length l.self.now.rest
-
-abbrev pub decreases-some_arguments : goal.decreases-some_arguments
-decreases-some_arguments l = 8 * length l.self.now.rest + 6
 
 abbrev pub decreases-primary : goal.decreases-primary
 decreases-primary l = 8 * length l.self.now.rest + 2

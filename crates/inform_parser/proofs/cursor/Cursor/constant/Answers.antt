@@ -12,13 +12,17 @@ pub returns-then-at_character : goal.returns-then-at_character
 unfolding minus_number
 returns-then-at_character c = same_some _ (constant_as _) (other_some _ _ (sym c.at_number.ensures ∙ c.if-at_number.false) (passed _ _ (sym c.at_character.ensures ∙ c.if-at_character.true) c.pass_character.ensures (made _ refl)))
 
+pub returns-in_err-name : goal.returns-in_err-name
+unfolding minus_number
+returns-in_err-name c = same_some _ (constant_as _) (other_some _ _ (sym c.at_number.ensures ∙ c.if-at_number.false) (other_some _ _ (sym c.at_character.ensures ∙ c.if-at_character.false) (there _ _ (sym c.at_name.ensures ∙ c.if-at_name.true) (stops_some _ c.from_residual.result c.from_residual.ensures.1 (only c.in_err-name.ensures)))))
+
 pub returns-then-at_name : goal.returns-then-at_name
 unfolding minus_number
-returns-then-at_name c = same_some _ (constant_as _) (other_some _ _ (sym c.at_number.ensures ∙ c.if-at_number.false) (other_some _ _ (sym c.at_character.ensures ∙ c.if-at_character.false) (there _ _ (sym c.at_name.ensures ∙ c.if-at_name.true) c.named_constant.ensures)))
+returns-then-at_name c = same_some _ (constant_as _) (other_some _ _ (sym c.at_number.ensures ∙ c.if-at_number.false) (other_some _ _ (sym c.at_character.ensures ∙ c.if-at_character.false) (there _ _ (sym c.at_name.ensures ∙ c.if-at_name.true) (follows_some _ c.in_ok-name.ensures (made _ refl)))))
 
 pub returns-in_err-expect : goal.returns-in_err-expect
 unfolding minus_number
-returns-in_err-expect c = same_some _ (constant_as _) (other_some _ _ (sym c.at_number.ensures ∙ c.if-at_number.false) (other_some _ _ (sym c.at_character.ensures ∙ c.if-at_character.false) (other_some _ _ (sym c.at_name.ensures ∙ c.if-at_name.false) (stops_some _ c.from_residual.result c.from_residual.ensures.1 (only c.in_err-expect.ensures)))))
+returns-in_err-expect c = same_some _ (constant_as _) (other_some _ _ (sym c.at_number.ensures ∙ c.if-at_number.false) (other_some _ _ (sym c.at_character.ensures ∙ c.if-at_character.false) (other_some _ _ (sym c.at_name.ensures ∙ c.if-at_name.false) (stops_some _ c.from_residual-in_err-expect.result c.from_residual-in_err-expect.ensures.1 (only c.in_err-expect.ensures)))))
 
 pub returns-in_err-number : goal.returns-in_err-number
 unfolding minus_number

@@ -1,10 +1,5 @@
-use Rattle.std.proofs.Common.{refl}
-use Rattle.inform_lexemes.specs.Lexemes.{Number, is_number}
-use Rattle.inform_parser.proofs.Passing.{stands_there, stands_read}
+use Rattle.std.proofs.Common.{arith}
 use Rattle.inform_parser.proofs.cursor.Cursor.number.Goals as goal
 
-pub skip-requires : goal.skip-requires
-skip-requires c = stands_there Number c.args.self.now c.args.self.now c.in-Some.number c.in-Some.ensures
-
 pub returns : goal.returns
-returns c = stands_read Number c.args.self.now c.skip.new.self c.in-Some.number c.in-Some.ensures is_number refl refl refl c.skip.ensures
+returns c = record { gives = c.pass_number.ensures.gives; ahead = omega arith; taken = c.pass_number.ensures.taken }
