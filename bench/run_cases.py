@@ -1,10 +1,11 @@
 """The cases of bench/compare that are Inform programs to be run: random small programs of all kinds of
-statements, some of them broken in one place, with lines, draws, a number of steps and both widths.
+statements, some of them broken in one place, with names of all lengths, lines, draws, a number of steps and both widths.
 
 A case is (words, files, stdin), as in game_cases.
 """
 
 import random
+import re
 
 GLOBALS = ("g", "h", "count")
 WORDS, BYTES = ("w", "list"), ("b", "line", "parsed")
@@ -145,8 +146,18 @@ class Maker:
         return "\n".join(out + routines) + "\n"
 
 
+NAMES = GLOBALS + WORDS + BYTES + ("f0", "f1", "f2", "f3", "a", "n", "x", "four", "minus")
+
+
+def renamed(r, text):
+    """The same program with names of all lengths, which begin alike."""
+    begin = "q" + "".join(r.choice("abcxyz_09") for _ in range(31))
+    others = {name: begin[:max(0, r.choice((1, 7, 8, 9, 10, 14, 15, 16, 31, 32)) - len(name))] + name for name in NAMES}
+    return re.sub(r"\"[^\"]*\"|'[^']*'|\w+", lambda found: others.get(found.group(), found.group()), text)
+
+
 class Runs:
-    """Random programs, one of eight of them broken."""
+    """Random programs, one of eight of them broken. A third has names of all lengths, and some have very many."""
 
     def __init__(self, seed, count):
         self.seed, self.count = seed, count
@@ -157,6 +168,10 @@ class Runs:
     def case(self, number):
         r = random.Random("%d runs %d" % (self.seed, number))
         text = Maker(r).program()
+        if r.random() < 0.33:
+            text = renamed(r, text)
+        if r.random() < 0.02:
+            text = "".join("Global z%d = %d;\n" % (k, k) for k in range(1500)) + text
         if r.random() < 0.125:
             at = r.randrange(len(text))
             text = text[:at] + r.choice(BREAKS) + text[at + r.choice((0, 0, 1, 3)):]
