@@ -20,8 +20,10 @@ use inform_meaning::{Trap, add};
 use inform_tree::{Change, Expr, Name};
 
 impl<'a> Interpreter<'a> {
-    /// A change.
+    /// A change. It has a call of its own, since what stands in `act` is room on the machine's stack
+    /// for each block that is open.
     #[cycle(parts)]
+    #[inline(never)]
     pub fn alter<C: Console>(
         &mut self,
         x: &'a Change,
