@@ -1,5 +1,5 @@
 //! Calls.
-ghost use Rattle.std.specs.Prelude.{◌≡◌, ◌+◌, ◌<◌, ◌≤◌, ℕ, List, length, IfSome, IfNone, Some, None};
+ghost use Rattle.std.specs.Prelude.{◌≡◌, ◌+◌, ◌<◌, ◌≤◌, ℕ, List, [], length, IfSome, IfNone, Some, None};
 ghost use Rattle.inform_tree.specs.Depths.{arguments_depth, statements_depth};
 ghost use Rattle.inform_tree.specs.Values.{arguments_of};
 ghost use Rattle.inform_tree.specs.Statements.{statements_of};
@@ -81,6 +81,7 @@ impl<'a> Interpreter<'a> {
 
     // The value of a routine that is called, where one call more may be open.
     #[cycle(parts)]
+    #[inline(always)]
     fn enter<C: Console>(
         &mut self,
         directive: usize,
@@ -110,6 +111,7 @@ impl<'a> Interpreter<'a> {
 
     /// A call whose arguments are known: a step, and the routine.
     #[cycle(parts)]
+    #[inline(always)]
     pub fn call<C: Console>(
         &mut self,
         name: &'a Name,
@@ -144,6 +146,7 @@ impl<'a> Interpreter<'a> {
 
     /// A call of which these arguments are known: the others from left to right, and the call.
     #[cycle(parts)]
+    #[inline(always)]
     pub fn arguments<C: Console>(
         &mut self,
         name: &'a Name,
@@ -170,5 +173,25 @@ impl<'a> Interpreter<'a> {
             }
             rest = others;
         }
+    }
+
+    /// A call: its arguments from left to right, and the routine. The room for what is known of it is
+    /// taken here, so that a value without a call takes none.
+    #[cycle(parts)]
+    #[inline(never)]
+    pub fn call_of<C: Console>(
+        &mut self,
+        name: &'a Name,
+        xs: &'a [Expr],
+        draws: &mut Draws,
+        line: &mut Line,
+        console: &mut C,
+    ) -> Result<i32, Exit>
+        requires { IsReady self.old (arguments_depth (arguments_of xs.now) + 1) }
+        ensures { Does (arguments_depth (arguments_of xs.now) + 1) (called_with name.now []
+            (arguments_of xs.now)) self.old self.new (C.seen console.old) (C.seen console.new)
+            draws.old draws.new (ended f.Value self.new result) }
+    {
+        self.arguments(name, Arguments::none(), xs, draws, line, console)
     }
 }

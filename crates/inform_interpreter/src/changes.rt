@@ -20,10 +20,9 @@ use inform_meaning::{Trap, add};
 use inform_tree::{Change, Expr, Name};
 
 impl<'a> Interpreter<'a> {
-    /// A change. It has a call of its own, since what stands in `act` is room on the machine's stack
-    /// for each block that is open.
+    /// A change.
     #[cycle(parts)]
-    #[inline(never)]
+    #[inline(always)]
     pub fn alter<C: Console>(
         &mut self,
         x: &'a Change,
@@ -50,6 +49,25 @@ impl<'a> Interpreter<'a> {
                 Ok(())
             }
         }
+    }
+
+    /// The same in a call of its own, since what stands in `block` is room on the machine's stack for
+    /// each block that is open.
+    #[cycle(parts)]
+    #[inline(never)]
+    pub fn alter_apart<C: Console>(
+        &mut self,
+        x: &'a Change,
+        draws: &mut Draws,
+        line: &mut Line,
+        console: &mut C,
+    ) -> Result<(), Exit>
+        requires { IsReady self.old (assignment_depth (assignment_of x.now) + 1) }
+        ensures { Does (assignment_depth (assignment_of x.now) + 1) (begun (f.Alters
+            (assignment_of x.now))) self.old self.new (C.seen console.old) (C.seen console.new)
+            draws.old draws.new (ended normal self.new result) }
+    {
+        self.alter(x, draws, line, console)
     }
 
     // A variable counts by 1 or -1.
@@ -102,13 +120,10 @@ impl<'a> Interpreter<'a> {
         ensures { (seen : ConsoleView) (given : Supply) → Does 0 (wanted (f.Stores name.now words
             index) a) self.old self.new seen seen given given (ended normal self.new result) }
     {
-        match self.world.entry(name, index) {
-            None => Err(self.trap(Trap::Index)),
-            Some(_) => {
-                self.world.store(name, words, index, a);
-                Ok(())
-            }
+        if self.world.store(name, words, index, a) {
+            return Ok(());
         }
+        Err(self.trap(Trap::Index))
     }
 
     /// An entry whose place is known gets a value.

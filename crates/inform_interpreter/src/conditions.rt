@@ -21,9 +21,33 @@ use inform_meaning::compares;
 use inform_tree::{Cond, Expr, Relation};
 
 impl<'a> Interpreter<'a> {
-    /// Whether a condition holds.
+    /// Whether a condition holds. What stands in most places compares two values, which is looked
+    /// at first, and without a further call.
     #[cycle(parts)]
+    #[inline(always)]
     pub fn test<C: Console>(
+        &mut self,
+        x: &'a Cond,
+        draws: &mut Draws,
+        line: &mut Line,
+        console: &mut C,
+    ) -> Result<bool, Exit>
+        requires { IsReady self.old (condition_depth (condition_of x.now)) }
+        ensures { Does (condition_depth (condition_of x.now)) (begun (f.Tests
+            (condition_of x.now))) self.old self.new (C.seen console.old) (C.seen console.new)
+            draws.old draws.new (ended f.Truth self.new result) }
+    {
+        match x {
+            Cond::Compare(relation, left, right) => {
+                self.compare(*relation, left, right, draws, line, console)
+            }
+            _ => self.test_any(x, draws, line, console),
+        }
+    }
+
+    // Whether a condition of any kind holds.
+    #[cycle(parts)]
+    fn test_any<C: Console>(
         &mut self,
         x: &'a Cond,
         draws: &mut Draws,

@@ -120,7 +120,7 @@ impl<'a> Interpreter<'a> {
                 self.truth_on(truth)
             }
             Begin::Alters(x) => {
-                let done = self.alter(x, draws, line, console);
+                let done = self.alter_apart(x, draws, line, console);
                 self.normal_on(done)
             }
             Begin::Due(x) => {

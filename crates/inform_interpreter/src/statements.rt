@@ -26,7 +26,6 @@ use adv_io::{Console, Line, Taken};
 use inform_frames::{Begin, Decide, Frame, Halt, Want};
 use inform_meaning::Trap;
 use inform_tree::{Case, Change, Cond, Expr, Head, Name, Stmt};
-use inform_worlds::Arguments;
 
 // A change, if there is one.
 fn change_if_any<'a>(change: &'a Option<Change>) -> Option<&'a Change>
@@ -117,7 +116,7 @@ impl<'a> Interpreter<'a> {
             (arguments_of xs.now))) self.old self.new (C.seen console.old) (C.seen console.new)
             draws.old draws.new (ended normal self.new result) }
     {
-        match self.arguments(name, Arguments::none(), xs, draws, line, console) {
+        match self.call_of(name, xs, draws, line, console) {
             Ok(_) => Ok(()),
             Err(exit) => Err(self.leave(exit, Frame::Wants(Want::Forgets))),
         }
@@ -279,9 +278,34 @@ impl<'a> Interpreter<'a> {
         }
     }
 
-    // What a statement does after its step.
+    // What a statement does after its step. Those that stand in most places are looked at first, and
+    // without a further call: so the statements inside them take less room on the machine's stack.
     #[cycle(parts)]
+    #[inline(always)]
     fn act<C: Console>(
+        &mut self,
+        x: &'a Stmt,
+        draws: &mut Draws,
+        line: &mut Line,
+        console: &mut C,
+    ) -> Result<(), Exit>
+        requires { IsReady self.old (2 * statement_depth (statement_of x.now)) }
+        ensures { Does (2 * statement_depth (statement_of x.now)) (acted (statement_of x.now))
+            self.old self.new (C.seen console.old) (C.seen console.new) draws.old draws.new
+            (ended normal self.new result) }
+    {
+        match x {
+            Stmt::Block(body) => self.block(body, draws, line, console),
+            Stmt::Change(change) => self.alter_apart(change, draws, line, console),
+            Stmt::Call(name, xs) => self.call_alone(name, xs, draws, line, console),
+            Stmt::If(test, body, other) => self.branch(test, body, other, draws, line, console),
+            _ => self.act_any(x, draws, line, console),
+        }
+    }
+
+    // What a statement of any kind does after its step.
+    #[cycle(parts)]
+    fn act_any<C: Console>(
         &mut self,
         x: &'a Stmt,
         draws: &mut Draws,
@@ -296,7 +320,7 @@ impl<'a> Interpreter<'a> {
         match x {
             Stmt::Empty => Ok(()),
             Stmt::Block(body) => self.block(body, draws, line, console),
-            Stmt::Change(change) => self.alter(change, draws, line, console),
+            Stmt::Change(change) => self.alter_apart(change, draws, line, console),
             Stmt::Call(name, xs) => self.call_alone(name, xs, draws, line, console),
             Stmt::If(test, body, other) => self.branch(test, body, other, draws, line, console),
             Stmt::While(test, body) => self.turns(while_loop(test, body), draws, line, console),

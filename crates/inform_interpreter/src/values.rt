@@ -18,7 +18,6 @@ use adv_io::{Console, Line};
 use inform_frames::{Begin, Frame, Want};
 use inform_meaning::{Trap, neg};
 use inform_tree::{Expr, Name, ProdOp, SumOp};
-use inform_worlds::Arguments;
 
 // A number of 1 to n by a draw.
 fn drawn(n: i32, draw: u8) -> i32
@@ -78,9 +77,7 @@ impl<'a> Interpreter<'a> {
             Expr::Char(byte) => Ok(i32::from(*byte)),
             Expr::Name(name) => Ok(self.world.value(name)),
             Expr::Entry(name, _, index) => self.entry(name, index, draws, line, console),
-            Expr::Call(name, xs) => {
-                self.arguments(name, Arguments::none(), xs, draws, line, console)
-            }
+            Expr::Call(name, xs) => self.call_of(name, xs, draws, line, console),
             Expr::Random(limit) => self.random(limit, draws, line, console),
             Expr::Neg(operand) => self.negation(operand, draws, line, console),
             Expr::Sum(first, xs) => self.sum(first, xs, draws, line, console),

@@ -1,5 +1,5 @@
 -- Globals and arrays by the numbers of their directives.
-use Rattle.std.proofs.Common.{◌≡◌, ◌∙◌, arith, ℕ, zero, suc, ◌<◌, ℤ, pos, Bool, true, false, List, [], ◌∷◌, length, set, Option, Some, None, refl, sym, ap}
+use Rattle.std.proofs.Common.{◌≡◌, ◌∙◌, arith, ℕ, zero, suc, ◌<◌, ℤ, pos, negsuc, Bool, true, false, List, [], ◌∷◌, length, set, Option, Some, None, refl, sym, ap}
 use Rattle.std.specs.Prelude.{slice_get, slice_set, unwrap_or, if◌then◌else◌}
 use Rattle.std.proofs.Math.Path.{fun_ext}
 use Rattle.std.proofs.lemmas.Option.{slice_get-get_or}
@@ -15,7 +15,7 @@ use Rattle.inform_tree.specs.Programs.{DirectiveTree}
 use Rattle.inform_names.specs.Meanings.{Known, meanings, name_of}
 use Rattle.inform_names.specs.Laws.{MeaningsAreOfDirectives, IsMeaningOf}
 use Rattle.inform_meaning.specs.Tables.{first_of_two, same_name, put_by, renewed}
-use Rattle.inform_meaning.specs.Worlds.{has_room, filled}
+use Rattle.inform_meaning.specs.Worlds.{has_room, filled, entry_at}
 use Rattle.inform_worlds.proofs.Tables.{map_get}
 use Rattle.inform_worlds.specs.Worlds.{kept_by, globals_of, meant_value, is_any_array, arrays_of}
 use Rattle.inform_names.specs.Places.{is_global}
@@ -143,6 +143,11 @@ pub keep_arrays : (known : Known) (arrays : List (List ℤ)) (name : List ℕ) (
 keep_arrays known arrays name entries none = not-renewed is_any_array arrays entries known name none
 
 -- ---- an entry that is stored
+
+-- where there are no entries
+pub no_entry : (index : ℤ) → entry_at [] index ≡ None
+no_entry (pos n) = refl
+no_entry (negsuc n) = refl
 
 module _ {X : Type 0} (f : X → List ℤ) (law : MeaningsAreOfDirectives) (width : Width) (program : List DirectiveTree) (arrays : List X) (name : List ℕ)
     (at : ℕ) (words : Bool) (means : meanings width program name ≡ Some (record { at = at; kind = k.Array words })) (within : at < length arrays) where

@@ -37,7 +37,7 @@ impl Drop for World<'_> {
 }
 
 impl<'a> World<'a> {
-    ghost use Rattle.std.specs.Prelude.{◌≡◌, ◌<◌, ◌≤◌, Bool, true, false, pos, [], length, map, slice_get, unwrap_or, Some, None, IfOk, IfSome, IfNone};
+    ghost use Rattle.std.specs.Prelude.{◌≡◌, ◌<◌, ◌≤◌, Bool, true, false, pos, [], length, map, slice_get, unwrap_or, is_some, Some, None, IfOk, IfSome, IfNone};
     ghost use Rattle.adv_io.specs.declared.lines.TheConstants.{LINE_LIMIT};
     ghost use Rattle.inform_names.specs.declared.meanings.Kind.TheVariants as k;
     ghost use Rattle.inform_meaning.specs.Tables.{renewed};
@@ -109,10 +109,10 @@ impl<'a> World<'a> {
         0
     }
 
-    // The value that a meaning gives a name that is no local.
-    #[inline(always)]
+    // The value that a meaning gives a name that is no local, whatever it is of.
+    #[inline(never)]
     #[tactic(auto, using(crate::proofs::ByNumber::meant_global))]
-    fn meant(&self, meaning: Option<Meaning>) -> i32
+    fn meant_by_any(&self, meaning: Option<Meaning>) -> i32
         ensures { result ≡ meant_value self.now.globals.items meaning }
     {
         match meaning {
@@ -124,6 +124,18 @@ impl<'a> World<'a> {
                 Kind::Array(_) => 0,
                 Kind::Routine(_) => 0,
             },
+        }
+    }
+
+    // The same. Most are of globals.
+    #[inline(always)]
+    #[tactic(auto, using(crate::proofs::ByNumber::meant_global))]
+    fn meant(&self, meaning: Option<Meaning>) -> i32
+        ensures { result ≡ meant_value self.now.globals.items meaning }
+    {
+        match self.global_meant(meaning) {
+            Some(at) => self.globals[at],
+            None => self.meant_by_any(meaning),
         }
     }
 
@@ -264,12 +276,23 @@ impl<'a> World<'a> {
         }
     }
 
+    // The entries of an array, whether or not its name has a slot.
+    #[inline(never)]
+    fn entries_elsewhere(&self, name: &Name) -> &[i32]
+        ensures { result.now ≡ entries_of name.now (world_of self.now) }
+    {
+        self.entries_meant(self.find_elsewhere(name))
+    }
+
     // The entries of an array; none where there is no array of this name.
     #[inline(always)]
     fn entries(&self, name: &Name) -> &[i32]
         ensures { result.now ≡ entries_of name.now (world_of self.now) }
     {
-        self.entries_meant(self.find(name))
+        match self.slots.find(name) {
+            Some(meaning) => self.entries_meant(Some(meaning)),
+            None => self.entries_elsewhere(name),
+        }
     }
 
     /// An entry of an array, if there are such an array and such an entry.
@@ -279,16 +302,65 @@ impl<'a> World<'a> {
         entry(self.entries(name), index)
     }
 
-    /// Another value of an entry of an array, if there are such an array and such an entry.
-    #[tactic(auto, using(crate::proofs::ByNumber::put_array, crate::proofs::ByNumber::kept_array, crate::proofs::ByNumber::keep_arrays))]
-    pub fn store(&mut self, name: &Name, words: bool, index: i32, value: i32)
+    // Another value of an entry of the array that a name means, if there are such an array and such
+    // an entry, and whether there are.
+    #[inline(always)]
+    #[tactic(auto, using(crate::proofs::ByNumber::no_entry))]
+    fn store_meant(
+        &mut self,
+        name: &Name,
+        meaning: Option<Meaning>,
+        words: bool,
+        index: i32,
+        value: i32,
+    ) -> bool
+        requires { names_of self.old.names.accepted.now name.now ≡ meaning }
         ensures names { self.new.names ≡ self.old.names }
-        ensures world { world_of self.new ≡ stored name.now words index value (world_of self.old) }
+        ensures found { result ≡ is_some (entry_at (entries_of name.now (world_of self.old)) index) }
+        ensures same { result ≡ false → self.new ≡ self.old }
+        ensures stored { result ≡ true
+            → world_of self.new ≡ stored name.now words index value (world_of self.old) }
     {
         meanings_are_of_directives();
-        match self.array_meant(self.find(name)) {
-            Some(at) => put(&mut self.arrays[at], index, kept(words, value)),
-            None => {}
+        match self.array_meant(meaning) {
+            Some(at) => {
+                match entry(self.entries_meant(meaning), index) {
+                    None => return false,
+                    Some(_) => {}
+                }
+                put(&mut self.arrays[at], index, kept(words, value));
+                true
+            }
+            None => false,
+        }
+    }
+
+    // The same, whether or not the name has a slot.
+    #[inline(never)]
+    fn store_elsewhere(&mut self, name: &Name, words: bool, index: i32, value: i32) -> bool
+        ensures names { self.new.names ≡ self.old.names }
+        ensures found { result ≡ is_some (entry_at (entries_of name.now (world_of self.old)) index) }
+        ensures same { result ≡ false → self.new ≡ self.old }
+        ensures stored { result ≡ true
+            → world_of self.new ≡ stored name.now words index value (world_of self.old) }
+    {
+        let meaning = self.find_elsewhere(name);
+        self.store_meant(name, meaning, words, index, value)
+    }
+
+    /// Another value of an entry of an array, if there are such an array and such an entry, and
+    /// whether there are.
+    #[inline(always)]
+    pub fn store(&mut self, name: &Name, words: bool, index: i32, value: i32) -> bool
+        ensures names { self.new.names ≡ self.old.names }
+        ensures found { result ≡ is_some (entry_at (entries_of name.now (world_of self.old)) index) }
+        ensures same { result ≡ false → self.new ≡ self.old }
+        ensures stored { result ≡ true
+            → world_of self.new ≡ stored name.now words index value (world_of self.old) }
+    {
+        match self.slots.find(name) {
+            Some(meaning) => self.store_meant(name, Some(meaning), words, index, value),
+            None => self.store_elsewhere(name, words, index, value),
         }
     }
 

@@ -144,11 +144,11 @@ set_entry-returns-in-Err g t c =
 
 pub call_alone-returns-in-Ok : goal.call_alone-returns-in-Ok
 call_alone-returns-in-Ok g t c =
-    uses-at-once (called_with c.args.name.now [] (arguments_of c.args.xs.now)) f.Forgets refl tt (rw (c.none.ensures) at c.in-Ok.ensures) (λ k. refl)
+    uses-at-once (called_with c.args.name.now [] (arguments_of c.args.xs.now)) f.Forgets refl tt c.in-Ok.ensures (λ k. refl)
 
 pub call_alone-returns-in-Err : goal.call_alone-returns-in-Err
 call_alone-returns-in-Err g t c =
-    leaves (called_with c.args.name.now [] (arguments_of c.args.xs.now)) (f.Wants f.Forgets) tt refl tt tt (omega arith) (omega arith) c.leave.ensures.exit (rw (c.none.ensures) at c.in-Err.ensures) c.leave.ensures.joins
+    leaves (called_with c.args.name.now [] (arguments_of c.args.xs.now)) (f.Wants f.Forgets) tt refl tt tt (omega arith) (omega arith) c.leave.ensures.exit c.in-Err.ensures c.leave.ensures.joins
 
 pub branch-returns-in-Ok-true : goal.branch-returns-in-Ok-true
 branch-returns-in-Ok-true g t c =
@@ -294,58 +294,64 @@ product_from-returns-in_default g t c =
     does-as (ap (wanted (f.ProductFrom (factors_of c.args.xs.now))) (sym first)) (then-gives (wanted (f.ProductFrom (factors_of l.rest.now)) (to_z w32 l.product-bits)) refl tt l.invariant.0
     (λ k. ap (λ xs. meant (wanted (f.ProductFrom (factors_of xs)) (to_z w32 l.product-bits)) l.self k) c.in_default.ensures.none))
 
-pub act-returns-in-Empty : goal.act-returns-in-Empty
-act-returns-in-Empty g t c =
+pub act-returns-in_default : goal.act-returns-in_default
+act-returns-in_default g t c = c.act_any.ensures
+
+pub test-returns-in_default : goal.test-returns-in_default
+test-returns-in_default g t c = c.test_any.ensures
+
+pub act_any-returns-in-Empty : goal.act_any-returns-in-Empty
+act_any-returns-in-Empty g t c =
     let is : statement_of c.args.x.now ≡ s.Empty = ap statement_of c.in-Empty.is ∙ statement_of_empty in
     gives-here _ (acted (statement_of c.args.x.now)) (f.Normal) c.args.self.now refl tt c.requires.idle
     (λ lines draws n past. ap (λ x. meant (acted x) c.args.self.now (config_at (place_of c.args.self.now lines draws) n past)) is) (g.C.Console.seen c.args.console.now) c.args.draws.now
 
-pub act-returns-in-Break : goal.act-returns-in-Break
-act-returns-in-Break g t c =
+pub act_any-returns-in-Break : goal.act_any-returns-in-Break
+act_any-returns-in-Break g t c =
     let is : statement_of c.args.x.now ≡ s.Break = ap statement_of c.in-Break.is ∙ statement_of_break in
     gives-here _ (acted (statement_of c.args.x.now)) (f.Breaks) c.args.self.now refl tt c.requires.idle
     (λ lines draws n past. ap (λ x. meant (acted x) c.args.self.now (config_at (place_of c.args.self.now lines draws) n past)) is) (g.C.Console.seen c.args.console.now) c.args.draws.now
 
-pub act-returns-in-Continue : goal.act-returns-in-Continue
-act-returns-in-Continue g t c =
+pub act_any-returns-in-Continue : goal.act_any-returns-in-Continue
+act_any-returns-in-Continue g t c =
     let is : statement_of c.args.x.now ≡ s.Continue = ap statement_of c.in-Continue.is ∙ statement_of_continue in
     gives-here _ (acted (statement_of c.args.x.now)) (f.Continues) c.args.self.now refl tt c.requires.idle
     (λ lines draws n past. ap (λ x. meant (acted x) c.args.self.now (config_at (place_of c.args.self.now lines draws) n past)) is) (g.C.Console.seen c.args.console.now) c.args.draws.now
 
-pub act-returns-in-Rtrue : goal.act-returns-in-Rtrue
-act-returns-in-Rtrue g t c =
+pub act_any-returns-in-Rtrue : goal.act_any-returns-in-Rtrue
+act_any-returns-in-Rtrue g t c =
     let is : statement_of c.args.x.now ≡ s.Rtrue = ap statement_of c.in-Rtrue.is ∙ statement_of_rtrue in
     gives-here _ (acted (statement_of c.args.x.now)) (f.Returns (pos 1)) c.args.self.now refl tt c.requires.idle
     (λ lines draws n past. ap (λ x. meant (acted x) c.args.self.now (config_at (place_of c.args.self.now lines draws) n past)) is) (g.C.Console.seen c.args.console.now) c.args.draws.now
 
-pub act-returns-in-Rfalse : goal.act-returns-in-Rfalse
-act-returns-in-Rfalse g t c =
+pub act_any-returns-in-Rfalse : goal.act_any-returns-in-Rfalse
+act_any-returns-in-Rfalse g t c =
     let is : statement_of c.args.x.now ≡ s.Rfalse = ap statement_of c.in-Rfalse.is ∙ statement_of_rfalse in
     gives-here _ (acted (statement_of c.args.x.now)) (f.Returns (pos 0)) c.args.self.now refl tt c.requires.idle
     (λ lines draws n past. ap (λ x. meant (acted x) c.args.self.now (config_at (place_of c.args.self.now lines draws) n past)) is) (g.C.Console.seen c.args.console.now) c.args.draws.now
 
-pub act-returns-in-Quit : goal.act-returns-in-Quit
-act-returns-in-Quit g t c =
+pub act_any-returns-in-Quit : goal.act_any-returns-in-Quit
+act_any-returns-in-Quit g t c =
     let is : statement_of c.args.x.now ≡ s.Quit = ap statement_of c.in-Quit.is ∙ statement_of_quit in
     subst (λ e. Does (2 * statement_depth (statement_of c.args.x.now)) (acted (statement_of c.args.x.now)) c.args.self.now c.quit.new.self (g.C.Console.seen c.args.console.now) (g.C.Console.seen c.args.console.now) c.args.draws.now c.args.draws.now e)
     (sym (ap (left_by c.quit.new.self) c.quit.ensures.exit ∙ ap (λ i. stop_in (waiting_in c.quit.new.self) i.stopped) c.quit.ensures.over))
     (quits (2 * statement_depth (statement_of c.args.x.now)) (acted (statement_of c.args.x.now)) c.args.self.now c.quit.new.self (g.C.Console.seen c.args.console.now) c.args.draws.now c.quit.ensures.over c.requires.idle
     (λ k. ap (λ x. meant (acted x) c.args.self.now k) is))
 
-pub act-returns-in-While : goal.act-returns-in-While
-act-returns-in-While g t c =
+pub act_any-returns-in-While : goal.act_any-returns-in-While
+act_any-returns-in-While g t c =
     let is : statement_of c.args.x.now ≡ s.While (condition_of c.in-While.test) (statements_of c.in-While.body.items) = ap statement_of c.in-While.is ∙ statement_of_while c.in-While.test c.in-While.body in
     let l = while_loop (condition_of c.in-While.test) (statements_of c.in-While.body.items) in
     let fits : loop_height l ≤ 2 * statement_depth (s.While (condition_of c.in-While.test) (statements_of c.in-While.body.items)) = omega arith in
     rw (is) (more-frames (subst (λ l. loop_height l ≤ 2 * statement_depth (s.While (condition_of c.in-While.test) (statements_of c.in-While.body.items))) (sym c.while_loop.ensures) fits) (does-as (ap (λ l. begun (f.TurnDue l)) (sym c.while_loop.ensures)) c.turns.ensures))
 
-pub act-returns-in-NewLine : goal.act-returns-in-NewLine
-act-returns-in-NewLine g t c =
+pub act_any-returns-in-NewLine : goal.act_any-returns-in-NewLine
+act_any-returns-in-NewLine g t c =
     let is : statement_of c.args.x.now ≡ s.NewLine = ap statement_of c.in-NewLine.is ∙ statement_of_new_line in
     rw (is) (says-does 2 (10 ∷ []) c.say.result c.args.self.now c.say.new.self (g.C.Console.seen c.args.console.now) (g.C.Console.seen c.say.new.console) c.args.draws.now c.requires.idle c.say.ensures)
 
-pub act-returns-in-Read : goal.act-returns-in-Read
-act-returns-in-Read g t c =
+pub act_any-returns-in-Read : goal.act_any-returns-in-Read
+act_any-returns-in-Read g t c =
     let is : statement_of c.args.x.now ≡ s.Read c.in-Read.name c.in-Read.field-1 = ap statement_of c.in-Read.is ∙ statement_of_read c.in-Read.name c.in-Read.field-1 in
     rw (is) (c.read.ensures c.in-Read.field-1 c.args.draws.now)
 
@@ -777,3 +783,9 @@ enter-returns g t c = λ name found.
     (g.C.Console.seen c.args.console.now) (g.C.Console.seen c.block-result.new.console) c.args.draws.now c.block-result.new.draws found (λ d. refl)
     world c.enter.ensures.names refl refl (omega (arith, c.requires.some)) (omega (arith, c.requires.shallow))
     (mid.room + 1) refl c.block-result.result (rw (c.deref.ensures.value) at c.block-result.ensures) (rw (caller) at c.come_back.ensures.comes_back))
+
+pub call_of-returns : goal.call_of-returns
+call_of-returns g t c = rw (c.none.ensures) at c.arguments.ensures
+
+pub alter_apart-returns : goal.alter_apart-returns
+alter_apart-returns g t c = c.alter.ensures

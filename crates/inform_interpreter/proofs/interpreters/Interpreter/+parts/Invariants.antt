@@ -46,6 +46,9 @@ decreases-product g l = most l.self.now.room (max (expression_depth (expression_
 abbrev pub decreases-product_from : goal.decreases-product_from
 decreases-product_from g l = most l.self.now.room (factors_depth (factors_of l.xs.now) + 1) + 2
 
+abbrev pub decreases-call_of : goal.decreases-call_of
+decreases-call_of g l = most l.self.now.room (arguments_depth (arguments_of l.xs.now) + 1) + 3
+
 abbrev pub decreases-arguments : goal.decreases-arguments
 decreases-arguments g l = most l.self.now.room (arguments_depth (arguments_of l.xs.now) + 1) + 2
 
@@ -56,7 +59,10 @@ abbrev pub decreases-enter : goal.decreases-enter
 decreases-enter g l = most l.self.now.room (1) + 0
 
 abbrev pub decreases-test : goal.decreases-test
-decreases-test g l = most l.self.now.room (condition_depth (condition_of l.x.now)) + 4
+decreases-test g l = most l.self.now.room (condition_depth (condition_of l.x.now)) + 5
+
+abbrev pub decreases-test_any : goal.decreases-test_any
+decreases-test_any g l = most l.self.now.room (condition_depth (condition_of l.x.now)) + 4
 
 abbrev pub decreases-compare : goal.decreases-compare
 decreases-compare g l = most l.self.now.room (max (expression_depth (expression_of l.left.now)) (expression_depth (expression_of l.right.now)) + 1) + 3
@@ -77,10 +83,13 @@ abbrev pub decreases-any : goal.decreases-any
 decreases-any g l = most l.self.now.room (conditions_depth (conditions_of l.xs.now) + 1) + 3
 
 abbrev pub decreases-test_if_any : goal.decreases-test_if_any
-decreases-test_if_any g l = most l.self.now.room (optional_depth condition_depth (option_map (λ x. condition_of x.now) l.x)) + 5
+decreases-test_if_any g l = most l.self.now.room (optional_depth condition_depth (option_map (λ x. condition_of x.now) l.x)) + 6
 
 abbrev pub decreases-alter : goal.decreases-alter
 decreases-alter g l = most l.self.now.room (assignment_depth (assignment_of l.x.now) + 1) + 4
+
+abbrev pub decreases-alter_apart : goal.decreases-alter_apart
+decreases-alter_apart g l = most l.self.now.room (assignment_depth (assignment_of l.x.now) + 1) + 5
 
 abbrev pub decreases-set : goal.decreases-set
 decreases-set g l = most l.self.now.room (expression_depth (expression_of l.x.now) + 1) + 3
@@ -131,10 +140,13 @@ abbrev pub decreases-give : goal.decreases-give
 decreases-give g l = most l.self.now.room (2 * statement_depth (s.Return (option_map expression_of l.value.now))) + 4
 
 abbrev pub decreases-act : goal.decreases-act
-decreases-act g l = most l.self.now.room (2 * statement_depth (statement_of l.x.now)) + 5
+decreases-act g l = most l.self.now.room (2 * statement_depth (statement_of l.x.now)) + 6
+
+abbrev pub decreases-act_any : goal.decreases-act_any
+decreases-act_any g l = most l.self.now.room (2 * statement_depth (statement_of l.x.now)) + 5
 
 abbrev pub decreases-exec : goal.decreases-exec
-decreases-exec g l = most l.self.now.room (2 * statement_depth (statement_of l.x.now)) + 6
+decreases-exec g l = most l.self.now.room (2 * statement_depth (statement_of l.x.now)) + 7
 
 abbrev pub decreases-block : goal.decreases-block
 decreases-block g l = most l.self.now.room (2 * statements_depth (statements_of l.xs.now) + 1) + 0

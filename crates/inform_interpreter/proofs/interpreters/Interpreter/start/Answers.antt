@@ -17,7 +17,7 @@ pub returns-in-Tests : goal.returns-in-Tests
 returns-in-Tests g c = rw (c.in-Tests.is, c.truth_on.ensures) c.test-truth.ensures
 
 pub returns-in-Alters : goal.returns-in-Alters
-returns-in-Alters g c = rw (c.in-Alters.is, c.normal_on.ensures) c.alter-done.ensures
+returns-in-Alters g c = rw (c.in-Alters.is, c.normal_on.ensures) c.alter_apart-done.ensures
 
 pub returns-in-Due : goal.returns-in-Due
 returns-in-Due g c = rw (c.in-Due.is, c.normal_on-in-Due.ensures) c.exec-done.ensures
