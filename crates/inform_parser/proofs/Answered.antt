@@ -1,5 +1,5 @@
 -- What the parser's answer tells of sentences and faults.
-use Rattle.std.proofs.Common.{◌⊎◌, inl, inr, ◌≡◌, ℕ, List, [], length, Ok, Err, Result, refl, ap, ◌∙◌, sym}
+use Rattle.std.proofs.Common.{◌⊎◌, inl, inr, ◌≡◌, ℕ, List, [], length, Ok, Err, Result, refl, ap, ◌∙◌, sym, subst}
 use Rattle.inform_tree.specs.Programs.{DirectiveTree}
 use Rattle.inform_lexer.specs.declared.kinds.Token.{Token}
 use Rattle.inform_lexer.specs.Spans.{lexemes}
@@ -71,9 +71,24 @@ module _ (bytes : List ℕ) (tokens : List Token) (after : Input) where
   expected stop.TooDeep at e h f g = inl (ap TooDeep h ∙ ap (fault_answer bytes tokens) (same_fault kind.TooDeep f e g))
   expected stop.Memory at e h f g = inr refl
 
+-- ---- what is answered: the fault that a stop is, or that memory ran out
+
+abbrev IsOrMemory : ParseFault → ParseFault → Type 0
+IsOrMemory answer fault = (answer ≡ fault) ⊎ (answer ≡ Memory)
+
+pub is_memory : (answer fault : ParseFault) → IsOrMemory answer fault → fault ≡ Memory → answer ≡ Memory
+is_memory answer fault (inl e) h = e ∙ h
+is_memory answer fault (inr e) h = e
+
+pub is_fault : (bytes : List ℕ) (tokens : List Token) (answer fault : ParseFault) → IsOrMemory answer fault → IsFaultOf bytes tokens fault
+    → IsFaultOf bytes tokens answer
+is_fault bytes tokens answer fault (inl e) h = subst (IsFaultOf bytes tokens) (sym e) h
+is_fault bytes tokens answer fault (inr e) h = subst (IsFaultOf bytes tokens) (sym e) tt
+
 abbrev refusal : ParseFault → Result Program ParseFault
 refusal f = Err f
 
-pub refused : (x y : ParseFault) → (x ≡ y) ⊎ (x ≡ Memory) → IsErrOr Memory (refusal x) y
-refused x y (inl e) = inl (ap refusal e)
-refused x y (inr e) = inr (ap refusal e)
+pub refused : (answer fault expected : ParseFault) → IsOrMemory answer fault → IsOrMemory fault expected → IsErrOr Memory (refusal answer) expected
+refused answer fault expected (inl e) (inl h) = inl (ap refusal (e ∙ h))
+refused answer fault expected (inl e) (inr h) = inr (ap refusal (e ∙ h))
+refused answer fault expected (inr e) h = inr (ap refusal e)

@@ -1,8 +1,7 @@
 -- What a glance tells of a lexeme.
 use denote.Enum.Declared.{tag_of}
 use denote.Enum.Bare.{sameb}
-use Rattle.std.proofs.Common.{◌≡◌, ℕ, suc, ◌<◌, Bool, true, false, List, [], ◌∷◌, drop, Option, Some, None, Ok, Err, refl, sym, ap, ap₂, ◌∙◌, cond, eqb, take, length, ◌-◌, arith}
-use Rattle.std.proofs.lemmas.Grind.{common_steps}
+use Rattle.std.proofs.Common.{◌≡◌, ℕ, suc, ◌<◌, Bool, true, false, List, [], ◌∷◌, drop, Option, Some, None, Ok, Err, refl, sym, ap, ap₂, ◌∙◌, cond, eqb, length, arith}
 use Rattle.inform_lexemes.specs.declared.symbols.Symbol.{Symbol}
 use Rattle.inform_lexemes.specs.declared.symbols.Symbol.TheVariants.{Semicolon, LeftRound}
 use Rattle.inform_lexemes.specs.declared.keywords.Keyword.{Keyword}
@@ -14,8 +13,7 @@ use Rattle.inform_lexemes.specs.Keywords.{keyword_number, same_keyword}
 use Rattle.inform_lexemes.specs.Lexemes.{Lexeme, Word, Sign, is_sign, is_word}
 use Rattle.inform_lexer.specs.declared.glances.Glance.{Glance}
 use Rattle.inform_lexer.specs.declared.glances.Glance.TheVariants as g
-use Rattle.inform_lexer.specs.declared.kinds.Token.{Token}
-use Rattle.inform_lexer.specs.Spans.{glance_of, lexemes}
+use Rattle.inform_lexer.specs.Spans.{glance_of}
 use Rattle.inform_grammar.specs.Lexemes.{heads, is_opener, is_closer, one_less}
 use Rattle.inform_grammar.specs.Faults.{Unexpected, TooDeep, fault}
 use Rattle.inform_grammar.specs.Plan.{done}
@@ -51,10 +49,6 @@ pub keywords : (a b : Keyword) (xs : List Lexeme) → first_glance xs ≡ Some (
 keywords a b xs e = ap₂ (λ m n. eqb m n) (tag_of_keyword a) (tag_of_keyword b) ∙ sym (word_seen a b xs e)
 
 -- ---- a lexeme that is taken
-
--- the first of these tokens is taken away
-rest_lexemes : (bytes : List ℕ) (t : Token) (ts : List Token) → lexemes bytes (take (length (t ∷ ts) - 1) (drop 1 (t ∷ ts))) ≡ drop 1 (lexemes bytes (t ∷ ts))
-rest_lexemes bytes t ts = ap (lexemes bytes) (grind (arith, common_steps))
 
 opener_seen : (x : Lexeme) → is_opener x ≡ opens (glance_of x)
 opener_seen (Sign LeftRound) = refl
@@ -98,17 +92,13 @@ seen_taken (y ∷ ys) n x e =
     let same : glance_of y ≡ x = cc in taken_by y ys n ∙ ap (λ g. taken_as (y ∷ ys) n (opened_within g n)) same
 
 -- fewer are left
-pub fewer_left : (bytes : List ℕ) (ts : List Token) (x : Glance) → first_glance (lexemes bytes ts) ≡ Some x
-    → length (lexemes bytes (take (length ts - 1) (drop 1 ts))) < length (lexemes bytes ts)
-fewer_left bytes [] x e = absurd (cc)
-fewer_left bytes (t ∷ ts) x e = omega (arith, ap length (rest_lexemes bytes t ts))
+pub fewer_left : (xs : List Lexeme) (x : Glance) → first_glance xs ≡ Some x → length (drop 1 xs) < length xs
+fewer_left [] x e = absurd (cc)
+fewer_left (y ∷ ys) x e = omega arith
 
 pub no_room : (s : Input) (x : Glance) → first_glance s.rest ≡ Some x → opened_within x s.opened ≡ None → read any_next s ≡ Err (fault TooDeep s.rest)
 no_room s x e h = seen_taken s.rest s.opened x e ∙ ap (taken_as s.rest s.opened) h
 
-pub one_taken : (bytes : List ℕ) (ts : List Token) (n m : ℕ) (x : Glance) → first_glance (lexemes bytes ts) ≡ Some x → opened_within x n ≡ Some m
-    → read any_next (input n (lexemes bytes ts)) ≡ Ok (tt, input m (lexemes bytes (take (length ts - 1) (drop 1 ts))))
-one_taken bytes [] n m x e h = absurd (cc)
-one_taken bytes (t ∷ ts) n m x e h =
-    seen_taken (lexemes bytes (t ∷ ts)) n x e ∙ ap (taken_as (lexemes bytes (t ∷ ts)) n) h
-    ∙ ap (λ xs. Ok (tt, input m xs)) (sym (rest_lexemes bytes t ts))
+pub one_taken : (s : Input) (m : ℕ) (x : Glance) → first_glance s.rest ≡ Some x → opened_within x s.opened ≡ Some m
+    → read any_next s ≡ Ok (tt, input m (drop 1 s.rest))
+one_taken s m x e h = seen_taken s.rest s.opened x e ∙ ap (taken_as s.rest s.opened) h

@@ -10,7 +10,7 @@ use Rattle.inform_grammar.specs.Reading.{Input, Answer}
 use Rattle.inform_grammar.proofs.Binding.{and_then}
 use Rattle.inform_parser.specs.declared.stops.Stop.{Stop}
 use Rattle.inform_parser.specs.declared.stops.Stop.TheVariants as stop
-use Rattle.inform_parser.specs.Reading.{read, StopsAt, Answered, Gives, Reads, ReadsSome, Passes, shut_spot}
+use Rattle.inform_parser.specs.Reading.{read, StopsAt, Answered, Reads, ReadsSome, Passes, shut_spot}
 use Rattle.inform_parser.specs.Nexts.{next_of}
 use Rattle.inform_parser.proofs.Steps.{continued, read-done, read-then, read-shut, stops-then, next_yes, next_no, ends-done}
 

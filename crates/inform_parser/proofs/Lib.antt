@@ -1,4 +1,5 @@
 pub mod Glances
+pub mod Backwards
 pub mod Steps
 pub mod Taking
 pub mod Passing

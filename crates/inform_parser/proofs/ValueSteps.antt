@@ -16,6 +16,7 @@ use Rattle.inform_grammar.specs.ValueRules.{number_in, minus_number, constant, e
 use Rattle.inform_grammar.specs.Plan.{Plan, done, refuse, next, ◌>>=◌, take, one, many}
 use Rattle.inform_grammar.specs.Rule.{rule}
 use Rattle.inform_grammar.specs.Reading.{Input, input, step, reads, within_limit}
+use Rattle.inform_grammar.specs.Trees.{product_of, sum_of}
 use Rattle.inform_grammar.proofs.Steps.{starts, one-as, many-no, many-yes, done-here}
 use Rattle.inform_parser.specs.declared.stops.Stop.{Stop}
 use Rattle.inform_parser.specs.Reading.{read, ReadsSome, Passes}
@@ -238,6 +239,11 @@ pub factor_last : (front : List (ProdOp × Expression)) (s : Input) → heads is
 unfolding read
 factor_last front s e = many-no within_limit s.rest r.Factor (rw (factor_starts s.rest) at e) front done s.opened ∙ done-here within_limit s.rest front s.opened
 
+-- a first factor by itself
+pub factor_alone : (x : Expression) (s : Input) → heads is_factor_sign s.rest ≡ false → read (factors_after x) s ≡ Ok (x, s)
+unfolding read factors_after
+factor_alone x s e = many-no within_limit s.rest r.Factor (rw (factor_starts s.rest) at e) [] (λ ys. done (product_of x ys)) s.opened ∙ done-here within_limit s.rest x s.opened
+
 term_starts : (xs : List Lexeme) → heads is_term_sign xs ≡ heads (starts r.Term) xs
 unfolding rule term
 term_starts [] = refl
@@ -252,3 +258,8 @@ term_more front s e = many-yes within_limit s.rest r.Term (rw (term_starts s.res
 pub term_last : (front : List (SumOp × Expression)) (s : Input) → heads is_term_sign s.rest ≡ false → read (many r.Term front done) s ≡ Ok (front, s)
 unfolding read
 term_last front s e = many-no within_limit s.rest r.Term (rw (term_starts s.rest) at e) front done s.opened ∙ done-here within_limit s.rest front s.opened
+
+-- a first term by itself
+pub term_alone : (x : Expression) (s : Input) → heads is_term_sign s.rest ≡ false → read (terms_after x) s ≡ Ok (x, s)
+unfolding read terms_after
+term_alone x s e = many-no within_limit s.rest r.Term (rw (term_starts s.rest) at e) [] (λ ys. done (sum_of x ys)) s.opened ∙ done-here within_limit s.rest x s.opened

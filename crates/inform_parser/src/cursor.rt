@@ -1,5 +1,5 @@
 //! The tokens that are left, and how many brackets and statements are open.
-ghost use Rattle.std.specs.Prelude.{◌≡◌, ◌≤◌, IfOk, MatchOption, length, drop, true, false};
+ghost use Rattle.std.specs.Prelude.{◌≡◌, ◌≤◌, IfOk, MatchOption, length, drop, reverse, true, false};
 ghost use Rattle.inform_lexemes.specs.Lexemes.{Word, Name as NameLexeme, Number, Character, Quoted, Sign, is_sign, is_word, is_name, is_number, is_character, is_quoted};
 ghost use Rattle.inform_lexer.specs.Spans.{lexemes};
 ghost use Rattle.inform_grammar.specs.Lexemes.{heads, is_arrow, is_factor_sign, is_term_sign, is_relation, relation_in, is_opener, is_closer};
@@ -19,35 +19,38 @@ use std::marker::Model;
 
 /// The tokens that are left, with the first of them at a glance.
 ///
-/// A clause sees how many brackets and statements are open, and the lexemes of the tokens.
+/// A clause sees how many brackets and statements are open, and the lexemes of the tokens. The next
+/// token stands last, so that it can be taken off and the memory of those that were taken given
+/// back.
 #[derive(Drop)]
 pub struct Cursor<'a> {
     bytes: &'a [u8],
-    rest: &'a [Token],
+    rest: Vec<Token>,
     seen: Option<Glance>,
     opened: usize,
 }
 
 impl<'a> Model for Cursor<'a> {
-    ghost use Rattle.std.specs.Prelude.{◌≡◌};
+    ghost use Rattle.std.specs.Prelude.{◌≡◌, reverse};
     ghost use Rattle.inform_lexer.specs.Spans.{lexemes};
     ghost use Rattle.inform_grammar.specs.Reading.{Input, input};
     ghost use Rattle.inform_parser.specs.Glances.{first_glance};
 
     ghost Value = { Input };
 
-    ghost view = { λ c. input c.opened (lexemes c.bytes.now c.rest.now) };
+    ghost view = { λ c. input c.opened (lexemes c.bytes.now (reverse c.rest.items)) };
 
-    ghost invariant = { λ c. c.seen ≡ first_glance (lexemes c.bytes.now c.rest.now) };
+    ghost invariant = { λ c. c.seen
+        ≡ first_glance (lexemes c.bytes.now (reverse c.rest.items)) };
 }
 
-// Sees the first of these tokens.
+// Sees the last of these tokens.
 #[inline(never)]
 fn see(seen: &mut Option<Glance>, bytes: &[u8], tokens: &[Token])
-    ensures { seen.new ≡ first_glance (lexemes bytes.now tokens.now) }
+    ensures { seen.new ≡ first_glance (lexemes bytes.now (reverse tokens.now)) }
 {
     *seen = match tokens {
-        [token, ..] => Some(glance(bytes, *token)),
+        [.., token] => Some(glance(bytes, *token)),
         [] => None,
     };
 }
@@ -113,16 +116,27 @@ fn relation_by(symbol: Symbol) -> Option<Relation>
 
 impl<'a> Cursor<'a> {
     /// The cursor before the first of these tokens, which are those of these bytes.
-    pub fn new(bytes: &'a [u8], tokens: &'a [Token]) -> Cursor<'a>
-        ensures { result ≡ input 0 (lexemes bytes.now tokens.now) }
+    pub fn new(bytes: &'a [u8], mut tokens: Vec<Token>) -> Cursor<'a>
+        ensures { result ≡ input 0 (lexemes bytes.now tokens.items) }
     {
+        tokens.reverse();
         let mut seen = None;
-        see(&mut seen, bytes, tokens);
+        see(&mut seen, bytes, &tokens);
         Cursor {
             bytes,
             rest: tokens,
             seen,
             opened: 0,
+        }
+    }
+
+    /// Gives back the memory of the tokens that were taken, where they are no fewer than those that
+    /// are left.
+    pub fn give_back(&mut self)
+        ensures { self.new ≡ self.old }
+    {
+        if self.rest.len() <= self.rest.capacity() / 2 {
+            self.rest.shrink_to_fit();
         }
     }
 
@@ -260,8 +274,7 @@ impl<'a> Cursor<'a> {
             return Err(Stop::TooDeep);
         };
         self.opened = opened;
-        self.rest = &self.rest[1..];
-        see(&mut self.seen, self.bytes, self.rest);
+        self.skip();
         Ok(())
     }
 
@@ -271,8 +284,8 @@ impl<'a> Cursor<'a> {
         requires { 1 ≤ length self.old.rest }
         ensures { self.new ≡ input self.old.opened (drop 1 self.old.rest) }
     {
-        self.rest = &self.rest[1..];
-        see(&mut self.seen, self.bytes, self.rest);
+        self.rest.take_last();
+        see(&mut self.seen, self.bytes, &self.rest);
     }
 
     /// Takes this symbol, which stands next, and opens nothing and closes nothing.
@@ -366,7 +379,7 @@ impl<'a> Cursor<'a> {
     }
 
     // The name that stands next.
-    #[tactic(auto, using(crate::proofs::SeenKinds::names))]
+    #[tactic(auto, using(crate::proofs::SeenKinds::names, crate::proofs::Backwards::lexeme_first))]
     #[inline(always)]
     fn next_name(&self, alloc: Global) -> Result<Option<Name>, Memory>
         ensures { IfOk result (λ found. MatchOption found (heads is_name self.now.rest ≡ false)
@@ -375,7 +388,7 @@ impl<'a> Cursor<'a> {
         if !self.at_name() {
             return Ok(None);
         }
-        let [token, ..] = self.rest else {
+        let [.., token] = self.rest.as_slice() else {
             return Ok(None);
         };
         Ok(Some(name(alloc, self.bytes, *token)?))
@@ -394,7 +407,7 @@ impl<'a> Cursor<'a> {
     }
 
     // The text of the string that stands next.
-    #[tactic(auto, using(crate::proofs::SeenKinds::texts))]
+    #[tactic(auto, using(crate::proofs::SeenKinds::texts, crate::proofs::Backwards::lexeme_first))]
     fn next_text(&self, alloc: Global) -> Result<Option<Text>, Memory>
         ensures { IfOk result (λ found. MatchOption found (heads is_quoted self.now.rest ≡ false)
             (λ x. StandsNext (Quoted x) self.now)) }
@@ -402,7 +415,7 @@ impl<'a> Cursor<'a> {
         if !self.at_text() {
             return Ok(None);
         }
-        let [token, ..] = self.rest else {
+        let [.., token] = self.rest.as_slice() else {
             return Ok(None);
         };
         Ok(Some(text(alloc, self.bytes, *token)?))

@@ -117,6 +117,7 @@ impl<'a> Cursor<'a> {
         while self.at_directive() {
             let directive = self.directive(alloc)?;
             directives.push(directive)?;
+            self.give_back();
         }
         Ok(directives)
     }

@@ -179,13 +179,16 @@ impl<'a> Cursor<'a> {
         Ok(factors)
     }
 
-    /// A product with its first factor read; a factor by itself is none.
+    /// A product with its first factor read; a factor by itself, as in most places, is none.
     #[cycle(values)]
     #[inline(always)]
     pub fn factors_after(&mut self, alloc: Global, first: Expr) -> Result<Expr, Stop>
         ensures { Reads expression_of (factors_after (expression_of first))
             self.old result self.new }
     {
+        if !self.at_factor() {
+            return Ok(first);
+        }
         let factors = self.factors(alloc)?;
         if factors.is_empty() {
             return Ok(first);
@@ -217,12 +220,15 @@ impl<'a> Cursor<'a> {
         Ok(terms)
     }
 
-    /// A sum with its first term read; a term by itself is none.
+    /// A sum with its first term read; a term by itself, as in most places, is none.
     #[cycle(values)]
     #[inline(always)]
     pub fn terms_after(&mut self, alloc: Global, first: Expr) -> Result<Expr, Stop>
         ensures { Reads expression_of (terms_after (expression_of first)) self.old result self.new }
     {
+        if !self.at_term() {
+            return Ok(first);
+        }
         let terms = self.terms(alloc)?;
         if terms.is_empty() {
             return Ok(first);

@@ -36,8 +36,8 @@ fn read_tokens(alloc: Global, bytes: &[u8]) -> Result<Vec<Token>, ProgramFault>
 
 // The program of tokens.
 #[tactic(auto, using(crate::proofs::Answers::program_told))]
-fn read_tree(alloc: Global, found: &[Token], bytes: &[u8]) -> Result<Program, ProgramFault>
-    requires { Spelled bytes.now found.now }
+fn read_tree(alloc: Global, found: Vec<Token>, bytes: &[u8]) -> Result<Program, ProgramFault>
+    requires { Spelled bytes.now found.items }
     ensures found { IfOk result (λ p. text.program_in bytes.now ≡ Ok (program_of p)) }
     ensures fault { (width : Width) → IfErr result (λ f. Tells f (program_in width bytes.now)) }
 {
@@ -58,7 +58,7 @@ fn read_text(alloc: Global, bytes: &[u8]) -> Result<Program, ProgramFault>
     ensures fault { (width : Width) → IfErr result (λ f. Tells f (program_in width bytes.now)) }
 {
     let found = read_tokens(alloc, bytes)?;
-    read_tree(alloc, &found, bytes)
+    read_tree(alloc, found, bytes)
 }
 
 // The program, if it is accepted.

@@ -7,6 +7,9 @@
 //! status is 6.
 #![tactic(auto)]
 
+ghost use Rattle.std.specs.Prelude.{IfOk};
+ghost use Rattle.inform_lexer.specs.Tokens.{Spelled};
+
 use adv_io::{Console, ConsoleFault, DiskShelf, Shelf, StdConsole, say_all};
 use inform_lexer::{LexFault, Token, tokens};
 use inform_names::{NameFault, accept};
@@ -69,7 +72,9 @@ fn say_count<C: Console>(console: &mut C, count: usize, what: &[u8]) -> Result<(
     Ok(())
 }
 
-fn read_tokens(alloc: Global, bytes: &[u8]) -> Result<Vec<Token>, Fault> {
+fn read_tokens(alloc: Global, bytes: &[u8]) -> Result<Vec<Token>, Fault>
+    ensures { IfOk result (λ found. Spelled bytes.now found.items) }
+{
     match tokens(alloc, bytes) {
         Ok(found) => Ok(found),
         Err(fault) => Err(Fault::Tokens(fault)),
@@ -78,7 +83,7 @@ fn read_tokens(alloc: Global, bytes: &[u8]) -> Result<Vec<Token>, Fault> {
 
 fn read_tree(alloc: Global, bytes: &[u8]) -> Result<Program, Fault> {
     let found = read_tokens(alloc, bytes)?;
-    match parse(alloc, &found, bytes) {
+    match parse(alloc, found, bytes) {
         Ok(program) => Ok(program),
         Err(fault) => Err(Fault::Grammar(fault)),
     }

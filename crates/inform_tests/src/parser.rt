@@ -67,7 +67,7 @@ const FAULTS: &[(&[u8], ParseFault)] = &[
 // The fault of a text, if it has tokens.
 fn fault_of(alloc: Global, bytes: &[u8]) -> Option<ParseFault> {
     match tokens(alloc, bytes) {
-        Ok(tokens) => parse(alloc, &tokens, bytes).err(),
+        Ok(tokens) => parse(alloc, tokens, bytes).err(),
         Err(_) => None,
     }
 }
@@ -115,7 +115,7 @@ fn returns_minus_7(alloc: Global, bytes: &[u8]) -> bool {
     let Ok(tokens) = tokens(alloc, bytes) else {
         return false;
     };
-    let Ok(program) = parse(alloc, &tokens, bytes) else {
+    let Ok(program) = parse(alloc, tokens, bytes) else {
         return false;
     };
     match returned(&program) {
@@ -129,7 +129,7 @@ fn is_array(alloc: Global, bytes: &[u8]) -> bool {
     let Ok(tokens) = tokens(alloc, bytes) else {
         return false;
     };
-    let Ok(program) = parse(alloc, &tokens, bytes) else {
+    let Ok(program) = parse(alloc, tokens, bytes) else {
         return false;
     };
     match program.directives.as_slice() {

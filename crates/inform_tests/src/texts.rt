@@ -7,7 +7,7 @@ use std::process::Abort;
 /// The program of a text.
 pub fn program_of<R: Abort + AllocGlobal>(rt: &R, text: &[u8]) -> Program {
     let read = tokens(rt.alloc(), text).expect(rt, "tokens");
-    parse(rt.alloc(), &read, text).expect(rt, "a program")
+    parse(rt.alloc(), read, text).expect(rt, "a program")
 }
 
 /// These parts, one after another.

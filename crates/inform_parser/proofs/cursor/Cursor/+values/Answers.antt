@@ -4,7 +4,7 @@ use Rattle.inform_tree.specs.Values as v
 use Rattle.inform_tree.specs.Values.{expression_of}
 use Rattle.inform_parser.specs.Views.{factor_of, term_of}
 use Rattle.inform_parser.proofs.Loops.{goes_on}
-use Rattle.inform_parser.proofs.ValueSteps.{factor_more, factor_last, factor_read, factor_stops, factor_sign_stops, term_more, term_last, term_read, term_stops, term_sign_stops, argument_more, argument_last, argument_read, arguments_as, entry_after_arrow, entry_after_name, primary_as, product_as, value_as, unary_as}
+use Rattle.inform_parser.proofs.ValueSteps.{factor_more, factor_last, factor_alone, factor_read, factor_stops, factor_sign_stops, term_more, term_last, term_alone, term_read, term_stops, term_sign_stops, argument_more, argument_last, argument_read, arguments_as, entry_after_arrow, entry_after_name, primary_as, product_as, value_as, unary_as}
 use Rattle.inform_grammar.specs.ValueRules.{name_after, factors_after, terms_after}
 use Rattle.inform_parser.specs.Plans.{value_in_brackets}
 use Rattle.inform_parser.proofs.TreesMade.{expression_of_number, expression_of_char, expression_of_name, expression_of_call, expression_of_entry, expression_of_random, expression_of_neg, product_alone, product_chain, sum_alone, sum_chain}
@@ -199,6 +199,9 @@ arguments-returns-in_err-expect-2 t c = same_some _ (arguments_as _) (other_some
 pub arguments-returns : goal.arguments-returns
 arguments-returns t c = same_some _ (arguments_as _) (other_some _ _ (sym c.at.ensures ∙ c.if-at.false) (follows_some _ c.in_ok-first.ensures (follows _ c.in_ok-arguments.ensures (follows _ (only c.in_ok-expect-2.ensures) (made _ refl)))))
 
+pub factors_after-returns-then-not-at_factor : goal.factors_after-returns-then-not-at_factor
+factors_after-returns-then-not-at_factor t c = known (factor_alone _ _ (sym c.at_factor.ensures ∙ c.if-not-at_factor.true)) refl
+
 pub factors_after-returns-then-is_empty : goal.factors_after-returns-then-is_empty
 unfolding factors_after
 factors_after-returns-then-is_empty t c = follows _ c.in_ok-factors.ensures (made _ (grind (arith, product_alone)))
@@ -210,6 +213,9 @@ factors_after-returns-in_err-new t c = follows _ c.in_ok-factors.ensures (memory
 pub factors_after-returns : goal.factors_after-returns
 unfolding factors_after
 factors_after-returns t c = follows _ c.in_ok-factors.ensures (made _ (grind (arith, product_chain)))
+
+pub terms_after-returns-then-not-at_term : goal.terms_after-returns-then-not-at_term
+terms_after-returns-then-not-at_term t c = known (term_alone _ _ (sym c.at_term.ensures ∙ c.if-not-at_term.true)) refl
 
 pub terms_after-returns-then-is_empty : goal.terms_after-returns-then-is_empty
 unfolding terms_after

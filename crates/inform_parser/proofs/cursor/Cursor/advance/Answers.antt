@@ -1,5 +1,6 @@
-use Rattle.std.proofs.Common.{sym, ◌∙◌, ap, length, arith}
-use Rattle.inform_grammar.specs.Reading.{Input}
+use Rattle.std.proofs.Common.{sym, ◌∙◌, ap, Ok, length, reverse, arith}
+use Rattle.inform_lexer.specs.Spans.{lexemes}
+use Rattle.inform_grammar.specs.Reading.{Input, input}
 use Rattle.inform_parser.specs.Glances.{first_glance, opened_within}
 use Rattle.inform_parser.specs.Reading.{read}
 use Rattle.inform_parser.specs.Nexts.{any_next}
@@ -22,15 +23,20 @@ returns-in_default-opened_after c = record {
   taken = tt;
 }
 
+pub skip-requires : goal.skip-requires
+skip-requires c = omega (arith, fewer_left _ c.in-Some.seen (sym c.self.invariant ∙ c.in-Some.is))
+
 pub returns : goal.returns
 returns c =
     let seen = sym c.self.invariant ∙ c.in-Some.is in
-    let fewer = fewer_left c.self.inside.bytes.now c.self.inside.rest.now c.in-Some.seen seen in
+    let fewer = fewer_left _ c.in-Some.seen seen in
     let whole = ap (λ (s : Input). length s.rest) c.self.view_is in
+    let left = ap (λ (s : Input). length s.rest) c.skip.ensures in
     record {
       gives = ap (λ (s : Input). read any_next s) (sym c.self.view_is)
-          ∙ one_taken c.self.inside.bytes.now c.self.inside.rest.now c.self.inside.opened c.in-Some-opened_after.opened c.in-Some.seen
-          seen (sym c.opened_after.ensures ∙ c.in-Some-opened_after.is);
-      ahead = omega (arith, fewer, whole);
-      taken = omega (arith, fewer, whole);
+          ∙ one_taken (input c.self.inside.opened (lexemes c.self.inside.bytes.now (reverse c.self.inside.rest.items))) c.in-Some-opened_after.opened c.in-Some.seen
+          seen (sym c.opened_after.ensures ∙ c.in-Some-opened_after.is)
+          ∙ ap (λ (s : Input). Ok (tt, s)) (sym c.skip.ensures);
+      ahead = omega (arith, fewer, whole, left);
+      taken = omega (arith, fewer, whole, left);
     }

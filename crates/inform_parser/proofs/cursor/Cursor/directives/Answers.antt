@@ -8,7 +8,7 @@ use Rattle.inform_parser.proofs.cursor.Cursor.directives.Goals as goal
 
 pub loop-alloc-preserved : goal.loop-alloc-preserved
 loop-alloc-preserved c =
-    let l = c.loop-alloc in (
+    let l = c.loop-alloc in rw c.give_back.ensures (
       goes_on r.Directive directive_of l.directives.items c.push.new.self.items c.in_ok-directive.directive l.self c.directive.new.self _
           (directive_more (map directive_of l.directives.items) l.self (sym c.at_directive.ensures ∙ c.loop-alloc-test.true)) c.in_ok-push.ensures.items
           c.in_ok-directive.ensures.gives l.invariant.0,
